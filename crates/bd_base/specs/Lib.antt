@@ -1,0 +1,5 @@
+pub mod Errno
+pub mod Name
+pub mod Pattern
+pub mod ThreadSet
+pub mod Word

@@ -1,0 +1,98 @@
+//! Lines of a script.
+ghost use Rattle.std.specs.Prelude.{◌≡◌};
+ghost use Rattle.bd_base.specs.Word.{job_word, submit_word};
+
+use crate::event::ClaimKind;
+use crate::name::Name;
+use crate::request::Op;
+use crate::rows::Rows;
+
+/// What a script's line asks.
+#[derive(Debug, Drop)]
+pub enum Job {
+    /// Opens a device, for reading or for writing too, and binds the name to the handle.
+    Open {
+        handle: Name,
+        dev: Name,
+        write: bool,
+    },
+    Close {
+        handle: Name,
+    },
+    Claim {
+        handle: Name,
+        kind: ClaimKind,
+    },
+    /// Submits a request on blocks `lba` and on, `count` of them. A reset and an abort have no
+    /// range (both are 0), and an abort carries the line of the request that it names.
+    Submit {
+        handle: Name,
+        op: Op,
+        lba: u64,
+        count: u64,
+    },
+    Remove {
+        dev: Name,
+    },
+    /// Goes on once this thread has no open request.
+    Wait,
+    /// Goes on after so many microseconds.
+    Sleep(u64),
+    /// Sends a mark to every thread.
+    Post(Name),
+    /// Goes on once a mark was taken.
+    Await(Name),
+    /// Goes on once the remove event of a handle was taken.
+    Gone {
+        handle: Name,
+    },
+}
+
+impl Job {
+    /// The command's word, in a script and in a report.
+    pub fn word(&self) -> &'static str
+        ensures { result.now ≡ job_word self.now }
+    {
+        match self {
+            Job::Open { .. } => "open",
+            Job::Close { .. } => "close",
+            Job::Claim { .. } => "claim",
+            Job::Submit { op, .. } => submit_word(op),
+            Job::Remove { .. } => "remove",
+            Job::Wait => "wait",
+            Job::Sleep(_) => "sleep",
+            Job::Post(_) => "post",
+            Job::Await(_) => "await",
+            Job::Gone { .. } => "gone",
+        }
+    }
+}
+
+// The word of the command that submits a type.
+fn submit_word(op: &Op) -> &'static str
+    ensures { result.now ≡ submit_word op.now }
+{
+    match op {
+        Op::Read => "read",
+        Op::Write(_) => "write",
+        Op::Zeroes => "zeroes",
+        Op::Unmap => "unmap",
+        Op::Flush => "flush",
+        Op::Reset => "reset",
+        Op::Abort(_) => "abort",
+    }
+}
+
+/// A line with its number in the file, from 1.
+#[derive(Debug, Drop)]
+pub struct Line {
+    pub number: u32,
+    pub job: Job,
+}
+
+/// The lines of one thread, in the order of their numbers.
+#[derive(Debug, Drop)]
+pub struct Script {
+    pub thread: u32,
+    pub lines: Rows<Line>,
+}
