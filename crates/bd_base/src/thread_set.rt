@@ -21,7 +21,8 @@ impl ThreadSet {
     pub fn has(&self, t: ThreadId) -> bool
         ensures { IsTrue result ↔ Has self.now.0 t.0 }
     {
-        t.0 < 16 && (self.0 >> t.0) & 1 == 1
+        let bits = self.0;
+        t.0 < 16 && (bits >> t.0) & 1 == 1
     }
 
     /// The least thread of the set; none exactly where the set is empty.
@@ -50,6 +51,7 @@ impl ThreadSet {
         ensures same { bit_at self.new.0 t.0 ≡ 0 }
         ensures others { (k : ℕ) → k ≢ t.0 → bit_at self.new.0 k ≡ bit_at self.old.0 k }
     {
-        self.0 &= !(1 << t.0);
+        let bits = self.0;
+        self.0 = bits & !(1 << t.0);
     }
 }
