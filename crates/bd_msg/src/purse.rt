@@ -1,0 +1,146 @@
+//! The tickets of a thread's open requests.
+ghost use Rattle.std.specs.Prelude.{◌≡◌, ◌+◌, ◌<◌, ◌≤◌, ◌↔◌, ◌++◌, ◌∷◌, [], length, Contains, position, IsSome, IfSome, OnSome, IfNone, OnOk, OnErr};
+
+use crate::ticket::{Finished, Ticket};
+use bd_base::{OutOfMemory, ReqId, Status};
+use std::alloc::Global;
+use std::marker::Model;
+
+/// Tickets that are kept, seen as the list of their ids, and beside it how many it can keep without
+/// taking memory. Like its tickets it can be neither copied nor dropped.
+#[derive(Debug)]
+pub struct Purse {
+    tickets: Vec<Ticket>,
+}
+
+impl Model for Purse {
+    ghost use Rattle.std.specs.Vec.{vec_capacity};
+    ghost use Rattle.bd_msg.specs.Purse.{Kept};
+
+    ghost Value = { Kept };
+
+    ghost view = { λ p. record { ids = p.tickets.items; capacity = vec_capacity p.tickets } };
+}
+
+impl Purse {
+    ghost use Rattle.bd_msg.specs.Purse.{same_request, without};
+
+    /// An empty purse. It takes no memory.
+    pub fn new(alloc: Global) -> Purse
+        ensures { result.ids ≡ [] }
+    {
+        Purse {
+            tickets: Vec::new(alloc),
+        }
+    }
+
+    /// Takes memory for so many tickets more. It answers `OutOfMemory` only where that room was
+    /// missing, and then nothing changed.
+    pub fn reserve(&mut self, n: u32) -> Result<(), OutOfMemory>
+        ensures ids { self.new.ids ≡ self.old.ids }
+        ensures capacity { self.old.capacity ≤ self.new.capacity }
+        ensures ok { OnOk result (length self.old.ids + n ≤ self.new.capacity) }
+        ensures full { OnErr result (self.old.capacity < length self.old.ids + n) }
+        ensures err { OnErr result (self.new ≡ self.old) }
+    {
+        self.tickets.reserve(n as usize)?;
+        Ok(())
+    }
+
+    /// Keeps a ticket, behind the others. It takes no memory, and needs a spare place.
+    pub fn keep(&mut self, ticket: Ticket)
+        requires { length self.old.ids < self.old.capacity }
+        ensures ids { self.new.ids ≡ self.old.ids ++ ticket ∷ [] }
+        ensures capacity { self.old.capacity ≤ self.new.capacity }
+    {
+        match self.tickets.push(ticket) {
+            Ok(()) => (),
+            Err(_) => unreachable!(),
+        }
+    }
+
+    /// Finishes the ticket of this id, the first one where there are several. None exactly where no
+    /// ticket of this id is kept, and then nothing changed.
+    pub fn finish(&mut self, id: ReqId, status: Status) -> Option<Finished>
+        ensures found { IsSome result ↔ Contains self.old.ids id }
+        ensures finished { IfSome result (λ f. f ≡ record { id = id; status = status }) }
+        ensures rest { OnSome result (self.new ≡ record self.old { ids = without id self.old.ids }) }
+        ensures none { IfNone result (self.new ≡ self.old) }
+    {
+        let ticket = self.take(id)?;
+        Some(ticket.finish(status))
+    }
+
+    // Takes the first ticket of this id out.
+    fn take(&mut self, id: ReqId) -> Option<Ticket>
+        ensures found { IsSome result ↔ Contains self.old.ids id }
+        ensures ticket { IfSome result (λ t. t ≡ id) }
+        ensures rest { OnSome result (self.new ≡ record self.old { ids = without id self.old.ids }) }
+        ensures none { IfNone result (self.new ≡ self.old) }
+    {
+        let place = self.place_of(id)?;
+        Some(self.tickets.remove(place))
+    }
+
+    // The place of the first ticket of this id.
+    fn place_of(&self, id: ReqId) -> Option<usize>
+        ensures { result ≡ position (λ x. same_request x id) self.now.ids }
+    {
+        self.tickets.iter().position(|ticket| ticket.id() == id)
+    }
+
+    /// Abandons every ticket, where the run halts.
+    pub fn abandon(mut self) {
+        while let Some(ticket) = self.tickets.pop() {
+            ticket.abandon();
+        }
+        let Purse { tickets } = self;
+        tickets.destroy_empty();
+    }
+}
+
+#[cfg(test)]
+mod tests {
+    use super::*;
+    use crate::mint::Mint;
+    use bd_base::ThreadId;
+
+    #[test]
+    fn each_ticket_is_finished_once(rt: HostRuntime) {
+        let mut mint = Mint::new(ThreadId(3));
+        let mut purse = Purse::new(rt.alloc());
+        assert!(rt; purse.reserve(2).is_ok());
+        purse.keep(mint.issue());
+        mint.meet(6);
+        purse.keep(mint.issue());
+
+        for (seq, finished) in [(7, true), (7, false), (0, true), (0, false)] {
+            let id = ReqId { thread: 3, seq };
+            let expected = if finished {
+                Some(Finished {
+                    id,
+                    status: Status::Failed,
+                })
+            } else {
+                None
+            };
+            assert!(rt;
+                purse.finish(id, Status::Failed) == expected,
+                "request {seq}"
+            );
+        }
+        purse.abandon();
+    }
+
+    #[test]
+    fn tickets_left_are_abandoned(rt: HostRuntime) {
+        let mut mint = Mint::new(ThreadId(0));
+        let mut purse = Purse::new(rt.alloc());
+        assert!(rt; purse.reserve(1).is_ok());
+        purse.keep(mint.issue());
+        purse.abandon();
+        let unused = mint.issue();
+        assert!(rt; unused.id() == ReqId { thread: 0, seq: 1 });
+        unused.abandon();
+    }
+}
