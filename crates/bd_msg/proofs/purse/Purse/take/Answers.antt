@@ -1,6 +1,6 @@
 use Rattle.std.proofs.Common.{◌≡◌, ℕ, List, Option, Some, None, refl, sym, ◌∙◌, ap, ap₂, slice_index_or, remove, IsSome}
 use Rattle.bd_base.specs.declared.id.ReqId.{ReqId}
-use Rattle.bd_msg.specs.Purse.{Kept, without}
+use Rattle.bd_msg.specs.Purse.{Kept}
 use Rattle.bd_msg.proofs.Without.{position-contains, position-none, position-at, remove-position}
 use Rattle.bd_msg.proofs.purse.Purse.take.Goals as goal
 
