@@ -26,8 +26,9 @@ use Rattle.sha2.specs.Sha256.{sha256, digest_bytes, hash_after, compress, rounds
 use Rattle.bd_machine.specs.declared.state.State.{State}
 use Rattle.bd_machine.specs.declared.state.Content.TheVariants.{Blocks}
 use Rattle.bd_machine.specs.Admission.{refusal_of}
+use Rattle.bd_machine.specs.Laws.{SomeRunIsComplete}
 use Rattle.bd_machine.specs.View.{part_of, view}
-use Rattle.bd_machine.specs.Runs.{after_all, is_finished, refused_in}
+use Rattle.bd_machine.specs.Run.{IsRunFrom, after_all, is_finished, refused_in, refused_or}
 use Rattle.bd_machine.specs.Start.{start}
 use Rattle.bd_machine.specs.Step.{after, refusal}
 
@@ -121,6 +122,17 @@ first_path_runs = refl
 first_path_is_complete : is_finished one_thread (after_all one_thread (start one_thread []) first_path) ≡ true
 unfolding after
 first_path_is_complete = refl
+
+run_if : (setup : Setup) (s : State) (es : List Entry) → refused_in setup s es ≡ None → IsRunFrom setup s es
+run_if setup s [] h = tt
+run_if setup s (e ∷ es) h = go (refusal setup s e) refl h (run_if setup (after setup s e) es)
+  where
+    go : (o : Option ℕ) → refusal setup s e ≡ o → refused_or o (refused_in setup (after setup s e) es) ≡ None → (refused_in setup (after setup s e) es ≡ None → IsRunFrom setup (after setup s e) es) → IsRunFrom setup s (e ∷ es)
+    go None q h rest = (q, rest h)
+    go (Some n) q h rest = cc
+
+pub some_run_is_complete : SomeRunIsComplete
+some_run_is_complete = (one_thread, ([], (first_path, (req 0 0, ((run_if one_thread (start one_thread []) first_path first_path_runs, first_path_is_complete), refl)))))
 
 -- ---- two threads, each of which writes a block of its own and reads it back
 
@@ -233,6 +245,7 @@ refused guard passed act = record { passed = passed; act = act; guard = guard }
 abbrev pub table : List Refused
 table =
     refused 0 0 (acts.Pend (req 0 0)) ∷
+    refused 0 2 (acts.Accept (req 0 0) device (handle 0) ops.Reset 0 0) ∷
     refused 2 5 (acts.Put 0 7 (tokens.Piece (req 0 0) 0)) ∷
     refused 3 5 (acts.Put 0 0 (tokens.Piece (req 0 0) 5)) ∷
     refused 4 7 (acts.Put 0 1 (tokens.Piece (req 0 0) 0)) ∷
@@ -246,6 +259,7 @@ table =
     refused 8 3 (acts.Accept (req 0 1) device (handle 0) (write 5) 0 1) ∷
     refused 10 2 (acts.Accept (req 1 0) device (handle 0) (write 5) 0 1) ∷
     refused 10 12 (acts.Accept (req 0 0) device (handle 0) ops.Read 0 1) ∷
+    refused 10 12 (acts.Accept (req 0 18446744073709551615) device (handle 0) ops.Read 0 1) ∷
     refused 11 2 (acts.Refuse (Some (handle 0)) (write 5) 0 1 Inval) ∷
     refused 17 5 (acts.Cut (req 0 0) 1) ∷
     refused 18 4 (acts.Cut (req 0 0) 2) ∷
@@ -256,6 +270,7 @@ table =
     refused 27 10 (acts.Complete (req 0 0) Failed None) ∷
     refused 28 20 (acts.Complete (req 0 1) Success None) ∷
     refused 31 24 (acts.Destruct device None) ∷
+    refused 31 25 (acts.Destruct (record { 0 = 1 }) None) ∷
     refused 31 26 (acts.Destruct device None) ∷
     refused 32 25 (acts.Destruct device None) ∷
     refused 33 1 (acts.Script 2 outcomes.Done) ∷

@@ -29,6 +29,10 @@ use Rattle.bd_machine.specs.View.{View, Came}
 abbrev pub most_requests : ℕ
 most_requests = 1024
 
+-- the number that names no request
+abbrev pub no_request : ℕ
+no_request = 18446744073709551615
+
 -- ---- the next line
 
 abbrev pub lines_if_any : Option Script → List Line

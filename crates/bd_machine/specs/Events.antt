@@ -4,6 +4,7 @@ use Rattle.bd_base.specs.declared.event.Answer.{Answer}
 use Rattle.bd_base.specs.declared.event.Answer.TheVariants as answers
 use Rattle.bd_base.specs.declared.event.RegEvent.{RegEvent}
 use Rattle.bd_base.specs.declared.setup.Setup.{Setup}
+use Rattle.bd_machine.specs.declared.guard.TheConstants.{REGISTRY_ANSWER, EVENT_ASKED}
 use Rattle.bd_machine.specs.declared.state.Decided.{Decided}
 use Rattle.bd_machine.specs.declared.state.Decided.TheVariants as decisions
 use Rattle.bd_machine.specs.Asked.{asks_event}
@@ -12,8 +13,8 @@ use Rattle.bd_machine.specs.View.{View, Came, Change}
 
 abbrev pub guards_reg : Setup → ℕ → View → Came → RegEvent → Answer → List (ℕ × Bool)
 guards_reg setup t v came event answer =
-    (6, is_the same_answer answer came.answer) ∷
-    (7, asks_event setup t v came event) ∷ []
+    (REGISTRY_ANSWER, is_the same_answer answer came.answer) ∷
+    (EVENT_ASKED, asks_event setup t v came event) ∷ []
 
 -- what an answer decides of the line that asked
 abbrev pub decision_of : Answer → Option Decided

@@ -7,6 +7,7 @@ use Rattle.bd_base.specs.declared.job.Job.{Job}
 use Rattle.bd_base.specs.declared.job.Job.TheVariants as jobs
 use Rattle.bd_base.specs.declared.job.Line.{Line}
 use Rattle.bd_base.specs.declared.setup.Setup.{Setup}
+use Rattle.bd_machine.specs.declared.guard.TheConstants.{NEXT_LINE, OUTCOME_DUE}
 use Rattle.bd_machine.specs.declared.state.Binding.{Binding}
 use Rattle.bd_machine.specs.declared.state.Decided.{Decided}
 use Rattle.bd_machine.specs.declared.state.Decided.TheVariants as decisions
@@ -22,8 +23,8 @@ is_line number (Some line) = line.number == number
 
 abbrev pub guards_script : Setup → ℕ → View → Came → ℕ → Outcome → List (ℕ × Bool)
 guards_script setup t v came line outcome =
-    (33, is_line line (next_line setup t v.part) && not came.shut) ∷
-    (34, is_the same_outcome outcome (outcome_due setup t v.part)) ∷ []
+    (NEXT_LINE, is_line line (next_line setup t v.part) && not came.shut) ∷
+    (OUTCOME_DUE, is_the same_outcome outcome (outcome_due setup t v.part)) ∷ []
 
 -- an open that was accepted binds its name, a close that was accepted frees it
 abbrev pub bound_after : Option Job → Option Decided → List Binding → List Binding
