@@ -1,28 +1,25 @@
 -- The laws of whole runs.
-use Rattle.std.proofs.Common.{◌≡◌, ◌≢◌, ℕ, ◌+◌, ◌<◌, ◌≤◌, Bool, true, false, not, ◌⊎◌, inl, inr, List, [], ◌∷◌, ◌++◌, Option, Some, None, refl, sym, ◌∙◌, ap, subst, arith}
-use Rattle.std.specs.List.{AllByRecursion}
+use Rattle.std.proofs.Common.{◌≡◌, ℕ, ◌+◌, ◌<◌, ◌≤◌, not, ◌⊎◌, inl, inr, List, [], ◌∷◌, ◌++◌, Option, Some, None, refl, sym, ◌∙◌, ap, subst, arith}
 use Rattle.std.proofs.lemmas.Bool.{cases_eq}
 use Rattle.bd_base.specs.declared.id.ReqId.{ReqId}
 use Rattle.bd_base.specs.declared.act.Entry.{Entry}
 use Rattle.bd_base.specs.declared.setup.Setup.{Setup}
-use Rattle.bd_machine.specs.declared.state.Id.{Id}
 use Rattle.bd_machine.specs.declared.state.Id.TheVariants.{Request}
 use Rattle.bd_machine.specs.declared.state.Part.{Part}
 use Rattle.bd_machine.specs.declared.state.Place.{Place}
 use Rattle.bd_machine.specs.declared.state.Place.TheVariants.{At, Ring, Nowhere}
 use Rattle.bd_machine.specs.declared.state.State.{State}
 use Rattle.bd_machine.specs.declared.state.Tracked.{Tracked}
-use Rattle.bd_machine.specs.Alone.{view_by}
 use Rattle.bd_machine.specs.Content.{Told}
-use Rattle.bd_machine.specs.Laws.{FrontIsRun, StepIsDetermined, ContentChangesByApply, CompletedStaysClosed, EachIsCompletedOnce, IsCompletedOnce, EachIsDestructedOnce, OwnViewFollows, OtherViewsStay, AllOn, is_accept_of, is_complete_of, is_apply, count_of, one_if, stored, stored_at}
-use Rattle.bd_machine.specs.Placement.{place, place_of}
+use Rattle.bd_machine.specs.Laws.{FrontIsRun, StepIsDetermined, ContentChangesByApply, CompletedStaysClosed, EachIsCompletedOnce, EachIsDestructedOnce, OwnViewFollows, OtherViewsStay, AllOn, is_accept_of, is_complete_of, count_of, one_if, stored, stored_at}
+use Rattle.bd_machine.specs.Placement.{place_of}
 use Rattle.bd_machine.specs.Rest.{is_nowhere}
-use Rattle.bd_machine.specs.Run.{IsRun, IsRunFrom, IsCompleteRun, after_all, state_after}
+use Rattle.bd_machine.specs.Run.{IsRun, IsRunFrom, after_all, state_after}
 use Rattle.bd_machine.specs.Same.{same_id}
 use Rattle.bd_machine.specs.Start.{start}
-use Rattle.bd_machine.specs.Step.{IsAllowed, IsStep, after, change_in, guards_in}
+use Rattle.bd_machine.specs.Step.{IsAllowed, after, change_in}
 use Rattle.bd_machine.specs.Table.{look_up}
-use Rattle.bd_machine.specs.View.{Change, view, part_of, came_for, asked}
+use Rattle.bd_machine.specs.View.{Change, view, came_for}
 use Rattle.bd_machine.proofs.Acts.{IsFresh}
 use Rattle.bd_machine.proofs.Complete.{fresh_start, balance, accepts_once, completed_as_accepted, accepted_on_own, completed_on_own, destructed_once}
 use Rattle.bd_machine.proofs.Laws.{part-own, part-other, view-own}
