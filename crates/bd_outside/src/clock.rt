@@ -1,0 +1,62 @@
+//! Moments, in microseconds.
+ghost use Rattle.std.specs.Prelude.{◌≡◌, ℕ};
+
+use std::marker::Model;
+
+/// A clock, which may answer anything, also a moment before an earlier one.
+pub trait Clock {
+    ghost use Rattle.std.specs.Prelude.{Option};
+    ghost use Rattle.bd_outside.specs.Clock.{Moments, IsWithin};
+
+    // the least and the greatest moment that it may answer, if it tells them
+    ghost range: { Self → Option Moments };
+
+    /// The moment, in microseconds.
+    fn now(&self) -> u64
+        ensures { IsWithin (range self.now) result };
+}
+
+/// A clock that stands still, seen as its moment.
+#[derive(Clone, Copy, Debug)]
+pub struct StillClock {
+    at: u64,
+}
+
+impl Model for StillClock {
+    ghost Value = { ℕ };
+
+    ghost view = { λ c. c.at };
+
+    ghost inverse = { λ n. record { at = n } };
+}
+
+impl StillClock {
+    /// A clock that always answers this moment (microseconds).
+    pub fn new(at: u64) -> StillClock
+        ensures { result ≡ at }
+    {
+        StillClock { at }
+    }
+}
+
+impl Clock for StillClock {
+    ghost use Rattle.std.specs.Prelude.{Some};
+
+    ghost range = { λ at. Some (record { least = at; greatest = at }) };
+
+    fn now(&self) -> u64 {
+        self.at
+    }
+}
+
+#[cfg(test)]
+mod tests {
+    use super::*;
+
+    #[test]
+    fn stands_still(rt: HostRuntime) {
+        let clock = StillClock::new(7);
+        assert_eq!(rt; clock.now(), 7);
+        assert_eq!(rt; clock.now(), 7);
+    }
+}

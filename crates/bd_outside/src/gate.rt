@@ -1,0 +1,16 @@
+//! Where a schedule holds reactors.
+
+/// A gate, which each reactor passes before a turn. It may hold the caller, and answers nothing.
+pub trait Gate {
+    /// Passes before a turn of a round. Rounds, and a reactor's turns in a round, are numbered
+    /// from 1; a round's number stays at u64::MAX once it is there.
+    fn pass(&self, reactor: u32, round: u64, turn: u32);
+}
+
+/// A gate that lets everyone pass at once.
+#[derive(Clone, Copy, Debug, PartialEq, Eq)]
+pub struct OpenGate;
+
+impl Gate for OpenGate {
+    fn pass(&self, _reactor: u32, _round: u64, _turn: u32) {}
+}
