@@ -67,6 +67,7 @@ pub trait Disk {
     fn flush(&mut self) -> Result<(), Failed>
         ensures done { OnOk result (flushes self.new ≡ one_more (flushes self.old)) }
         ensures not_done { OnErr result (flushes self.new ≡ flushes self.old) }
+        ensures flush_count { flushes self.old ≤ flushes self.new }
         ensures same_content { content self.new ≡ content self.old }
 
         ensures fault_count { faults self.old ≤ faults self.new }
