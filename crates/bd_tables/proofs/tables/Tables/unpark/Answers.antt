@@ -1,0 +1,22 @@
+use Rattle.std.proofs.Common.{ap, sym, ◌∙◌, remove}
+use Rattle.bd_tables.specs.declared.row.Row.{Row}
+use Rattle.bd_tables.specs.Firsts.{at}
+use Rattle.bd_tables.specs.Rows.{Rows, keeps}
+use Rattle.bd_tables.proofs.Found.{none_read, first_read, none_goes, first_goes}
+use Rattle.bd_tables.proofs.tables.Tables.unpark.Goals as goal
+
+pub returns-in_default-clause-request : goal.returns-in_default-clause-request
+returns-in_default-clause-request c = none_read (λ (r : Row). r.request) (keeps c.args.id) c.args.self.now.rows c.in_default.ensures
+
+pub returns-in_default-clause-rows : goal.returns-in_default-clause-rows
+returns-in_default-clause-rows c = sym (none_goes (keeps c.args.id) c.args.self.now.rows c.in_default.ensures)
+
+pub returns-clause-request : goal.returns-clause-request
+returns-clause-request c =
+    first_read (λ (r : Row). r.request) (keeps c.args.id) c.args.self.now.rows c.in-Some.i c.take.result c.in-Some.ensures
+    (c.take.ensures.row ∙ ap (λ (t : Rows). at t.rows c.in-Some.i) c.self.view_is)
+
+pub returns-clause-rows : goal.returns-clause-rows
+returns-clause-rows c =
+    ap (λ (t : Rows). t.rows) c.take.ensures.rest ∙ ap (λ (t : Rows). remove t.rows c.in-Some.i) c.self.view_is
+    ∙ sym (first_goes (keeps c.args.id) c.args.self.now.rows c.in-Some.i c.in-Some.ensures)

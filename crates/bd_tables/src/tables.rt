@@ -1,0 +1,277 @@
+//! The requests of one thread, by place.
+ghost use Rattle.std.specs.Prelude.{◌≡◌, ◌<◌, ◌≤◌, ◌+◌, ◌-◌, ◌++◌, ◌∷◌, [], length, slice_get, ◌↔◌, IsTrue, OnOk, MatchOption, false};
+ghost use Rattle.bd_tables.specs.Firsts.{at, NonePasses, IsFirst};
+ghost use Rattle.bd_tables.specs.Rows.{keeps, is_out, is_in, is_kept, is_remembered, request_of, without_first, moved, parked, first_at, open_requests};
+ghost use Rattle.bd_tables.specs.declared.place.Place.TheVariants.{Away};
+
+use crate::place::Place;
+use crate::row::Row;
+use crate::shelf::Shelf;
+use bd_base::{HandleId, OutOfMemory, ReqId};
+use bd_msg::Request;
+use std::alloc::Global;
+use std::marker::Model;
+
+/// The open requests that a thread keeps, each at its place. A place is the list of its requests in
+/// the order in which they came there.
+#[derive(Debug, Drop)]
+pub struct Tables {
+    shelf: Shelf,
+}
+
+impl Model for Tables {
+    ghost use Rattle.bd_tables.specs.Rows.{Rows};
+
+    ghost Value = { Rows };
+
+    ghost view = { λ t. t.shelf };
+}
+
+impl Tables {
+    /// No requests. It takes no memory.
+    pub fn new(alloc: Global) -> Tables
+        ensures { result.rows ≡ [] }
+    {
+        Tables {
+            shelf: Shelf::new(alloc),
+        }
+    }
+
+    /// Makes room for so many more requests, of at most 2^32 - 1 in all. Want of memory leaves the
+    /// requests as they were.
+    pub fn reserve(&mut self, n: u32) -> Result<(), OutOfMemory>
+        ensures ok { OnOk result (n ≤ self.new.room) }
+        ensures grows { self.old.room ≤ self.new.room }
+        ensures rows { self.new.rows ≡ self.old.rows }
+    {
+        self.shelf.reserve(n)
+    }
+
+    /// Whether there is room for one more request.
+    pub fn has_room(&self) -> bool
+        ensures { IsTrue result ↔ (0 < self.now.room) }
+    {
+        self.shelf.has_room()
+    }
+
+    /// Whether a row keeps the request of this id (one that was handed out is kept by none).
+    pub fn keeps(&self, id: ReqId) -> bool
+        ensures { result ≡ is_kept id self.now.rows }
+    {
+        self.kept_at(id).is_some()
+    }
+
+    /// Keeps a request at a place, behind those that are there. No row keeps a request of its id. A
+    /// row that remembers the id as handed out goes; where there is none, there is room for one more.
+    /// It takes no memory.
+    pub fn park(&mut self, request: Request, place: Place)
+        requires room { is_remembered request.id self.old.rows ≡ false → 0 < self.old.room }
+        requires fresh { is_kept request.id self.old.rows ≡ false }
+        ensures rows { self.new.rows ≡ parked request place self.old.rows }
+        ensures room { self.new.room + length self.new.rows ≡ self.old.room + length self.old.rows }
+    {
+        self.forget(request.id);
+        self.shelf.join(Row { request, place });
+    }
+
+    // Takes out the row that remembers the request of this id as handed out, if there is one.
+    fn forget(&mut self, id: ReqId)
+        ensures rows { self.new.rows ≡ without_first (is_out id) self.old.rows }
+        ensures room { self.new.room + length self.new.rows ≡ self.old.room + length self.old.rows }
+        ensures spare { (is_remembered id self.old.rows ≡ false → 0 < self.old.room) → 0 < self.new.room }
+    {
+        let Some(i) = self.out_at(id) else {
+            return;
+        };
+        let _copy = self.shelf.take(i);
+    }
+
+    /// Gives up the request of this id. None exactly where no row keeps it (one that was handed out
+    /// is kept by none), and nothing changes then. It takes no memory.
+    pub fn unpark(&mut self, id: ReqId) -> Option<Request>
+        ensures request { result ≡ request_of id self.old.rows }
+        ensures rows { self.new.rows ≡ without_first (keeps id) self.old.rows }
+        ensures room { self.new.room + length self.new.rows ≡ self.old.room + length self.old.rows }
+    {
+        let Some(i) = self.kept_at(id) else {
+            return None;
+        };
+        Some(self.shelf.take(i).request)
+    }
+
+    /// Brings the request of this id to another place, behind those that are there. False exactly
+    /// where no row keeps it, and nothing changes then. It takes no memory.
+    pub fn move_to(&mut self, id: ReqId, place: Place) -> bool
+        ensures kept { result ≡ is_kept id self.old.rows }
+        ensures rows { self.new.rows ≡ moved id place self.old.rows }
+        ensures room { self.new.room ≡ self.old.room }
+    {
+        let Some(i) = self.kept_at(id) else {
+            return false;
+        };
+        let request = self.shelf.take(i).request;
+        self.shelf.join(Row { request, place });
+        true
+    }
+
+    /// Hands out the request of this id, to travel to a home's limits; its row remembers it at
+    /// `Away`. None exactly where no row keeps it, and nothing changes then. It takes no memory.
+    pub fn away(&mut self, id: ReqId) -> Option<Request>
+        ensures request { result ≡ request_of id self.old.rows }
+        ensures rows { self.new.rows ≡ moved id Away self.old.rows }
+        ensures room { self.new.room ≡ self.old.room }
+    {
+        let Some(i) = self.kept_at(id) else {
+            return None;
+        };
+        let request = self.shelf.take(i).request;
+        self.shelf.join(Row {
+            request,
+            place: Place::Away,
+        });
+        Some(request)
+    }
+
+    /// How many rows there are, those that remember a request too: at most 2^32 - 1.
+    pub fn len(&self) -> u32
+        ensures { result ≡ length self.now.rows }
+    {
+        self.shelf.len()
+    }
+
+    /// Whether there is no row.
+    pub fn is_empty(&self) -> bool
+        ensures { IsTrue result ↔ (self.now.rows ≡ []) }
+    {
+        self.shelf.is_empty()
+    }
+
+    /// A row, by its place in the order from 0.
+    pub fn row(&self, i: u32) -> Row
+        requires { i < length self.now.rows }
+        ensures { slice_get self.now.rows i ≡ Some result }
+    {
+        self.shelf.at(i)
+    }
+
+    /// The request that came to a place first. None exactly where the place is empty.
+    pub fn first_in(&self, place: Place) -> Option<ReqId>
+        ensures { result ≡ first_at place self.now.rows }
+    {
+        let Some(i) = self.first_row_in(place) else {
+            return None;
+        };
+        Some(self.shelf.at(i).request.id)
+    }
+
+    /// How many open requests a handle has, those that were handed out too.
+    pub fn open_on(&self, handle: HandleId) -> u32
+        ensures { result ≡ open_requests handle self.now.rows }
+    {
+        let mut open = 0;
+        for i in 0..self.shelf.len() {
+            if self.shelf.at(i).is_on(handle) {
+                open += 1;
+            }
+        }
+        open
+    }
+
+    // The row that keeps the request of this id.
+    fn kept_at(&self, id: ReqId) -> Option<u32>
+        ensures { MatchOption result (NonePasses (keeps id) self.now.rows (length self.now.rows)) (IsFirst (keeps id) self.now.rows) }
+    {
+        for i in 0..self.shelf.len() {
+            if self.shelf.at(i).keeps(id) {
+                return Some(i);
+            }
+        }
+        None
+    }
+
+    // The row that remembers the request of this id as handed out.
+    fn out_at(&self, id: ReqId) -> Option<u32>
+        ensures { MatchOption result (NonePasses (is_out id) self.now.rows (length self.now.rows)) (IsFirst (is_out id) self.now.rows) }
+    {
+        for i in 0..self.shelf.len() {
+            if self.shelf.at(i).is_out(id) {
+                return Some(i);
+            }
+        }
+        None
+    }
+
+    // The first row at a place.
+    fn first_row_in(&self, place: Place) -> Option<u32>
+        ensures { MatchOption result (NonePasses (is_in place) self.now.rows (length self.now.rows)) (IsFirst (is_in place) self.now.rows) }
+    {
+        for i in 0..self.shelf.len() {
+            if self.shelf.at(i).is_in(place) {
+                return Some(i);
+            }
+        }
+        None
+    }
+}
+
+#[cfg(test)]
+mod tests {
+    use super::*;
+    use bd_base::{DevId, Op};
+    use std::process::Abort;
+    use std::test::Fail;
+
+    fn request(seq: u64, handle: u128) -> Request {
+        Request {
+            id: ReqId { thread: 0, seq },
+            dev: DevId(3),
+            handle: HandleId(handle),
+            op: Op::Read,
+            lba: 8,
+            count: 1,
+        }
+    }
+
+    fn park(tables: &mut Tables, rt: &impl Abort, request: Request, place: Place)
+        requires room { 0 < tables.old.room }
+        ensures room { tables.old.room ≤ tables.new.room + 1 }
+    {
+        assert!(rt; !tables.keeps(request.id));
+        tables.park(request, place);
+    }
+
+    #[test]
+    fn a_place_is_the_list_of_those_that_came_there(rt: HostRuntime) -> Result<(), Fail> {
+        let mut tables = Tables::new(rt.alloc());
+        tables.reserve(4)?;
+        for seq in 1..4u64 {
+            assert!(rt; tables.has_room());
+            park(&mut tables, &rt, request(seq, 7), Place::Fresh);
+        }
+        let id = |seq| ReqId { thread: 0, seq };
+        // 2 goes to the quality queue of device 3 first, then 1, and both leave the fresh ones.
+        assert!(rt; tables.move_to(id(2), Place::Quality(DevId(3))));
+        assert!(rt; tables.move_to(id(1), Place::Quality(DevId(3))));
+        assert_eq!(rt; tables.first_in(Place::Quality(DevId(3))), Some(id(2)));
+        assert_eq!(rt; tables.first_in(Place::Quality(DevId(4))), None);
+        assert_eq!(rt; tables.first_in(Place::Fresh), Some(id(3)));
+        // 3 is handed out: it is open, and no longer here.
+        assert_eq!(rt; tables.away(id(3)), Some(request(3, 7)));
+        assert_eq!(rt; tables.away(id(3)), None);
+        assert_eq!(rt; tables.unpark(id(3)), None);
+        assert!(rt; !tables.move_to(id(3), Place::Fresh));
+        assert_eq!(rt; tables.open_on(HandleId(7)), 3);
+        assert_eq!(rt; tables.open_on(HandleId(8)), 0);
+        // The rows in order are 2, 1 and 3, of which 3 stands at `Away`.
+        assert!(rt; tables.len() == 3 && !tables.is_empty());
+        assert!(rt; tables.row(0).request.id.seq == 2 && tables.row(2).place == Place::Away);
+        // It comes back, and takes up its row.
+        assert!(rt; tables.has_room());
+        park(&mut tables, &rt, request(3, 7), Place::Fresh);
+        assert_eq!(rt; tables.open_on(HandleId(7)), 3);
+        assert_eq!(rt; tables.unpark(id(2)), Some(request(2, 7)));
+        assert_eq!(rt; tables.first_in(Place::Quality(DevId(3))), Some(id(1)));
+        assert_eq!(rt; tables.open_on(HandleId(7)), 2);
+        Ok(())
+    }
+}
