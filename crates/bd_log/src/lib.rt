@@ -1,0 +1,10 @@
+//! The logs of threads, and their merge into one history.
+#![tactic(auto)]
+
+mod log;
+mod merging;
+mod part;
+
+pub use log::{Log, LogNo};
+pub use merging::{merge, merge_is_unique, merge_onto, merging_by_parts};
+pub use part::LogPart;

@@ -1,0 +1,194 @@
+//! A thread's log: what it did, each act with a stamp.
+ghost use Rattle.std.specs.Prelude.{◌≡◌, ◌+◌, ◌≤◌, ◌<◌, ◌++◌, ◌∷◌, [], length, max, IfOk, IfErr, OnOk, OnErr};
+ghost use Rattle.bd_log.specs.Merge.{IsPart};
+
+use crate::part::LogPart;
+use bd_base::{Act, Entry, OutOfMemory, ThreadId};
+use std::alloc::Global;
+use std::error::Error;
+use std::marker::Model;
+use std::{fmt, mem};
+
+/// Why a push was refused.
+#[derive(Clone, Copy, Debug, PartialEq, Eq)]
+pub enum LogNo {
+    /// There was no memory for the entry.
+    OutOfMemory,
+    /// The last stamp, which this carries, is the greatest number.
+    StampsSpent(u128),
+}
+
+impl fmt::Display for LogNo {
+    fn fmt<W: fmt::Write>(&self, f: &mut fmt::Formatter<W>) -> fmt::Result {
+        match self {
+            LogNo::OutOfMemory => write!(f, "out of memory"),
+            LogNo::StampsSpent(last) => write!(f, "no stamp is left above {last}"),
+        }
+    }
+}
+
+impl Error for LogNo {}
+
+/// The entries that a thread made and that were not handed out, seen as a `Written`: beside them the
+/// thread, the last stamp, and how many entries there is memory for. Stamps rise, from 1 on.
+#[derive(Debug, Drop)]
+pub struct Log {
+    thread: u32,
+    last: u128,
+    entries: Vec<Entry>,
+}
+
+impl Model for Log {
+    ghost use Rattle.std.specs.Vec.{vec_capacity};
+    ghost use Rattle.bd_log.specs.Log.{Written, IsLog};
+
+    ghost Value = { Written };
+
+    ghost view = { λ l. record { thread = l.thread; entries = l.entries.items; last = l.last; capacity = vec_capacity l.entries } };
+
+    ghost invariant = { λ l. IsLog l.thread l.last l.entries.items };
+}
+
+impl Log {
+    ghost use Rattle.bd_log.specs.Log.{IsCause, IsWithin, entry_of, log_part};
+
+    /// An empty log of this thread, whose first stamp is 1. It takes no memory.
+    pub fn new(alloc: Global, thread: ThreadId) -> Log
+        ensures thread { result.thread ≡ thread.0 }
+        ensures entries { result.entries ≡ [] }
+        ensures last { result.last ≡ 0 }
+    {
+        Log {
+            thread: thread.0,
+            last: 0,
+            entries: Vec::new(alloc),
+        }
+    }
+
+    /// Appends an act, and answers its stamp: the least above all that were pushed and met. A refused
+    /// push changes nothing. `OutOfMemory` comes only where the room is spent.
+    pub fn push(&mut self, act: Act) -> Result<u128, LogNo>
+        ensures stamp { IfOk result (λ stamp. stamp ≡ self.old.last + 1) }
+        ensures entries { OnOk result (self.new.entries ≡ self.old.entries ++ entry_of self.old act ∷ []) }
+        ensures last { OnOk result (self.new.last ≡ self.old.last + 1) }
+        ensures thread { self.new.thread ≡ self.old.thread }
+        ensures capacity { self.old.capacity ≤ self.new.capacity }
+
+        ensures spent { self.old.last ≡ u128.MAX → result ≡ Err (LogNo.StampsSpent u128.MAX) }
+        ensures cause { IfErr result (λ no. IsCause no self.old) }
+        ensures err { OnErr result (self.new ≡ self.old) }
+    {
+        if self.last == u128::MAX {
+            return Err(LogNo::StampsSpent(self.last));
+        }
+        if self.reserve(1).is_err() {
+            return Err(LogNo::OutOfMemory);
+        }
+        Ok(self.append(act))
+    }
+
+    // Appends an act for which there is room.
+    fn append(&mut self, act: Act) -> u128
+        requires stamp { self.old.last < u128.MAX }
+        requires room { length self.old.entries < self.old.capacity }
+        ensures stamp { result ≡ self.old.last + 1 }
+        ensures entries { self.new.entries ≡ self.old.entries ++ entry_of self.old act ∷ [] }
+        ensures last { self.new.last ≡ self.old.last + 1 }
+        ensures thread { self.new.thread ≡ self.old.thread }
+        ensures capacity { self.old.capacity ≤ self.new.capacity }
+    {
+        let stamp = self.last + 1;
+        let entry = Entry {
+            stamp,
+            thread: self.thread,
+            act,
+        };
+        match self.entries.push(entry) {
+            Ok(()) => (),
+            Err(_) => unreachable!(),
+        }
+        self.last = stamp;
+        stamp
+    }
+
+    /// Takes memory for so many pushes more. It answers `OutOfMemory` only where that room was
+    /// missing, and then nothing changed.
+    pub fn reserve(&mut self, n: u32) -> Result<(), OutOfMemory>
+        ensures same { self.new ≡ record self.old { capacity = self.new.capacity } }
+        ensures capacity { self.old.capacity ≤ self.new.capacity }
+        ensures ok { OnOk result (length self.old.entries + n ≤ self.new.capacity) }
+        ensures full { OnErr result (self.old.capacity < length self.old.entries + n) }
+        ensures err { OnErr result (self.new ≡ self.old) }
+    {
+        self.entries.reserve(n as usize)?;
+        Ok(())
+    }
+
+    /// Takes note of a stamp that came from elsewhere: later stamps are above it.
+    pub fn meet(&mut self, stamp: u128)
+        ensures { self.new ≡ record self.old { last = max self.old.last stamp } }
+    {
+        self.last = self.last.max(stamp);
+    }
+
+    /// The greatest stamp that was pushed or met, 0 at first.
+    pub fn last(&self) -> u128
+        ensures { result ≡ self.now.last }
+    {
+        self.last
+    }
+
+    /// The entries in order, all of this thread and with rising stamps.
+    pub fn entries(&self) -> &[Entry]
+        ensures value { result.now ≡ self.now.entries }
+        ensures part { IsPart (log_part self.now) }
+    {
+        self.entries.as_slice()
+    }
+
+    /// Hands the entries so far out, with the memory reserved for them, and keeps the last stamp: so
+    /// each entry of a later part has a greater stamp than all of this one. It takes no memory.
+    pub fn hand_out(&mut self) -> LogPart
+        ensures handed { result ≡ log_part self.old }
+        ensures within { IsWithin self.old.last self.old.entries }
+        ensures left { self.new ≡ record self.old { entries = []; capacity = self.new.capacity } }
+    {
+        let alloc = *self.entries.allocator();
+        let entries = mem::replace(&mut self.entries, Vec::new(alloc));
+        LogPart::of(self.thread, entries)
+    }
+
+    /// The whole log as one part. It takes no memory.
+    pub fn into_part(self) -> LogPart
+        ensures { result ≡ log_part self }
+    {
+        let Log {
+            thread,
+            last: _,
+            entries,
+        } = self;
+        LogPart::of(thread, entries)
+    }
+}
+
+#[cfg(test)]
+mod tests {
+    use super::*;
+
+    #[test]
+    fn stamps_are_above_all_pushed_and_met(rt: HostRuntime) {
+        let mut log = Log::new(rt.alloc(), ThreadId(2));
+        assert!(rt; log.reserve(2).is_ok());
+        assert!(rt; log.push(Act::Shutdown) == Ok(1));
+        log.meet(6);
+        assert!(rt; log.push(Act::Shutdown) == Ok(7));
+        log.meet(3);
+        assert!(rt; log.last() == 7 && log.entries().len() == 2);
+        assert!(rt; log.hand_out().len() == 2);
+        assert!(rt; log.push(Act::Shutdown) == Ok(8));
+
+        log.meet(u128::MAX);
+        assert!(rt; log.push(Act::Shutdown) == Err(LogNo::StampsSpent(u128::MAX)));
+        assert!(rt; log.into_part().len() == 1);
+    }
+}
