@@ -1,0 +1,111 @@
+//! How a walk over a device's channels goes from thread to thread.
+#![tactic(auto)]
+
+ghost use Rattle.std.specs.Prelude.{◌≡◌, ◌∷◌, [], MatchOption, IfSome, IfNone};
+ghost use Rattle.bd_base.specs.ThreadSet.{IsFirst};
+ghost use Rattle.bd_walk.specs.Walk.{IsWithout, threads_in};
+
+use bd_base::{DevId, ThreadId, ThreadSet, WalkId, WalkKind};
+use bd_msg::{Request, Walk};
+
+/// What is done with a walk, which is a plain type of bd_msg.
+pub trait WalkCalls {
+    /// A walk that has these threads to visit, and ends on the thread `back`. A reset's walk carries
+    /// the reset's request.
+    fn begin(
+        id: WalkId,
+        dev: DevId,
+        kind: WalkKind,
+        threads: ThreadSet,
+        back: ThreadId,
+        request: Option<Request>,
+    ) -> Self;
+
+    /// The least thread left, which is no longer left then. None exactly where no thread is left: the
+    /// walk is at its end, and stays as it is. So the threads that a walk began with are given each
+    /// once, in rising order.
+    fn next(&mut self) -> Option<ThreadId>;
+}
+
+impl WalkCalls for Walk {
+    fn begin(
+        id: WalkId,
+        dev: DevId,
+        kind: WalkKind,
+        threads: ThreadSet,
+        back: ThreadId,
+        request: Option<Request>,
+    ) -> Walk
+        ensures { result ≡ record { id = id; dev = dev; kind = kind; left = threads; back = back; request = request } }
+    {
+        Walk {
+            id,
+            dev,
+            kind,
+            left: threads,
+            back,
+            request,
+        }
+    }
+
+    fn next(&mut self) -> Option<ThreadId>
+        ensures visits { MatchOption result (threads_in self.old.left.0 ≡ []) (λ t. threads_in self.old.left.0 ≡ t.0 ∷ threads_in self.new.left.0) }
+        ensures first { IfSome result (λ t. IsFirst self.old.left.0 t.0) }
+        ensures left { IfSome result (λ t. IsWithout self.old.left.0 t.0 self.new.left.0) }
+        ensures same { self.new ≡ record self.old { left = self.new.left } }
+        ensures none { IfNone result (self.new ≡ self.old) }
+    {
+        let first = self.left.first()?;
+        self.left.remove(first);
+        Some(first)
+    }
+}
+
+#[cfg(test)]
+mod tests {
+    use super::*;
+
+    fn walk_over(bits: u16) -> Walk
+        ensures { result.left.0 ≡ bits }
+    {
+        Walk::begin(
+            WalkId { thread: 2, seq: 0 },
+            DevId(1),
+            WalkKind::Removal,
+            ThreadSet(bits),
+            ThreadId(2),
+            None,
+        )
+    }
+
+    #[test]
+    fn threads_are_visited_once_and_rising(rt: HostRuntime) {
+        for (bits, threads) in [
+            (0, [None, None, None, None]),
+            (0b1000, [Some(ThreadId(3)), None, None, None]),
+            (
+                0b1000_0000_0000_1001,
+                [
+                    Some(ThreadId(0)),
+                    Some(ThreadId(3)),
+                    Some(ThreadId(15)),
+                    None,
+                ],
+            ),
+        ] {
+            let mut walk = walk_over(bits);
+            for expected in threads {
+                assert!(rt; walk.next() == expected, "threads {bits:b}");
+            }
+        }
+    }
+
+    #[test]
+    fn sixteen_threads(rt: HostRuntime) {
+        let mut walk = walk_over(0xffff);
+        for t in 0..16 {
+            assert!(rt; walk.next() == Some(ThreadId(t)));
+        }
+        assert!(rt; walk.next() == None);
+    }
+}
