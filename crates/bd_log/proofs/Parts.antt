@@ -1,9 +1,9 @@
 -- Parts of logs: what a push and a take keep, and the entries of a thread.
-use Rattle.std.proofs.Common.{◌≡◌, ℕ, ◌+◌, ◌<◌, ◌≤◌, Bool, true, false, cond, ◌==◌, List, [], ◌∷◌, ◌++◌, sym, ◌∙◌, ap, eq-eqb, ne_eqb, arith}
-use Rattle.std.specs.List.{AllByRecursion, filter}
+use Rattle.std.proofs.Common.{◌≡◌, ℕ, ◌+◌, ◌<◌, ◌≤◌, cond, List, [], ◌∷◌, ◌++◌, ap, eq-eqb, ne_eqb, arith}
+use Rattle.std.specs.List.{AllByRecursion}
 use Rattle.bd_base.specs.declared.act.Entry.{Entry}
-use Rattle.bd_log.specs.Merge.{Part, Rises, IsPart, entries_of}
-use Rattle.bd_log.specs.Log.{IsWithin, IsLog}
+use Rattle.bd_log.specs.Merge.{Rises, entries_of}
+use Rattle.bd_log.specs.Log.{IsLog}
 use Rattle.bd_log.proofs.Order.{all_map, all_append}
 
 rises_push : (xs : List Entry) (x : Entry) → Rises xs → AllByRecursion (λ y. y.stamp < x.stamp) xs → Rises (xs ++ x ∷ [])

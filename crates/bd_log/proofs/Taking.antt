@@ -1,13 +1,13 @@
 -- Taking the first entry of all, again and again, gives the merge.
-use Rattle.std.proofs.Common.{◌≡◌, ◌≢◌, ℕ, ◌+◌, ◌<◌, ◌≤◌, Bool, true, false, ◌==◌, ◌⊎◌, inl, inr, List, [], ◌∷◌, ◌++◌, length, get_or, set, map, All, AllPairs, Contains, Option, Some, None, MatchOption, add-one, refl, sym, ◌∙◌, ap, ap₂, subst, append-nil, append_assoc, get_or-set_same, get_or-set_other, arith}
-use Rattle.std.specs.List.{AllByRecursion, filter, sum_by}
+use Rattle.std.proofs.Common.{◌≡◌, ℕ, ◌+◌, ◌<◌, ◌≤◌, false, ◌==◌, ◌⊎◌, inl, inr, List, [], ◌∷◌, ◌++◌, length, get_or, set, All, Contains, Option, Some, None, MatchOption, add-one, refl, sym, ◌∙◌, ap, ap₂, subst, append-nil, append_assoc, get_or-set_same, get_or-set_other, arith}
+use Rattle.std.specs.List.{AllByRecursion, sum_by}
 use Rattle.std.proofs.lemmas.Bool.{cases_eq, cases_lt}
 use Rattle.std.proofs.lemmas.List.{length-map, length-set, get_or-map, get_or_default}
 use Rattle.std.proofs.lemmas.List.Elements.{filter-append}
 use Rattle.std.proofs.lemmas.List.Sums.{sum_by-set}
 use Rattle.bd_base.specs.declared.act.Entry.{Entry}
-use Rattle.bd_log.specs.Merge.{Part, threads_of, IsPart, Rises, IsBefore, IsOrdered, entries_of, IsMerge, AreOfDifferentThreads, TakesFirst, is_before, head_before}
-use Rattle.bd_log.proofs.Order.{all_map, all_both, all_append, all_any, before_trans, is_before-false, is_before-true, ordered_append}
+use Rattle.bd_log.specs.Merge.{Part, threads_of, IsPart, Rises, IsBefore, IsOrdered, entries_of, IsMerge, AreOfDifferentThreads, TakesFirst, head_before}
+use Rattle.bd_log.proofs.Order.{all_map, all_both, all_append, all_any, before_trans, is_before-false, ordered_append}
 use Rattle.bd_log.proofs.Parts.{entries_of-same, entries_of-other}
 
 -- what was taken so far, and what is left of the parts

@@ -1,11 +1,11 @@
 -- Logs have one merge, and merging by parts is merging the whole.
-use Rattle.std.proofs.Common.{◌≡◌, ℕ, ◌+◌, ◌<◌, ◌≤◌, Bool, true, false, cond, ◌==◌, ◌⊎◌, inl, inr, List, [], ◌∷◌, ◌++◌, length, get_or, map, All, Contains, zero, suc, refl, sym, ◌∙◌, ap, ap₂, subst, eqb-true, arith}
-use Rattle.std.specs.List.{AllByRecursion, filter}
+use Rattle.std.proofs.Common.{◌≡◌, ℕ, ◌+◌, ◌<◌, Bool, true, false, cond, ◌==◌, ◌⊎◌, inl, inr, List, [], ◌∷◌, ◌++◌, length, get_or, All, Contains, zero, suc, refl, sym, ◌∙◌, ap, ap₂, subst, arith}
+use Rattle.std.specs.List.{AllByRecursion}
 use Rattle.std.proofs.lemmas.Bool.{cases_eq}
 use Rattle.std.proofs.lemmas.List.{length-map, get_or-map}
 use Rattle.std.proofs.lemmas.List.Elements.{filter-append}
 use Rattle.bd_base.specs.declared.act.Entry.{Entry}
-use Rattle.bd_log.specs.Merge.{Part, threads_of, IsBefore, IsOrdered, entries_of, IsMerge, MergeIsUnique, MergingByParts, joined}
+use Rattle.bd_log.specs.Merge.{Part, threads_of, IsBefore, IsOrdered, entries_of, MergeIsUnique, MergingByParts, joined}
 use Rattle.bd_log.proofs.Order.{all_map, all_append, never_both, ordered_append}
 use Rattle.bd_log.proofs.Parts.{entries_of-same, entries_of-other}
 

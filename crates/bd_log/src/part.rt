@@ -1,5 +1,5 @@
 //! What a log handed out.
-ghost use Rattle.std.specs.Prelude.{◌≡◌, ◌+◌, ◌∷◌, [], length, MatchOption};
+ghost use Rattle.std.specs.Prelude.{◌≡◌, ◌∷◌, [], length, MatchOption};
 ghost use Rattle.bd_log.specs.Merge.{IsPart, head_before, is_before};
 
 use bd_base::{Entry, ThreadId};

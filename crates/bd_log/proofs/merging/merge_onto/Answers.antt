@@ -1,8 +1,8 @@
-use Rattle.std.proofs.Common.{◌≡◌, ◌+◌, ◌≤◌, List, [], ◌∷◌, ◌++◌, length, vec_len, vec_capacity, sym, ◌∙◌, ap, subst, append-nil, append_assoc, arith}
+use Rattle.std.proofs.Common.{◌+◌, ◌≤◌, List, [], ◌∷◌, ◌++◌, length, vec_len, vec_capacity, sym, ◌∙◌, ap, subst, append-nil, append_assoc, arith}
 use Rattle.std.specs.List.{sum_by}
 use Rattle.bd_base.specs.declared.act.Entry.{Entry}
 use Rattle.bd_log.specs.Merge.{Part}
-use Rattle.bd_log.proofs.Taking.{Merges, merges_start, merges_step, merges_end, left_different, left_fewer}
+use Rattle.bd_log.proofs.Taking.{Merges, merges_start, merges_step, left_different, left_fewer}
 use Rattle.bd_log.proofs.merging.merge_onto.Goals as goal
 
 pub loop-entry-init : goal.loop-entry-init

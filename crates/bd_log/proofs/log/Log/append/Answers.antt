@@ -1,6 +1,5 @@
-use Rattle.std.proofs.Common.{◌+◌, ◌∷◌, [], ◌++◌, List, subst, sym, refl}
+use Rattle.std.proofs.Common.{◌+◌, refl}
 use Rattle.bd_base.specs.declared.act.Entry.{Entry}
-use Rattle.bd_log.specs.Log.{IsLog}
 use Rattle.bd_log.proofs.Parts.{log_push}
 use Rattle.bd_log.proofs.log.Log.append.Goals as goal
 
