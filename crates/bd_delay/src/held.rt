@@ -54,7 +54,7 @@ impl Model for Held {
 impl Held {
     /// No holds, and room for none. It takes no memory.
     pub fn new(alloc: Global) -> Held
-        ensures rows { result.rows ≡ [] }
+        ensures { result ≡ record { rows = []; room = 0 } }
     {
         Held {
             rows: Vec::new(alloc),

@@ -27,7 +27,7 @@ impl Model for Retry {
 }
 
 impl Retry {
-    /// An empty queue with threshold 0. It takes no memory.
+    /// An empty queue with threshold 0; it may have no room yet. It takes no memory.
     pub fn new(alloc: Global) -> Retry
         ensures pieces { result.pieces ≡ [] }
         ensures threshold { result.threshold ≡ 0 }

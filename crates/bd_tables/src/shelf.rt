@@ -30,9 +30,9 @@ impl Model for Shelf {
 }
 
 impl Shelf {
-    /// No rows. It takes no memory.
+    /// No rows, and room for none. It takes no memory.
     pub fn new(alloc: Global) -> Shelf
-        ensures { result.rows ≡ [] }
+        ensures { result ≡ record { rows = []; room = 0 } }
     {
         Shelf {
             slab: Slab::new(alloc),

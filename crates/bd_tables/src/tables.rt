@@ -28,9 +28,9 @@ impl Model for Tables {
 }
 
 impl Tables {
-    /// No requests. It takes no memory.
+    /// No requests, and room for none. It takes no memory.
     pub fn new(alloc: Global) -> Tables
-        ensures { result.rows ≡ [] }
+        ensures { result ≡ record { rows = []; room = 0 } }
     {
         Tables {
             shelf: Shelf::new(alloc),
