@@ -6,18 +6,27 @@ use bd_base::{Decision, ErrKind, Injection, Injections, IoSet, Op};
 
 /// What is done with the injections of an error device. No call takes memory.
 pub trait InjectionCalls {
+    ghost use Rattle.bd_base.specs.declared.device.Injections.{Injections};
+
+    ghost injections: { Self → Injections };
+
     /// Sets an injection for the next `num` requests of each named type (0 for none), in place of
     /// what stood there; the other types keep theirs.
-    fn set(&mut self, io: IoSet, kind: ErrKind, num: u32);
+    fn set(&mut self, io: IoSet, kind: ErrKind, num: u32)
+        ensures { injections self.new ≡ set_on io kind num (injections self.old) };
 
     /// What a request of this type meets. If an injection for its type is left, the request takes
     /// it, and that count alone falls by one: `Failure` fails it, `Pending` keeps it, `Corrupt`
     /// turns byte 0 of its data. Only reads and writes have data; the other types leave a `Corrupt`
     /// untaken and pass. Resets and aborts take nothing and pass.
-    fn take(&mut self, op: &Op) -> Decision;
+    fn take(&mut self, op: &Op) -> Decision
+        ensures decision { result ≡ decision_for op.now (injections self.old) }
+        ensures after { injections self.new ≡ left_after op.now (injections self.old) };
 }
 
 impl InjectionCalls for Injections {
+    ghost injections = { λ i. i };
+
     fn set(&mut self, io: IoSet, kind: ErrKind, num: u32)
         ensures { self.new ≡ set_on io kind num self.old }
     {
