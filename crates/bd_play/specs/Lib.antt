@@ -1,0 +1,4 @@
+pub mod Index
+pub mod Play
+pub mod Refusals
+pub mod Words

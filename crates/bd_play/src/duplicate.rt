@@ -1,0 +1,343 @@
+//! Copies of what the state and the setup hold.
+ghost use Rattle.std.specs.Prelude.{◌≡◌, IfOk};
+
+use bd_base::{
+    Bytes, DevRow, Job, Line, Name, OutOfMemory, Rows, Script, Setup, Waiting,
+};
+use bd_machine::{
+    Base, Binding, Content, Due, Id, Kept, News, OpenPiece, Part, Registry, State, Tracked,
+};
+use std::alloc::Global;
+
+/// A value that can be copied where there is memory.
+pub trait Duplicate: Drop {
+    fn duplicate(&self, alloc: Global) -> Result<Self, OutOfMemory>
+        ensures { IfOk result (λ r. r ≡ self.now) };
+}
+
+/// Copies each row.
+pub fn duplicate_rows<T: Duplicate>(
+    alloc: Global,
+    rows: &Rows<T>,
+) -> Result<Rows<T>, OutOfMemory>
+    ensures { IfOk result (λ r. r ≡ rows.now) }
+{
+    let mut copies = Rows::new(alloc);
+    for row in rows.as_slice() {
+        let copy = row.duplicate(alloc)?;
+        copies.push(copy)?;
+    }
+    Ok(copies)
+}
+
+impl Duplicate for Name {
+    fn duplicate(&self, alloc: Global) -> Result<Name, OutOfMemory> {
+        self.copy()
+    }
+}
+
+impl Duplicate for Bytes {
+    fn duplicate(&self, alloc: Global) -> Result<Bytes, OutOfMemory> {
+        self.copy()
+    }
+}
+
+/// A copy of bytes, where there are any.
+pub fn duplicate_bytes(bytes: &Option<Bytes>) -> Result<Option<Bytes>, OutOfMemory>
+    ensures { IfOk result (λ b. b ≡ bytes.now) }
+{
+    match bytes {
+        Some(b) => {
+            let copied = b.copy()?;
+            Ok(Some(copied))
+        }
+        None => Ok(None),
+    }
+}
+
+fn duplicate_name(name: &Option<Name>) -> Result<Option<Name>, OutOfMemory>
+    ensures { IfOk result (λ n. n ≡ name.now) }
+{
+    match name {
+        Some(n) => {
+            let copied = n.copy()?;
+            Ok(Some(copied))
+        }
+        None => Ok(None),
+    }
+}
+
+impl Duplicate for OpenPiece {
+    fn duplicate(&self, alloc: Global) -> Result<OpenPiece, OutOfMemory> {
+        let read = duplicate_bytes(&self.read)?;
+        Ok(OpenPiece {
+            base: self.base,
+            lba: self.lba,
+            count: self.count,
+            first: self.first,
+            op: self.op,
+            progress: self.progress,
+            end: self.end,
+            read,
+        })
+    }
+}
+
+impl Duplicate for News {
+    fn duplicate(&self, alloc: Global) -> Result<News, OutOfMemory> {
+        match self {
+            News::Mark(mark) => {
+                let mark = mark.copy()?;
+                Ok(News::Mark(mark))
+            }
+        }
+    }
+}
+
+impl Duplicate for Kept {
+    fn duplicate(&self, alloc: Global) -> Result<Kept, OutOfMemory> {
+        match self {
+            Kept::Request(r) => Ok(Kept::Request(*r)),
+            Kept::Piece(p) => {
+                let p = p.duplicate(alloc)?;
+                Ok(Kept::Piece(p))
+            }
+            Kept::Notice(n) => {
+                let n = n.duplicate(alloc)?;
+                Ok(Kept::Notice(n))
+            }
+        }
+    }
+}
+
+impl Duplicate for (Id, Tracked) {
+    fn duplicate(&self, alloc: Global) -> Result<(Id, Tracked), OutOfMemory> {
+        let kept = self.1.kept.duplicate(alloc)?;
+        let place = self.1.place;
+        Ok((self.0, Tracked { place, kept }))
+    }
+}
+
+impl Duplicate for Content {
+    fn duplicate(&self, alloc: Global) -> Result<Content, OutOfMemory> {
+        match self {
+            Content::Blocks(blocks) => {
+                let blocks = duplicate_rows(alloc, blocks)?;
+                Ok(Content::Blocks(blocks))
+            }
+            Content::Zeros => Ok(Content::Zeros),
+            Content::Untold => Ok(Content::Untold),
+        }
+    }
+}
+
+impl Duplicate for Base {
+    fn duplicate(&self, alloc: Global) -> Result<Base, OutOfMemory> {
+        let content = self.content.duplicate(alloc)?;
+        let queue = self.queue.copy()?;
+        Ok(Base {
+            dev: self.dev,
+            content,
+            queue,
+        })
+    }
+}
+
+impl Duplicate for Binding {
+    fn duplicate(&self, alloc: Global) -> Result<Binding, OutOfMemory> {
+        let name = self.name.copy()?;
+        Ok(Binding {
+            name,
+            handle: self.handle,
+        })
+    }
+}
+
+impl Duplicate for Due {
+    fn duplicate(&self, alloc: Global) -> Result<Due, OutOfMemory> {
+        let news = self.news.duplicate(alloc)?;
+        Ok(Due {
+            receiver: self.receiver,
+            news,
+        })
+    }
+}
+
+impl Duplicate for Part {
+    fn duplicate(&self, alloc: Global) -> Result<Part, OutOfMemory> {
+        let bound = duplicate_rows(alloc, &self.bound)?;
+        let marks = duplicate_rows(alloc, &self.marks)?;
+        let put = self.put.copy()?;
+        let taken = self.taken.copy()?;
+        let due = duplicate_rows(alloc, &self.due)?;
+        let requests = self.requests.copy()?;
+        let bases = duplicate_rows(alloc, &self.bases)?;
+        let destructed = self.destructed.copy()?;
+        Ok(Part {
+            next: self.next,
+            decided: self.decided,
+            bound,
+            marks,
+            put,
+            taken,
+            next_request: self.next_request,
+            due,
+            requests,
+            bases,
+            destructed,
+        })
+    }
+}
+
+impl Duplicate for Registry {
+    fn duplicate(&self, alloc: Global) -> Result<Registry, OutOfMemory> {
+        let handles = self.handles.copy()?;
+        Ok(Registry {
+            handles,
+            next: self.next,
+        })
+    }
+}
+
+impl Duplicate for State {
+    fn duplicate(&self, alloc: Global) -> Result<State, OutOfMemory> {
+        let registry = self.registry.duplicate(alloc)?;
+        let parts = duplicate_rows(alloc, &self.parts)?;
+        let tokens = duplicate_rows(alloc, &self.tokens)?;
+        Ok(State {
+            stamp: self.stamp,
+            thread: self.thread,
+            shut: self.shut,
+            registry,
+            parts,
+            tokens,
+        })
+    }
+}
+
+impl Duplicate for DevRow {
+    fn duplicate(&self, alloc: Global) -> Result<DevRow, OutOfMemory> {
+        let name = self.name.copy()?;
+        let file = duplicate_name(&self.file)?;
+        Ok(DevRow {
+            name,
+            kind: self.kind,
+            base: self.base,
+            blocks: self.blocks,
+            size: self.size,
+            boundary: self.boundary,
+            depth: self.depth,
+            file,
+            group: self.group,
+        })
+    }
+}
+
+impl Duplicate for Waiting {
+    fn duplicate(&self, alloc: Global) -> Result<Waiting, OutOfMemory> {
+        let method = self.method.copy()?;
+        let base = self.base.copy()?;
+        Ok(Waiting {
+            index: self.index,
+            method,
+            base,
+        })
+    }
+}
+
+impl Duplicate for Job {
+    fn duplicate(&self, alloc: Global) -> Result<Job, OutOfMemory> {
+        match self {
+            Job::Open { handle, dev, write } => {
+                let handle = handle.copy()?;
+                let dev = dev.copy()?;
+                Ok(Job::Open {
+                    handle,
+                    dev,
+                    write: *write,
+                })
+            }
+            Job::Close { handle } => {
+                let handle = handle.copy()?;
+                Ok(Job::Close { handle })
+            }
+            Job::Claim { handle, kind } => {
+                let handle = handle.copy()?;
+                Ok(Job::Claim {
+                    handle,
+                    kind: *kind,
+                })
+            }
+            Job::Submit {
+                handle,
+                op,
+                lba,
+                count,
+            } => {
+                let handle = handle.copy()?;
+                Ok(Job::Submit {
+                    handle,
+                    op: *op,
+                    lba: *lba,
+                    count: *count,
+                })
+            }
+            Job::Remove { dev } => {
+                let dev = dev.copy()?;
+                Ok(Job::Remove { dev })
+            }
+            Job::Wait => Ok(Job::Wait),
+            Job::Sleep(micros) => Ok(Job::Sleep(*micros)),
+            Job::Post(mark) => {
+                let mark = mark.copy()?;
+                Ok(Job::Post(mark))
+            }
+            Job::Await(mark) => {
+                let mark = mark.copy()?;
+                Ok(Job::Await(mark))
+            }
+            Job::Gone { handle } => {
+                let handle = handle.copy()?;
+                Ok(Job::Gone { handle })
+            }
+        }
+    }
+}
+
+impl Duplicate for Line {
+    fn duplicate(&self, alloc: Global) -> Result<Line, OutOfMemory> {
+        let job = self.job.duplicate(alloc)?;
+        Ok(Line {
+            number: self.number,
+            job,
+        })
+    }
+}
+
+impl Duplicate for Script {
+    fn duplicate(&self, alloc: Global) -> Result<Script, OutOfMemory> {
+        let lines = duplicate_rows(alloc, &self.lines)?;
+        Ok(Script {
+            thread: self.thread,
+            lines,
+        })
+    }
+}
+
+impl Duplicate for Setup {
+    fn duplicate(&self, alloc: Global) -> Result<Setup, OutOfMemory> {
+        let devices = duplicate_rows(alloc, &self.devices)?;
+        let rates = self.rates.copy()?;
+        let injections = self.injections.copy()?;
+        let waiting = duplicate_rows(alloc, &self.waiting)?;
+        let scripts = duplicate_rows(alloc, &self.scripts)?;
+        Ok(Setup {
+            threads: self.threads,
+            devices,
+            rates,
+            injections,
+            waiting,
+            scripts,
+        })
+    }
+}

@@ -1,0 +1,27 @@
+//! The sequential device machine as a program: it decides which entries of a history are allowed,
+//! and keeps the state that they leave. It is plain and slow: each step works on a copy of the
+//! state, so that want of memory leaves the state as it was.
+#![tactic(auto)]
+
+mod asked;
+mod completion;
+mod duplicate;
+mod effect;
+mod equal;
+mod events;
+mod finished;
+mod homes;
+mod machine;
+mod messages;
+mod pieces;
+mod registry;
+mod requests;
+mod scripts;
+mod start;
+mod step;
+mod tokens;
+
+#[cfg(test)]
+mod tests;
+
+pub use machine::{Machine, StepNo};
