@@ -6,8 +6,8 @@ ghost use Rattle.bd_machine.specs.View.{part_of};
 ghost use Rattle.bd_play.specs.Words.{asks};
 ghost use Rattle.bd_machine.specs.Same.{is_the, same_outcome};
 
-use crate::registry::own_handle;
 use crate::equal::{same_handle_if_any, same_op, same_outcome};
+use crate::registry::own_handle;
 use bd_base::{Errno, HandleId, Job, Line, Name, Op, Outcome, RegEvent, Script, Setup};
 use bd_machine::{Decided, Part, State};
 

@@ -131,7 +131,10 @@ pub fn is_status_due(state: &State, thread: u32, req: ReqId, status: Status) -> 
 }
 
 // The bytes that a piece read, put behind others; none where they are untold.
-fn append_read(so_far: Option<Bytes>, piece: Option<&OpenPiece>) -> Result<Option<Bytes>, OutOfMemory>
+fn append_read(
+    so_far: Option<Bytes>,
+    piece: Option<&OpenPiece>,
+) -> Result<Option<Bytes>, OutOfMemory>
     ensures { IfOk result (λ bytes. bytes ≡ both_bytes so_far (bytes_of (option_copied piece.entry))) }
 {
     let Some(mut bytes) = so_far else {
@@ -151,7 +154,13 @@ fn append_read(so_far: Option<Bytes>, piece: Option<&OpenPiece>) -> Result<Optio
 
 // The data of the first n pieces in order; none where a part of it is untold.
 #[tactic(auto, using(crate::proofs::Left::left_from, crate::proofs::Data::both_assoc, crate::proofs::Data::both_none, crate::proofs::Data::both_end))]
-fn data_of(alloc: Global, state: &State, thread: u32, req: ReqId, n: u32) -> Result<Option<Bytes>, OutOfMemory>
+fn data_of(
+    alloc: Global,
+    state: &State,
+    thread: u32,
+    req: ReqId,
+    n: u32,
+) -> Result<Option<Bytes>, OutOfMemory>
     ensures { IfOk result (λ bytes. bytes ≡ data_of (pieces_here (view state.now thread) req n)) }
 {
     let mut bytes = Some(Bytes::new(alloc));

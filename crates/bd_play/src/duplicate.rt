@@ -1,9 +1,7 @@
 //! Copies of what the state and the setup hold.
 ghost use Rattle.std.specs.Prelude.{◌≡◌, IfOk};
 
-use bd_base::{
-    Bytes, DevRow, Job, Line, Name, OutOfMemory, Rows, Script, Setup, Waiting,
-};
+use bd_base::{Bytes, DevRow, Job, Line, Name, OutOfMemory, Rows, Script, Setup, Waiting};
 use bd_machine::{
     Base, Binding, Content, Due, Id, Kept, News, OpenPiece, Part, Registry, State, Tracked,
 };
@@ -16,10 +14,7 @@ pub trait Duplicate: Drop {
 }
 
 /// Copies each row.
-pub fn duplicate_rows<T: Duplicate>(
-    alloc: Global,
-    rows: &Rows<T>,
-) -> Result<Rows<T>, OutOfMemory>
+pub fn duplicate_rows<T: Duplicate>(alloc: Global, rows: &Rows<T>) -> Result<Rows<T>, OutOfMemory>
     ensures { IfOk result (λ r. r ≡ rows.now) }
 {
     let mut copies = Rows::new(alloc);

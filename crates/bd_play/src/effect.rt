@@ -88,7 +88,12 @@ fn turned(alloc: Global, blocks: &[Bytes]) -> Result<Rows<Bytes>, OutOfMemory>
 }
 
 // What a type puts in place of these blocks.
-fn rewritten(alloc: Global, op: Op, first: u64, blocks: &[Bytes]) -> Result<Rows<Bytes>, OutOfMemory>
+fn rewritten(
+    alloc: Global,
+    op: Op,
+    first: u64,
+    blocks: &[Bytes],
+) -> Result<Rows<Bytes>, OutOfMemory>
     ensures { IfOk result (λ bs. bs ≡ rewritten op first blocks.now) }
 {
     let mut new = Rows::new(alloc);

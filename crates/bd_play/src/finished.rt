@@ -43,8 +43,10 @@ pub fn is_finished(setup: &Setup, state: &State) -> Result<bool, OutOfMemory>
     let Ok(count) = u32::try_from(setup.devices.len()) else {
         return Err(OutOfMemory);
     };
-    Ok(state.shut
-        && all_destructed(setup, state, count)
-        && !is_any_open(state)
-        && !is_any_in_ring(state))
+    Ok(
+        state.shut
+            && all_destructed(setup, state, count)
+            && !is_any_open(state)
+            && !is_any_in_ring(state),
+    )
 }

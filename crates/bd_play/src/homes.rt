@@ -155,7 +155,13 @@ pub fn apply(
         return Ok(next);
     };
     let piece = served(alloc, end, size_of(setup, dev), &base.content, p)?;
-    apply_at(alloc, &mut next.parts.at_mut(thread as usize).bases, dev, end, p)?;
+    apply_at(
+        alloc,
+        &mut next.parts.at_mut(thread as usize).bases,
+        dev,
+        end,
+        p,
+    )?;
     let place = Place::At(thread);
     let kept = Kept::Piece(piece);
     put_in(&mut next.tokens, Id::Piece(req, k), Tracked { place, kept })?;

@@ -19,9 +19,8 @@ mod requests;
 mod scripts;
 mod start;
 mod step;
-mod tokens;
-
 #[cfg(test)]
 mod tests;
+mod tokens;
 
 pub use machine::{Machine, StepNo};

@@ -31,7 +31,10 @@ impl fmt::Display for StepNo {
         match self {
             StepNo::OutOfMemory => write!(f, "out of memory"),
             StepNo::Illegal { guard, stamp } => {
-                write!(f, "the entry with stamp {stamp} isn't allowed: guard {guard}")
+                write!(
+                    f,
+                    "the entry with stamp {stamp} isn't allowed: guard {guard}"
+                )
             }
         }
     }

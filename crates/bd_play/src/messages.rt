@@ -67,13 +67,7 @@ fn count(table: &mut Rows<(u32, u128)>, thread: u32, number: u128) -> Result<(),
 
 // ---- Put
 
-fn may_piece_go(
-    setup: &Setup,
-    thread: u32,
-    req: ReqId,
-    piece: Option<&OpenPiece>,
-    to: u32,
-) -> bool
+fn may_piece_go(setup: &Setup, thread: u32, req: ReqId, piece: Option<&OpenPiece>, to: u32) -> bool
     ensures { result ≡ may_piece_here_go setup.now thread req (option_copied piece.entry) to }
 {
     let Some(p) = piece else {
@@ -428,7 +422,8 @@ pub fn take_mark(
         receiver: thread,
         number,
     };
-    let Some(Kept::Notice(news)) = message(state.tokens.as_slice(), source, thread, number, id) else {
+    let Some(Kept::Notice(news)) = message(state.tokens.as_slice(), source, thread, number, id)
+    else {
         return Ok(next);
     };
     let taken = next_number(number)?;

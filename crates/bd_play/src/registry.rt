@@ -9,7 +9,9 @@ ghost use Rattle.bd_machine.specs.View.{view};
 ghost use Rattle.bd_play.specs.Words.{own_handle};
 
 use crate::equal::same_answer;
-use bd_base::{Answer, DevId, Errno, HandleId, Kind, Name, Op, OutOfMemory, RegEvent, Rows, Setup, ThreadId};
+use bd_base::{
+    Answer, DevId, Errno, HandleId, Kind, Name, Op, OutOfMemory, RegEvent, Rows, Setup, ThreadId,
+};
 use bd_machine::{Handle, Registry, State};
 use std::alloc::Global;
 

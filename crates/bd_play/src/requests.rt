@@ -16,7 +16,10 @@ use crate::pieces::{extents, has_extents, may_cut, new_piece};
 use crate::registry::{own_handle, refusal_of};
 use crate::tokens::put_in;
 use bd_base::{DevId, Errno, HandleId, Op, OutOfMemory, ReqId, Rows, Setup, Shown, Status};
-use bd_machine::guard::{ADMITTED, ALL_PIECES_BACK, FRESH_ID, LINE_ASKS, MAY_CUT, PIECE_COUNT, REFUSAL_DUE, SHOWN_DATA, STATUS_ALLOWED};
+use bd_machine::guard::{
+    ADMITTED, ALL_PIECES_BACK, FRESH_ID, LINE_ASKS, MAY_CUT, PIECE_COUNT, REFUSAL_DUE, SHOWN_DATA,
+    STATUS_ALLOWED,
+};
 use bd_machine::{Decided, Extent, Id, Kept, Open, OpenRequest, Place, State, Tracked};
 use std::alloc::Global;
 

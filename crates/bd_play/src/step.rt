@@ -76,9 +76,7 @@ fn refused_act(
             source,
             number,
             what,
-        } => Ok(messages::refused_took(
-            setup, state, thread, *source, *number, what,
-        )),
+        } => Ok(messages::refused_took(setup, state, thread, *source, *number, what)),
         Act::Reg { event, answer } => {
             Ok(events::refused_reg(setup, state, thread, event, answer))
         }
@@ -98,9 +96,7 @@ fn refused_act(
             lba,
             count,
             errno,
-        } => Ok(requests::refused_refuse(
-            setup, state, thread, *handle, *op, *lba, *count, *errno,
-        )),
+        } => Ok(requests::refused_refuse(setup, state, thread, *handle, *op, *lba, *count, *errno)),
         Act::Cut { req, pieces } => {
             requests::refused_cut(alloc, setup, state, thread, *req, *pieces)
         }

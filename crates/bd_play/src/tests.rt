@@ -2,14 +2,15 @@
 //! hashlib.
 use crate::machine::{Machine, StepNo};
 use bd_base::{
-    Act, Answer, ApplyEnd, DevId, DevRow, Entry, Errno, HandleId, Job, Kind, Line, Name, Op,
+    Act, Answer, ApplyEnd, DevId, DevRow, Entry, Errno, Fill, HandleId, Job, Kind, Line, Name, Op,
     OutOfMemory, Outcome, RegEvent, ReqId, Rows, Script, Setup, Shown, Status, Token,
 };
-use bd_base::Fill;
 use std::alloc::Global;
 
 const DEV: DevId = DevId(0);
+
 const HANDLE: HandleId = HandleId(0);
+
 const WRITE: Op = Op::Write(Fill {
     seed: 5,
     flip: false,
@@ -30,59 +31,58 @@ const CONTENT: [u8; 32] = [
     251, 136, 153, 208, 34, 149, 94, 112, 182, 217, 127, 87, 198,
 ];
 
-fn req(seq: u64) -> ReqId {
-    ReqId { thread: 0, seq }
+// A line of the script, on the handle h and block 0 of Malloc0.
+#[derive(Clone, Copy)]
+enum Word {
+    Open,
+    Submit(Op),
+    Wait,
+    Close,
+}
+
+const SCRIPT: [Word; 6] = [
+    Word::Open,
+    Word::Submit(WRITE),
+    Word::Wait,
+    Word::Submit(Op::Read),
+    Word::Wait,
+    Word::Close,
+];
+
+fn job(alloc: Global, word: Word) -> Result<Job, OutOfMemory> {
+    let handle = Name::from_slice(alloc, b"h")?;
+    match word {
+        Word::Open => {
+            let dev = Name::from_slice(alloc, b"Malloc0")?;
+            let write = true;
+            Ok(Job::Open { handle, dev, write })
+        }
+        Word::Submit(op) => Ok(Job::Submit {
+            handle,
+            op,
+            lba: 0,
+            count: 1,
+        }),
+        Word::Wait => Ok(Job::Wait),
+        Word::Close => Ok(Job::Close { handle }),
+    }
 }
 
 fn lines(alloc: Global) -> Result<Rows<Line>, OutOfMemory> {
-    let handle = Name::from_slice(alloc, b"h")?;
     let mut lines = Rows::new(alloc);
-    lines.push(Line {
-        number: 1,
-        job: Job::Open {
-            handle: handle.copy()?,
-            dev: Name::from_slice(alloc, b"Malloc0")?,
-            write: true,
-        },
-    })?;
-    lines.push(Line {
-        number: 2,
-        job: Job::Submit {
-            handle: handle.copy()?,
-            op: WRITE,
-            lba: 0,
-            count: 1,
-        },
-    })?;
-    lines.push(Line {
-        number: 3,
-        job: Job::Wait,
-    })?;
-    lines.push(Line {
-        number: 4,
-        job: Job::Submit {
-            handle: handle.copy()?,
-            op: Op::Read,
-            lba: 0,
-            count: 1,
-        },
-    })?;
-    lines.push(Line {
-        number: 5,
-        job: Job::Wait,
-    })?;
-    lines.push(Line {
-        number: 6,
-        job: Job::Close { handle },
-    })?;
+    let mut number: u32 = 1;
+    for word in SCRIPT {
+        let job = job(alloc, word)?;
+        lines.push(Line { number, job })?;
+        number = number.saturating_add(1);
+    }
     Ok(lines)
 }
 
-// One thread, one malloc device of 64 blocks of 512 bytes, one script.
-fn setup(alloc: Global) -> Result<Setup, OutOfMemory> {
-    let mut devices = Rows::new(alloc);
-    devices.push(DevRow {
-        name: Name::from_slice(alloc, b"Malloc0")?,
+fn device(alloc: Global) -> Result<DevRow, OutOfMemory> {
+    let name = Name::from_slice(alloc, b"Malloc0")?;
+    Ok(DevRow {
+        name,
         kind: Kind::Malloc,
         base: None,
         blocks: 64,
@@ -91,12 +91,16 @@ fn setup(alloc: Global) -> Result<Setup, OutOfMemory> {
         depth: 128,
         file: None,
         group: 0,
-    })?;
+    })
+}
+
+// One thread, one malloc device of 64 blocks of 512 bytes, one script.
+fn setup(alloc: Global) -> Result<Setup, OutOfMemory> {
+    let mut devices = Rows::new(alloc);
+    devices.push(device(alloc)?)?;
+    let lines = lines(alloc)?;
     let mut scripts = Rows::new(alloc);
-    scripts.push(Script {
-        thread: 0,
-        lines: lines(alloc)?,
-    })?;
+    scripts.push(Script { thread: 0, lines })?;
     Ok(Setup {
         threads: 1,
         devices,
@@ -105,6 +109,28 @@ fn setup(alloc: Global) -> Result<Setup, OutOfMemory> {
         waiting: Rows::new(alloc),
         scripts,
     })
+}
+
+// An act of thread 0, by what differs.
+#[derive(Clone, Copy)]
+enum Deed {
+    Opened(u128),
+    Closed,
+    Accept(ReqId, u32, Op, u64),
+    Refuse,
+    Cut(u64, u32),
+    Put(u128, u64, u32),
+    Took(u128, u64),
+    Apply(u64, ApplyEnd),
+    Complete(u64, Status, Option<Shown>),
+    Script(u32, Outcome),
+    Shutdown,
+    Destruct(u32, Option<[u8; 32]>),
+    Pend,
+}
+
+fn req(seq: u64) -> ReqId {
+    ReqId { thread: 0, seq }
 }
 
 fn opened(alloc: Global, handle: u128) -> Result<Act, OutOfMemory> {
@@ -118,270 +144,207 @@ fn opened(alloc: Global, handle: u128) -> Result<Act, OutOfMemory> {
     })
 }
 
-fn closed(answer: Answer) -> Act {
-    Act::Reg {
-        event: RegEvent::Close { handle: HANDLE },
-        answer,
-    }
-}
-
-fn accept(thread: u32, seq: u64, dev: u32, op: Op, lba: u64) -> Act {
-    Act::Accept {
-        req: ReqId { thread, seq },
-        dev: DevId(dev),
-        handle: HANDLE,
-        op,
-        lba,
-        count: 1,
-    }
-}
-
-fn put(number: u128, seq: u64, k: u32) -> Act {
-    Act::Put {
-        to: 0,
-        number,
-        what: Token::Piece(req(seq), k),
-    }
-}
-
-fn took(number: u128, seq: u64) -> Act {
-    Act::Took {
-        source: 0,
-        number,
-        what: Token::Piece(req(seq), 0),
-    }
-}
-
-fn apply(seq: u64, end: ApplyEnd) -> Act {
-    Act::Apply {
-        req: req(seq),
-        k: 0,
-        dev: DEV,
-        end,
-    }
-}
-
-fn cut(seq: u64, pieces: u32) -> Act {
-    Act::Cut {
-        req: req(seq),
-        pieces,
-    }
-}
-
-fn complete(seq: u64, status: Status, shown: Option<Shown>) -> Act {
-    Act::Complete {
-        req: req(seq),
-        status,
-        shown,
-    }
-}
-
-fn done(line: u32, outcome: Outcome) -> Act {
-    Act::Script { line, outcome }
-}
-
-// The entries of one thread, with rising stamps.
-fn push(entries: &mut Rows<Entry>, act: Act) -> Result<(), OutOfMemory> {
-    let stamp = entries.len() as u128 + 1;
-    entries.push(Entry {
-        stamp,
-        thread: 0,
-        act,
-    })
-}
-
-// A request is cut, goes to its home and back, and completes.
-fn push_request(
-    entries: &mut Rows<Entry>,
-    line: u32,
-    seq: u64,
-    op: Op,
-    number: u128,
-    shown: Option<Shown>,
-) -> Result<(), OutOfMemory>
-    requires { number < 4 }
-{
-    push(entries, accept(0, seq, 0, op, 0))?;
-    push(entries, done(line, Outcome::Accepted(req(seq))))?;
-    push(entries, cut(seq, 1))?;
-    push(entries, put(number, seq, 0))?;
-    push(entries, took(number, seq))?;
-    push(entries, apply(seq, ApplyEnd::Done))?;
-    push(entries, put(number + 1, seq, 0))?;
-    push(entries, took(number + 1, seq))?;
-    push(entries, complete(seq, Status::Success, shown))
-}
-
-// The whole history of the script.
-fn entries(alloc: Global) -> Result<Rows<Entry>, OutOfMemory> {
-    let mut entries = Rows::new(alloc);
-    push(&mut entries, opened(alloc, 0)?)?;
-    push(&mut entries, done(1, Outcome::Done))?;
-    push_request(&mut entries, 2, 0, WRITE, 0, None)?;
-    push(&mut entries, done(3, Outcome::Done))?;
-    push_request(&mut entries, 4, 1, Op::Read, 2, Some(SHOWN))?;
-    push(&mut entries, done(5, Outcome::Done))?;
-    push(&mut entries, closed(Answer::Closed { destruct: None }))?;
-    push(&mut entries, done(6, Outcome::Done))?;
-    push(&mut entries, Act::Shutdown)?;
-    push(
-        &mut entries,
-        Act::Destruct {
+fn act(alloc: Global, deed: Deed) -> Result<Act, OutOfMemory> {
+    match deed {
+        Deed::Opened(handle) => opened(alloc, handle),
+        Deed::Closed => Ok(Act::Reg {
+            event: RegEvent::Close { handle: HANDLE },
+            answer: Answer::Closed { destruct: None },
+        }),
+        Deed::Accept(req, dev, op, lba) => Ok(Act::Accept {
+            req,
+            dev: DevId(dev),
+            handle: HANDLE,
+            op,
+            lba,
+            count: 1,
+        }),
+        Deed::Refuse => Ok(Act::Refuse {
+            handle: Some(HANDLE),
+            op: WRITE,
+            lba: 0,
+            count: 1,
+            errno: Errno::Inval,
+        }),
+        Deed::Cut(seq, pieces) => Ok(Act::Cut {
+            req: req(seq),
+            pieces,
+        }),
+        Deed::Put(number, seq, k) => Ok(Act::Put {
+            to: 0,
+            number,
+            what: Token::Piece(req(seq), k),
+        }),
+        Deed::Took(number, seq) => Ok(Act::Took {
+            source: 0,
+            number,
+            what: Token::Piece(req(seq), 0),
+        }),
+        Deed::Apply(seq, end) => Ok(Act::Apply {
+            req: req(seq),
+            k: 0,
             dev: DEV,
-            digest: Some(CONTENT),
-        },
-    )?;
-    Ok(entries)
+            end,
+        }),
+        Deed::Complete(seq, status, shown) => Ok(Act::Complete {
+            req: req(seq),
+            status,
+            shown,
+        }),
+        Deed::Script(line, outcome) => Ok(Act::Script { line, outcome }),
+        Deed::Shutdown => Ok(Act::Shutdown),
+        Deed::Destruct(dev, digest) => Ok(Act::Destruct {
+            dev: DevId(dev),
+            digest,
+        }),
+        Deed::Pend => Ok(Act::Pend { req: req(0) }),
+    }
 }
 
-// The machine after the first n of the entries.
-fn played(alloc: Global, entries: &Rows<Entry>, n: usize) -> Result<Machine, StepNo> {
+const ZERO: ReqId = ReqId { thread: 0, seq: 0 };
+
+const ONE: ReqId = ReqId { thread: 0, seq: 1 };
+
+// The whole history of the script, with the stamps 1, 2, 3 and so on.
+const TRACE: [Deed; 26] = [
+    Deed::Opened(0),
+    Deed::Script(1, Outcome::Done),
+    Deed::Accept(ZERO, 0, WRITE, 0),
+    Deed::Script(2, Outcome::Accepted(ZERO)),
+    Deed::Cut(0, 1),
+    Deed::Put(0, 0, 0),
+    Deed::Took(0, 0),
+    Deed::Apply(0, ApplyEnd::Done),
+    Deed::Put(1, 0, 0),
+    Deed::Took(1, 0),
+    Deed::Complete(0, Status::Success, None),
+    Deed::Script(3, Outcome::Done),
+    Deed::Accept(ONE, 0, Op::Read, 0),
+    Deed::Script(4, Outcome::Accepted(ONE)),
+    Deed::Cut(1, 1),
+    Deed::Put(2, 1, 0),
+    Deed::Took(2, 1),
+    Deed::Apply(1, ApplyEnd::Done),
+    Deed::Put(3, 1, 0),
+    Deed::Took(3, 1),
+    Deed::Complete(1, Status::Success, Some(SHOWN)),
+    Deed::Script(5, Outcome::Done),
+    Deed::Closed,
+    Deed::Script(6, Outcome::Done),
+    Deed::Shutdown,
+    Deed::Destruct(0, Some(CONTENT)),
+];
+
+// A guard, and an act that it refuses after the first entries of the trace.
+const REFUSED: [(u32, usize, Deed); 33] = [
+    // an act that isn't built, a reset
+    (0, 0, Deed::Pend),
+    (0, 2, Deed::Accept(ZERO, 0, Op::Reset, 0)),
+    // a put with the wrong number; of a piece that there isn't; of one that is out; of one that
+    // wasn't served; a take before its put; a take of what was taken
+    (2, 5, Deed::Put(7, 0, 0)),
+    (3, 5, Deed::Put(0, 0, 5)),
+    (3, 6, Deed::Put(1, 0, 0)),
+    (4, 7, Deed::Put(1, 0, 0)),
+    (5, 5, Deed::Took(0, 0)),
+    (5, 7, Deed::Took(0, 0)),
+    // a handle number that isn't the next one, an open and a close that no line asks
+    (6, 0, Deed::Opened(7)),
+    (7, 2, Deed::Opened(1)),
+    (7, 4, Deed::Closed),
+    // a block that the line doesn't name, a device that isn't the handle's, an id of another
+    // thread, an id that is used, a refusal without a cause
+    (8, 2, Deed::Accept(ZERO, 0, WRITE, 1)),
+    (9, 2, Deed::Accept(ZERO, 1, WRITE, 0)),
+    (
+        10,
+        2,
+        Deed::Accept(ReqId { thread: 1, seq: 0 }, 0, WRITE, 0),
+    ),
+    (10, 12, Deed::Accept(ZERO, 0, Op::Read, 0)),
+    (11, 2, Deed::Refuse),
+    // cut twice, cut into two, served twice, a fault of memory
+    (17, 5, Deed::Cut(0, 1)),
+    (18, 4, Deed::Cut(0, 2)),
+    (19, 8, Deed::Apply(0, ApplyEnd::Done)),
+    (20, 7, Deed::Apply(0, ApplyEnd::Fault)),
+    // completed without an accept, with a piece out, before the cut, as failed, without its data
+    (26, 2, Deed::Complete(0, Status::Success, None)),
+    (26, 8, Deed::Complete(0, Status::Success, None)),
+    (27, 3, Deed::Complete(0, Status::Success, None)),
+    (27, 10, Deed::Complete(0, Status::Failed, None)),
+    (28, 20, Deed::Complete(1, Status::Success, None)),
+    // destructed with a handle open, twice, a device that there isn't, without its digest
+    (31, 22, Deed::Destruct(0, Some(CONTENT))),
+    (31, 26, Deed::Destruct(0, Some(CONTENT))),
+    (31, 25, Deed::Destruct(1, None)),
+    (32, 25, Deed::Destruct(0, None)),
+    // a line out of order, another outcome, a Shutdown with a request open, with a line to do
+    (33, 1, Deed::Script(2, Outcome::Done)),
+    (34, 1, Deed::Script(1, Outcome::Errno(Errno::Exists))),
+    (35, 5, Deed::Shutdown),
+    (36, 0, Deed::Shutdown),
+];
+
+// The machine after the first n entries of the trace.
+fn played(alloc: Global, n: usize) -> Result<Machine, StepNo> {
     let setup = setup(alloc)?;
     let mut machine = Machine::start(alloc, &setup)?;
-    for (i, entry) in entries.as_slice().iter().enumerate() {
+    let mut stamp: u128 = 0;
+    for (i, deed) in TRACE.iter().enumerate() {
         if i < n {
-            machine.step(entry)?;
+            let act = act(alloc, *deed)?;
+            stamp = stamp.saturating_add(1);
+            let thread = 0;
+            let entry = Entry { stamp, thread, act };
+            machine.step(&entry)?;
         }
     }
     Ok(machine)
 }
 
-#[test]
-fn first_path_is_a_complete_run(rt: HostRuntime) -> Result<(), StepNo> {
-    let alloc = rt.alloc();
-    let entries = entries(alloc)?;
-    assert_eq!(rt; entries.len(), 26);
-    let machine = played(alloc, &entries, 25)?;
-    assert!(rt; !machine.is_complete()?, "the device isn't destructed yet");
-    let machine = played(alloc, &entries, 26)?;
-    assert!(rt; machine.is_complete()?);
-    assert_eq!(rt; machine.state().stamp, 26);
-    Ok(())
-}
-
-// An entry of thread 0 that is refused after the first entries, and the guard.
-#[derive(Drop)]
-struct Case {
-    after: usize,
-    act: Act,
-    guard: u32,
-}
-
-fn case(cases: &mut Rows<Case>, guard: u32, after: usize, act: Act) -> Result<(), OutOfMemory> {
-    cases.push(Case { after, act, guard })
-}
-
-fn message_cases(cases: &mut Rows<Case>) -> Result<(), OutOfMemory> {
-    // a put with the wrong number; of a piece that there isn't; of one that is out; of one that
-    // wasn't served; a take before its put; a take of what was taken
-    case(cases, 2, 5, put(7, 0, 0))?;
-    case(cases, 3, 5, put(0, 0, 5))?;
-    case(cases, 3, 6, put(1, 0, 0))?;
-    case(cases, 4, 7, put(1, 0, 0))?;
-    case(cases, 5, 5, took(0, 0))?;
-    case(cases, 5, 7, took(0, 0))
-}
-
-fn request_cases(alloc: Global, cases: &mut Rows<Case>) -> Result<(), OutOfMemory> {
-    // a handle number that isn't the next one, an open and a close that no line asks
-    case(cases, 6, 0, opened(alloc, 7)?)?;
-    case(cases, 7, 2, opened(alloc, 1)?)?;
-    case(cases, 7, 4, closed(Answer::Closed { destruct: None }))?;
-    // a range that the line doesn't name, a device that isn't the handle's, an id of another
-    // thread, an id that is used, a refusal without a cause
-    case(cases, 8, 2, accept(0, 0, 0, WRITE, 1))?;
-    case(cases, 9, 2, accept(0, 0, 1, WRITE, 0))?;
-    case(cases, 10, 2, accept(1, 0, 0, WRITE, 0))?;
-    case(cases, 10, 12, accept(0, 0, 0, Op::Read, 0))?;
-    let refuse = Act::Refuse {
-        handle: Some(HANDLE),
-        op: WRITE,
-        lba: 0,
-        count: 1,
-        errno: Errno::Inval,
-    };
-    case(cases, 11, 2, refuse)?;
-    // cut twice, cut into two, served twice, a fault of memory
-    case(cases, 17, 5, cut(0, 1))?;
-    case(cases, 18, 4, cut(0, 2))?;
-    case(cases, 19, 8, apply(0, ApplyEnd::Done))?;
-    case(cases, 20, 7, apply(0, ApplyEnd::Fault))?;
-    // completed without an accept, with a piece out, before the cut, as failed, without its data
-    case(cases, 26, 2, complete(0, Status::Success, None))?;
-    case(cases, 26, 8, complete(0, Status::Success, None))?;
-    case(cases, 27, 3, complete(0, Status::Success, None))?;
-    case(cases, 27, 10, complete(0, Status::Failed, None))?;
-    case(cases, 28, 20, complete(1, Status::Success, None))
-}
-
-fn last_cases(cases: &mut Rows<Case>) -> Result<(), OutOfMemory> {
-    // an act that isn't built, a reset
-    case(cases, 0, 0, Act::Pend { req: req(0) })?;
-    case(cases, 0, 2, accept(0, 0, 0, Op::Reset, 0))?;
-    // destructed before the Shutdown, twice, without its digest, a device that there isn't
-    let early = Act::Destruct {
-        dev: DEV,
-        digest: Some(CONTENT),
-    };
-    case(cases, 31, 24, early)?;
-    let again = Act::Destruct {
-        dev: DEV,
-        digest: Some(CONTENT),
-    };
-    case(cases, 31, 26, again)?;
-    let other = Act::Destruct {
-        dev: DevId(1),
-        digest: None,
-    };
-    case(cases, 31, 25, other)?;
-    let untold = Act::Destruct {
-        dev: DEV,
-        digest: None,
-    };
-    case(cases, 32, 25, untold)?;
-    // a line out of order, another outcome, a Shutdown with a request open, with a line to do
-    case(cases, 33, 1, done(2, Outcome::Done))?;
-    case(cases, 34, 1, done(1, Outcome::Errno(Errno::Exists)))?;
-    case(cases, 35, 5, Act::Shutdown)?;
-    case(cases, 36, 0, Act::Shutdown)
+// How the machine takes an act after the first n entries.
+fn answer_after(
+    alloc: Global,
+    n: usize,
+    stamp: u128,
+    thread: u32,
+    deed: Deed,
+) -> Result<(), StepNo> {
+    let mut machine = played(alloc, n)?;
+    let act = act(alloc, deed)?;
+    let entry = Entry { stamp, thread, act };
+    machine.step(&entry)
 }
 
 #[test]
-fn each_guard_refuses(rt: HostRuntime) -> Result<(), StepNo> {
+fn first_path_is_a_complete_run(rt: HostRuntime) {
     let alloc = rt.alloc();
-    let entries = entries(alloc)?;
-    let mut cases = Rows::new(alloc);
-    message_cases(&mut cases)?;
-    request_cases(alloc, &mut cases)?;
-    last_cases(&mut cases)?;
-    for case in cases.into_vec() {
-        let mut machine = played(alloc, &entries, case.after)?;
-        let guard = case.guard;
-        let after = case.after;
-        let entry = Entry {
-            stamp: 100,
-            thread: 0,
-            act: case.act,
+    for (n, complete) in [(25, false), (26, true)] {
+        let is_complete = match played(alloc, n) {
+            Ok(machine) => machine.is_complete() == Ok(complete),
+            Err(_) => false,
         };
+        assert!(rt; is_complete, "after {n} entries");
+    }
+}
+
+#[test]
+fn each_guard_refuses(rt: HostRuntime) {
+    let alloc = rt.alloc();
+    for (guard, after, deed) in REFUSED {
         let refused = Err(StepNo::Illegal { guard, stamp: 100 });
-        assert!(rt; machine.step(&entry) == refused, "guard {guard} after {after} entries");
+        let answer = answer_after(alloc, after, 100, 0, deed);
+        assert!(rt; answer == refused, "guard {guard} after {after} entries");
     }
-    Ok(())
 }
 
 #[test]
-fn stamps_and_threads_are_in_order(rt: HostRuntime) -> Result<(), StepNo> {
+fn stamps_and_threads_are_in_order(rt: HostRuntime) {
     let alloc = rt.alloc();
-    let entries = entries(alloc)?;
     for (stamp, thread) in [(2, 0), (0, 0), (100, 1)] {
-        let mut machine = played(alloc, &entries, 2)?;
-        let entry = Entry {
-            stamp,
-            thread,
-            act: Act::Shutdown,
-        };
         let refused = Err(StepNo::Illegal { guard: 1, stamp });
-        assert!(rt; machine.step(&entry) == refused, "stamp {stamp}, thread {thread}");
+        let answer = answer_after(alloc, 2, stamp, thread, Deed::Shutdown);
+        assert!(rt; answer == refused, "stamp {stamp}, thread {thread}");
     }
-    Ok(())
 }
