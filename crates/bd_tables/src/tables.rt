@@ -233,8 +233,7 @@ mod tests {
     }
 
     fn park(tables: &mut Tables, rt: &impl Abort, request: Request, place: Place)
-        requires room { 0 < tables.old.room }
-        ensures room { tables.old.room ≤ tables.new.room + 1 }
+        requires { 0 < tables.old.room }
     {
         assert!(rt; !tables.keeps(request.id));
         tables.park(request, place);
