@@ -1,0 +1,262 @@
+-- The report of a run, as a function of its setup and its trace.
+use Rattle.std.specs.Prelude.{ℕ, suc, ◌+◌, ◌-◌, ◌*◌, ◌^◌, Bool, true, false, not, ◌&&◌, ◌==◌, if◌then◌else◌, List, [], ◌∷◌, ◌++◌, length, max, min, codes, decimal, flat_map, filter_map, count_by, sum_by, fold, Option, Some, None}
+use Rattle.std.specs.List.{list_any, range_with_len, slice_get}
+use Rattle.hex.specs.Hex.{encode_lower}
+use Rattle.bd_base.specs.Errno.{number_of}
+use Rattle.bd_base.specs.Word.{job_word, status_word, kind_word}
+use Rattle.bd_base.specs.declared.act.Act.{Act}
+use Rattle.bd_base.specs.declared.act.Act.TheVariants as acts
+use Rattle.bd_base.specs.declared.act.Entry.{Entry}
+use Rattle.bd_base.specs.declared.act.Outcome.{Outcome}
+use Rattle.bd_base.specs.declared.act.Outcome.TheVariants as outcomes
+use Rattle.bd_base.specs.declared.device.DevRow.{DevRow}
+use Rattle.bd_base.specs.declared.device.Kind.{Kind}
+use Rattle.bd_base.specs.declared.device.Kind.TheVariants.{Malloc}
+use Rattle.bd_base.specs.declared.id.ReqId.{ReqId}
+use Rattle.bd_base.specs.declared.job.Line.{Line}
+use Rattle.bd_base.specs.declared.job.Script.{Script}
+use Rattle.bd_base.specs.declared.request.Op.{Op}
+use Rattle.bd_base.specs.declared.request.Op.TheVariants as ops
+use Rattle.bd_base.specs.declared.request.Shown.{Shown}
+use Rattle.bd_base.specs.declared.request.Status.{Status}
+use Rattle.bd_base.specs.declared.request.Status.TheVariants.{Success, Failed, Aborted}
+use Rattle.bd_base.specs.declared.request.Way.{Way}
+use Rattle.bd_base.specs.declared.request.Way.TheVariants as ways
+use Rattle.bd_base.specs.declared.setup.Setup.{Setup}
+use Rattle.bd_base.specs.declared.setup.Waiting.{Waiting}
+
+-- ---- what the trace says
+
+-- the first thing that is found in an entry
+abbrev pub first_found : {X : Type 0} → (Entry → Option X) → List Entry → Option X
+first_found found trace = slice_get (filter_map found trace) 0
+
+-- the outcome of a line, if the act is that line's
+abbrev pub outcome_in_act : ℕ → Act → Option Outcome
+outcome_in_act number (acts.Script line outcome) = if line == number then Some outcome else None
+outcome_in_act number _ = None
+
+-- the outcome of a thread's line, if the entry is that line's
+abbrev pub outcome_in : ℕ → ℕ → Entry → Option Outcome
+outcome_in thread number entry = if entry.thread == thread then outcome_in_act number entry.act else None
+
+abbrev pub same_request : ReqId → ReqId → Bool
+same_request a b = (a.thread == b.thread) && (a.seq == b.seq)
+
+-- a request's status and what it showed, if the act is its completion
+abbrev pub completion_in_act : ReqId → Act → Option (Status × Option Shown)
+completion_in_act request (acts.Complete req status shown) = if same_request req request then Some (status, shown) else None
+completion_in_act request _ = None
+
+-- the same of an entry
+abbrev pub completion_in : ReqId → Entry → Option (Status × Option Shown)
+completion_in request entry = completion_in_act request entry.act
+
+-- the digest of a device's contents, if the act is its destruction and tells one
+abbrev pub digest_in_act : ℕ → Act → Option (List ℕ)
+digest_in_act device (acts.Destruct dev digest) = if dev.0 == device then digest else None
+digest_in_act device _ = None
+
+-- the same of an entry
+abbrev pub digest_in : ℕ → Entry → Option (List ℕ)
+digest_in device entry = digest_in_act device entry.act
+
+-- ---- lines of commands
+
+-- what a read showed
+abbrev pub shown_words : Option Shown → List ℕ
+shown_words None = []
+shown_words (Some shown) = codes " first " ++ encode_lower shown.first ++ codes " sha256 " ++ encode_lower shown.digest
+
+-- how a request ended; one without an end counts as skipped
+abbrev pub completion_words : Option (Status × Option Shown) → List ℕ
+completion_words None = codes "skipped"
+completion_words (Some completion) = status_word completion.0 ++ shown_words completion.1
+
+-- what became of a command; one without an outcome was skipped
+abbrev pub outcome_words : List Entry → Option Outcome → List ℕ
+outcome_words trace None = codes "skipped"
+outcome_words trace (Some outcomes.Done) = codes "ok"
+outcome_words trace (Some (outcomes.Errno errno)) = codes "errno " ++ decimal (number_of errno)
+outcome_words trace (Some (outcomes.BusyOpen count)) = codes "errno 16 open " ++ decimal count
+outcome_words trace (Some (outcomes.Accepted req)) = completion_words (first_found (completion_in req) trace)
+
+-- a thread's command: its line number, thread, word and what became of it
+abbrev pub job_line : List Entry → ℕ → Line → List ℕ
+job_line trace thread line =
+    codes "job " ++ decimal line.number ++ codes " " ++ decimal thread ++ codes " " ++ job_word line.job ++ codes " " ++
+    outcome_words trace (first_found (outcome_in thread line.number) trace) ++ codes "\n"
+
+-- a line's text where the line has this number
+abbrev pub job_line_if : List Entry → ℕ → ℕ → Line → List ℕ
+job_line_if trace number thread line = if line.number == number then job_line trace thread line else []
+
+-- the command with this number in a script
+abbrev pub script_lines : List Entry → ℕ → Script → List ℕ
+script_lines trace number script = flat_map (job_line_if trace number script.thread) script.lines
+
+-- the command with this number in any script
+abbrev pub lines_numbered : List Script → List Entry → ℕ → List ℕ
+lines_numbered scripts trace number = flat_map (script_lines trace number) scripts
+
+-- the greatest line number of a script
+abbrev pub greatest_in : Script → ℕ
+greatest_in script = fold (λ greatest line. max greatest line.number) 0 script.lines
+
+-- the greatest line number of all
+abbrev pub greatest_number : List Script → ℕ
+greatest_number scripts = fold (λ greatest script. max greatest (greatest_in script)) 0 scripts
+
+-- the commands in rising order of line number
+abbrev pub job_lines : List Script → List Entry → List ℕ
+job_lines scripts trace = flat_map (lines_numbered scripts trace) (range_with_len 0 (greatest_number scripts + 1))
+
+-- ---- lines of waiting commands
+
+abbrev pub waiting_line : Waiting → List ℕ
+waiting_line waiting = codes "waiting " ++ decimal waiting.index ++ codes " " ++ waiting.method ++ codes " " ++ waiting.base ++ codes "\n"
+
+-- ---- lines of threads
+
+-- whether a thread's entries are meant; with no thread those of all are
+abbrev pub is_meant : Option ℕ → ℕ → Bool
+is_meant None thread = true
+is_meant (Some meant) thread = thread == meant
+
+abbrev pub is_accept : Act → Bool
+is_accept (acts.Accept req dev handle op lba count) = true
+is_accept _ = false
+
+abbrev pub is_refusal : Act → Bool
+is_refusal (acts.Refuse handle op lba count errno) = true
+is_refusal _ = false
+
+abbrev pub is_status : Status → Status → Bool
+is_status Success Success = true
+is_status Failed Failed = true
+is_status Aborted Aborted = true
+is_status _ _ = false
+
+-- a completion with this status
+abbrev pub is_end : Status → Act → Bool
+is_end status (acts.Complete req ended shown) = is_status status ended
+is_end status _ = false
+
+-- how many of a thread's acts, or of all, pass a test
+abbrev pub count_acts : (Act → Bool) → Option ℕ → List Entry → ℕ
+count_acts test thread trace = count_by (λ entry. is_meant thread entry.thread && test entry.act) trace
+
+-- how many requests of a thread, or of all, were accepted, and how they ended
+abbrev pub tally_words : Option ℕ → List Entry → List ℕ
+tally_words thread trace =
+    codes " accepted " ++ decimal (count_acts is_accept thread trace) ++
+    codes " success " ++ decimal (count_acts (is_end Success) thread trace) ++
+    codes " failed " ++ decimal (count_acts (is_end Failed) thread trace) ++
+    codes " aborted " ++ decimal (count_acts (is_end Aborted) thread trace)
+
+-- a thread's counts
+abbrev pub thread_line : List Entry → ℕ → List ℕ
+thread_line trace thread =
+    codes "thread " ++ decimal thread ++ tally_words (Some thread) trace ++
+    codes " refused " ++ decimal (count_acts is_refusal (Some thread) trace) ++ codes "\n"
+
+-- a script of this thread with a command
+abbrev pub is_busy_script : ℕ → Script → Bool
+is_busy_script thread script = (script.thread == thread) && not (length script.lines == 0)
+
+-- a thread's counts, where it has a command
+abbrev pub thread_line_if : Setup → List Entry → ℕ → List ℕ
+thread_line_if setup trace thread = if list_any (is_busy_script thread) setup.scripts then thread_line trace thread else []
+
+-- the counts of each thread that has a command
+abbrev pub thread_lines : Setup → List Entry → List ℕ
+thread_lines setup trace = flat_map (thread_line_if setup trace) (range_with_len 0 setup.threads)
+
+-- ---- lines of devices
+
+-- a read for the way of reads, a write for that of writes
+abbrev pub is_way : Way → Op → Bool
+is_way ways.Read ops.Read = true
+is_way ways.Write (ops.Write fill) = true
+is_way _ _ = false
+
+-- a request's completion with success
+abbrev pub is_success_of : ReqId → Act → Bool
+is_success_of request (acts.Complete req Success shown) = same_request req request
+is_success_of request _ = false
+
+-- whether a request completed with success
+abbrev pub has_succeeded : List Entry → ReqId → Bool
+has_succeeded trace request = list_any (λ entry. is_success_of request entry.act) trace
+
+-- the blocks of a read or write, if the act submits it on the device and it completed with success
+abbrev pub moved_in_act : List Entry → ℕ → Way → Act → Option ℕ
+moved_in_act trace device way (acts.Accept req dev handle op lba count) =
+    if (dev.0 == device) && is_way way op && has_succeeded trace req then Some count else None
+moved_in_act trace device way _ = None
+
+-- the same of an entry
+abbrev pub moved_in_entry : List Entry → ℕ → Way → Entry → Option ℕ
+moved_in_entry trace device way entry = moved_in_act trace device way entry.act
+
+-- the blocks of each read or write that was submitted on the device and completed with success
+abbrev pub moved : List Entry → ℕ → Way → List ℕ
+moved trace device way = filter_map (moved_in_entry trace device way) trace
+
+-- the bytes of so many blocks each, capped at 2^64 - 1
+abbrev pub bytes_in : ℕ → List ℕ → ℕ
+bytes_in size counts = min (sum_by (λ count. count * size) counts) (2 ^ 64 - 1)
+
+-- the digest of a malloc device's contents, where its destruction told it
+abbrev pub digest_words : Option (List ℕ) → List ℕ
+digest_words None = []
+digest_words (Some digest) = codes " sha256 " ++ encode_lower digest
+
+abbrev pub is_malloc : Kind → Bool
+is_malloc Malloc = true
+is_malloc _ = false
+
+-- a malloc device's contents at its end; nothing for another
+abbrev pub contents_words : List Entry → ℕ → Kind → List ℕ
+contents_words trace device kind = if is_malloc kind then digest_words (first_found (digest_in device) trace) else []
+
+-- a device's name, kind and size
+abbrev pub device_size_words : DevRow → List ℕ
+device_size_words row =
+    codes "device " ++ row.name ++ codes " " ++ kind_word row.kind ++
+    codes " blocks " ++ decimal row.blocks ++ codes " size " ++ decimal row.size
+
+-- counts of requests and of bytes, of reads and of writes
+abbrev pub counts_words : ℕ → ℕ → ℕ → ℕ → List ℕ
+counts_words reads writes read_bytes write_bytes =
+    codes " reads " ++ decimal reads ++ codes " writes " ++ decimal writes ++
+    codes " read_bytes " ++ decimal read_bytes ++ codes " write_bytes " ++ decimal write_bytes
+
+-- how much was read and written with success, in requests and in bytes
+abbrev pub moved_words : List Entry → ℕ → ℕ → List ℕ
+moved_words trace device size =
+    counts_words
+    (length (moved trace device ways.Read)) (length (moved trace device ways.Write))
+    (bytes_in size (moved trace device ways.Read)) (bytes_in size (moved trace device ways.Write))
+
+-- a device's size, and how much was read and written with success
+abbrev pub device_line : List Entry → ℕ → DevRow → List ℕ
+device_line trace device row =
+    device_size_words row ++ moved_words trace device row.size ++ contents_words trace device row.kind ++ codes "\n"
+
+-- the devices from this number on
+abbrev pub device_lines : List Entry → ℕ → List DevRow → List ℕ
+device_lines trace device [] = []
+device_lines trace device (row ∷ rows) = device_line trace device row ++ device_lines trace (device + 1) rows
+
+-- ---- the whole
+
+-- the counts of all threads together
+abbrev pub end_line : List Entry → List ℕ
+end_line trace = codes "end" ++ tally_words None trace ++ codes "\n"
+
+-- commands by line number, waiting commands, threads, devices, and the end
+abbrev pub report_of : Setup → List Entry → List ℕ
+report_of setup trace =
+    job_lines setup.scripts trace ++ flat_map waiting_line setup.waiting ++ thread_lines setup trace ++
+    device_lines trace 0 setup.devices ++ end_line trace

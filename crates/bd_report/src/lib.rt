@@ -1,0 +1,4 @@
+//! The report of a run.
+#![tactic(auto)]
+
+pub mod report;

@@ -1,0 +1,77 @@
+-- How pieces of a file, and of an output, come together.
+use Rattle.std.proofs.Common.{◌≡◌, ℕ, ◌+◌, ◌-◌, ◌<◌, ◌≤◌, ◌⊎◌, inl, inr, List, [], ◌∷◌, ◌++◌, length, take, drop, Option, None, Some, refl, sym, ◌∙◌, ap, subst, append_assoc, length-append, arith, min}
+use Rattle.std.proofs.Math.Seq.{take-add}
+use Rattle.std.proofs.lemmas.List.{length-take, length-drop, append-nil, take_all, take-take}
+use Rattle.bd_outside.specs.Count.{Rises}
+use Rattle.bd_outside.specs.File.{Told, Untold, NoFile, Content, GivesPiece, ReadsAt}
+use Rattle.bd_outside.specs.Sink.{Appends}
+use Rattle.bd_top.specs.Files.{IsRead, IsReadOf}
+
+-- these bytes are the front of the file, where it is told
+abbrev pub IsFront : Told → List ℕ → Type 0
+IsFront Untold all = Unit {0}
+IsFront NoFile all = Unit {0}
+IsFront (Content file) all = all ≡ take (length all) file
+
+pub rises_from : (a b c : ℕ) → a ≤ b → Rises b c → Rises a c
+rises_from a b c le (inl lt) = inl (omega arith)
+rises_from a b c le (inr e) = inr e
+
+front_more_in : (file all chunk : List ℕ) (n m : ℕ) → all ≡ take (length all) file → ReadsAt file (length all) n chunk → m ≤ n → all ++ take m chunk ≡ take (length (all ++ take m chunk)) file
+front_more_in file all chunk n m front given le =
+    let same : take m chunk ≡ take m (drop (length all) file) = sym (take-take m n chunk le) ∙ ap (take m) given.same ∙ take-take m n (drop (length all) file) le in
+    let inside : m ≤ length (drop (length all) file) = omega (arith, given.inside) in
+    let count : length (take m chunk) ≡ m = ap length same ∙ omega (arith, length-take m (drop (length all) file)) in
+    let total : length (all ++ take m chunk) ≡ length all + m = omega (arith, length-append all (take m chunk), count) in
+    ap (λ z. z ++ take m chunk) front ∙ ap (λ z. take (length all) file ++ z) same ∙ sym (take-add (length all) m file) ∙ sym (ap (λ k. take k file) total)
+
+front_more_at : (t : Told) (all chunk : List ℕ) (n m : ℕ) → IsFront t all → GivesPiece t (length all) n chunk → m ≤ n → IsFront t (all ++ take m chunk)
+front_more_at Untold all chunk n m front given le = tt
+front_more_at NoFile all chunk n m front given le = tt
+front_more_at (Content file) all chunk n m front given le = front_more_in file all chunk n m front given le
+
+-- a piece read behind a front, or the front of such a piece
+pub front_more : (t u : Told) (all chunk : List ℕ) (n m : ℕ) → u ≡ t → IsFront t all → GivesPiece u (length all) n chunk → m ≤ n → IsFront t (all ++ take m chunk)
+front_more t u all chunk n m e front given le =
+    let P : Told → Type 0 = λ x. GivesPiece x (length all) n chunk in
+    front_more_at t all chunk n m front (subst P e given) le
+
+front_end_at : (t : Told) (all chunk : List ℕ) (n m : ℕ) → IsFront t all → GivesPiece t (length all) n chunk → n ≡ 0 → m ≤ n → 0 < length chunk → length all ≤ 8388608 → IsRead t (all ++ take m chunk)
+front_end_at Untold all chunk n m front given zero le some short = omega (arith, length-append all (take m chunk), length-take m chunk)
+front_end_at NoFile all chunk n m front given zero le some short = given
+front_end_at (Content file) all chunk n m front given zero le some short =
+    let nothing : m ≡ 0 = omega arith in
+    let P : ℕ → Type 0 = λ k. IsReadOf file (all ++ take k chunk) in
+    let Q : List ℕ → Type 0 = IsReadOf file in
+    let read : IsReadOf file all = record { front = front; short = omega arith; whole = λ _. front ∙ take_all (length all) file (given.end_only zero some) } in
+    subst P (sym nothing) (subst Q (sym (append-nil all)) read)
+
+-- the file's end
+pub front_end : (t u : Told) (all chunk : List ℕ) (n m : ℕ) → u ≡ t → IsFront t all → GivesPiece u (length all) n chunk → n ≡ 0 → m ≤ n → 0 < length chunk → length all ≤ 8388608 → IsRead t (all ++ take m chunk)
+front_end t u all chunk n m e front given zero le some short =
+    let P : Told → Type 0 = λ x. GivesPiece x (length all) n chunk in
+    front_end_at t all chunk n m front (subst P e given) zero le some short
+
+-- a front that is longer than a file may be, of a file that some piece came from
+pub front_over : (t u : Told) (all chunk : List ℕ) (at n : ℕ) → u ≡ t → GivesPiece u at n chunk → IsFront t all → length all ≡ 8388609 → IsRead t all
+front_over t u all chunk at n e given front size = front_over_at t all chunk at n (let P : Told → Type 0 = λ x. GivesPiece x at n chunk in subst P e given) front size
+  where
+    front_over_at : (t : Told) (all chunk : List ℕ) (at n : ℕ) → GivesPiece t at n chunk → IsFront t all → length all ≡ 8388609 → IsRead t all
+    front_over_at Untold all chunk at n given front size = omega arith
+    front_over_at NoFile all chunk at n given front size = given
+    front_over_at (Content file) all chunk at n given front size = record { front = front; short = omega arith; whole = λ le. absurd (omega (arith, le)) }
+
+pub appends_more : (a b c : Option (List ℕ)) (xs ys : List ℕ) → Appends a b xs → Appends b c ys → Appends a c (xs ++ ys)
+appends_more None None c xs ys p q = q
+appends_more None (Some b) c xs ys p q = absurd (cc)
+appends_more (Some a) None c xs ys p q = absurd (cc)
+appends_more (Some a) (Some b) c xs ys p q =
+    let e : b ≡ a ++ xs = cc in q ∙ ap (λ z. Some (z ++ ys)) e ∙ ap Some (append_assoc a xs ys)
+
+-- the next piece of the same bytes, of which `&bytes[i..]` was handed out
+pub appends_next : (a b c : Option (List ℕ)) (bytes : List ℕ) (i n : ℕ) → Appends a b (take i bytes) → Appends b c (take n (take (length bytes - i) (drop i bytes))) → Appends a c (take (i + n) bytes)
+appends_next a b c bytes i n p q =
+    let whole : take (length bytes - i) (drop i bytes) ≡ drop i bytes = take_all (length bytes - i) (drop i bytes) (omega (arith, length-drop i bytes)) in
+    let Q : List ℕ → Type 0 = λ xs. Appends b c (take n xs) in
+    let P : List ℕ → Type 0 = λ xs. Appends a c xs in
+    subst P (sym (take-add i n bytes)) (appends_more a b c (take i bytes) (take n (drop i bytes)) p (subst Q whole q))

@@ -1,0 +1,8 @@
+pub mod Admission
+pub mod Config
+pub mod Fault
+pub mod Files
+pub mod Log
+pub mod Run
+pub mod Script
+pub mod Words

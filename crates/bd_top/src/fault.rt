@@ -1,0 +1,57 @@
+//! Why a run isn't made.
+ghost use Rattle.std.specs.Prelude.{◌≡◌};
+ghost use Rattle.bd_top.specs.Fault.{status_of};
+
+use bd_base::Name;
+use std::error::Error;
+use std::fmt;
+
+/// Why a run isn't made, or its report isn't written whole.
+#[derive(Debug, Drop)]
+pub enum Fault {
+    /// The words are outside the command line's grammar.
+    Usage,
+    /// There is no file of this name.
+    NoFile(Name),
+    /// The host failed to read this file.
+    ReadFault(Name),
+    /// The output failed; what was written before is a front of the report.
+    WriteFault,
+    /// The configuration is outside the form that is read today (0).
+    ConfigShape(u32),
+    /// The script is outside the grammar that is read today (0).
+    JobText(u32),
+    OutOfMemory,
+}
+
+impl Fault {
+    /// The exit status: 1 for a file's content, 2 for the words, 3 for the outside, 4 for want of
+    /// memory (this project's choice).
+    pub fn status(&self) -> u8
+        ensures { result ≡ status_of self.now }
+    {
+        match self {
+            Fault::ConfigShape(_) | Fault::JobText(_) => 1,
+            Fault::Usage => 2,
+            Fault::NoFile(_) | Fault::ReadFault(_) | Fault::WriteFault => 3,
+            Fault::OutOfMemory => 4,
+        }
+    }
+}
+
+/// The line that the program prints on standard error.
+impl fmt::Display for Fault {
+    fn fmt<W: fmt::Write>(&self, f: &mut fmt::Formatter<W>) -> fmt::Result {
+        match self {
+            Fault::Usage => write!(f, "usage: bdevrun run CONFIG JOBS"),
+            Fault::NoFile(name) => write!(f, "no file: {name}"),
+            Fault::ReadFault(name) => write!(f, "read fault: {name}"),
+            Fault::WriteFault => write!(f, "write fault"),
+            Fault::ConfigShape(place) => write!(f, "configuration shape: {place}"),
+            Fault::JobText(line) => write!(f, "script line {line}"),
+            Fault::OutOfMemory => write!(f, "out of memory"),
+        }
+    }
+}
+
+impl Error for Fault {}

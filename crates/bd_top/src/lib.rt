@@ -1,0 +1,17 @@
+//! The top call: two files in, a report out.
+#![tactic(auto)]
+
+mod admission;
+mod config;
+mod fault;
+mod files;
+mod log;
+mod player;
+mod script;
+mod store;
+mod top;
+mod word;
+mod words;
+
+pub use fault::Fault;
+pub use top::{Ran, run};
