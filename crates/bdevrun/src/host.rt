@@ -1,0 +1,127 @@
+//! Files of the system, which tell nothing to a contract.
+ghost use Rattle.std.specs.Prelude.{◌≤◌, length, IfOk};
+
+use bd_outside::{Host, HostNo, MemDisk};
+use std::alloc::Global;
+use std::fs;
+use std::io::{self, ErrorKind, Read, Seek, SeekFrom};
+use std::rt::Files;
+
+// A file that was opened, and the byte at which its next read begins.
+#[derive(Drop)]
+struct OpenedFile<F: Drop> {
+    // None where there was no memory for it: then the file isn't kept.
+    name: Option<String>,
+    file: F,
+    at: u64,
+}
+
+impl<F: Read + Seek + Drop> OpenedFile<F> {
+    // Reads from byte `at` on. Reading on needs no seek, so that a pipe can be read too.
+    fn read(&mut self, at: u64, to: &mut [u8]) -> io::Result<usize>
+        ensures { IfOk result (λ n. n ≤ length to.old) }
+    {
+        if self.at != at {
+            self.at = self.file.seek(SeekFrom::Start(at))?;
+        }
+        let n = self.file.read(to)?;
+        self.at = self.at.saturating_add(n as u64);
+        Ok(n)
+    }
+}
+
+// The files of a runtime. The one that was read last stays open.
+#[derive(Drop)]
+struct OpenFiles<'a, R: Files> {
+    alloc: Global,
+    rt: &'a R,
+    last: Option<OpenedFile<R::File>>,
+}
+
+impl<R: Files> OpenFiles<'_, R> {
+    // The file of a name: the last one, or else opened anew.
+    fn open(&mut self, name: &str) -> io::Result<OpenedFile<R::File>> {
+        if let Some(opened) = self.last.take() {
+            if opened.name.as_ref().is_some_and(|n| n.as_str() == name) {
+                return Ok(opened);
+            }
+        }
+        Ok(OpenedFile {
+            file: fs::open(self.rt, name)?,
+            name: String::from_str(self.alloc, name).ok(),
+            at: 0,
+        })
+    }
+
+    fn read(&mut self, name: &str, at: u64, to: &mut [u8]) -> io::Result<usize>
+        ensures { IfOk result (λ n. n ≤ length to.old) }
+    {
+        let mut opened = self.open(name)?;
+        let n = opened.read(at, to)?;
+        self.last = Some(opened);
+        Ok(n)
+    }
+}
+
+/// The files of a runtime as a host.
+#[derive(Drop)]
+pub(crate) struct SystemHost<'a, R: Files> {
+    files: OpenFiles<'a, R>,
+    faults: u64,
+    absences: u64,
+}
+
+impl<'a, R: Files> SystemHost<'a, R> {
+    /// A host with no file open and both counts at 0.
+    pub(crate) fn new(alloc: Global, rt: &'a R) -> SystemHost<'a, R> {
+        let files = OpenFiles {
+            alloc,
+            rt,
+            last: None,
+        };
+        SystemHost {
+            files,
+            faults: 0,
+            absences: 0,
+        }
+    }
+}
+
+impl<R: Files> Host for SystemHost<'_, R> {
+    ghost use Rattle.std.specs.Prelude.{None};
+    ghost use Rattle.bd_outside.specs.File.{Untold};
+
+    type Disk = MemDisk;
+
+    ghost faults = { λ h. h.faults };
+
+    ghost absences = { λ h. h.absences };
+
+    ghost told = { λ h name. Untold };
+
+    ghost openings = { λ h. None };
+
+    /// Absent where the system says that there is no such file. Every other failure, as of a
+    /// folder, a path through a file or a file that may not be read, is Failed.
+    fn read_at(&mut self, name: &str, at: u64, to: &mut [u8]) -> Result<usize, HostNo> {
+        let no = match self.files.read(name, at, to) {
+            Ok(n) => return Ok(n),
+            Err(no) => no.kind(),
+        };
+        if no == ErrorKind::NotFound {
+            self.absences = self.absences.saturating_add(1);
+            Err(HostNo::Absent)
+        } else {
+            self.faults = self.faults.saturating_add(1);
+            Err(HostNo::Failed)
+        }
+    }
+
+    /// Opens nothing: no device that is built today has a disk. It always answers Failed.
+    fn open_disk(&mut self, _name: &str, _block_size: u32) -> Result<MemDisk, HostNo> {
+        self.faults = self.faults.saturating_add(1);
+        Err(HostNo::Failed)
+    }
+
+    fn close_disk(&mut self, _name: &str, _disk: MemDisk) {}
+}

@@ -1,0 +1,81 @@
+//! Plays a job script over the block devices of a configuration: `bdevrun run CONFIG JOBS`.
+#![tactic(auto)]
+
+mod clock;
+mod host;
+mod output;
+
+use bd_outside::OpenGate;
+use bd_top::{Fault, run};
+use clock::SystemClock;
+use host::SystemHost;
+use output::Output;
+use std::env;
+use std::io::{self, ErrorKind};
+use std::process::ExitCode;
+use std::rt::Runtime;
+
+const VERSION: &str = "bdevrun 0.1.0";
+
+const HELP: &str = "\
+bdevrun: plays a job script over block devices and reports what they did
+
+usage: bdevrun run CONFIG JOBS    reads the configuration CONFIG (JSON) and the
+                                  script JOBS, and prints the report
+       bdevrun --help             prints this
+       bdevrun --version          prints the version
+
+A configuration, a script, a report and every fault are described in the file
+docs/FORMATS.md of the repository.";
+
+// The words of the command line behind the program's name. One that isn't text is a faulty usage.
+fn words<R: Runtime + AllocGlobal>(rt: &R) -> Result<Vec<String>, Fault> {
+    let mut args = match env::args(rt) {
+        Ok(args) => args,
+        Err(e) if e.kind() == ErrorKind::OutOfMemory => return Err(Fault::OutOfMemory),
+        Err(_) => return Err(Fault::Usage),
+    };
+    let _program = args.next();
+    match args.collect(rt.alloc()) {
+        Ok(words) => Ok(words),
+        Err(_) => Err(Fault::OutOfMemory),
+    }
+}
+
+// Prints a text on standard output.
+fn print<R: Runtime>(rt: &R, text: &str) -> Result<u8, Fault> {
+    match println!(rt; "{text}") {
+        Ok(()) => Ok(0),
+        Err(_) => Err(Fault::WriteFault),
+    }
+}
+
+// Plays the script that the words name, with the files, the output and the clock of the system.
+fn play<R: Runtime + AllocGlobal>(rt: &R, words: &[String]) -> Result<u8, Fault> {
+    let mut host = SystemHost::new(rt.alloc(), rt);
+    let mut out = Output::new(io::writer(rt));
+    let clock = SystemClock::new(rt);
+    let ran = run(rt.alloc(), words, &mut host, &mut out, &clock, &OpenGate)?;
+    Ok(ran.status)
+}
+
+// Does what the command line asks for, and gives the status to end with.
+fn serve<R: Runtime + AllocGlobal>(rt: &R) -> Result<u8, Fault> {
+    let words = words(rt)?;
+    match words.as_slice() {
+        [word] if word.as_str() == "--help" => print(rt, HELP),
+        [word] if word.as_str() == "--version" => print(rt, VERSION),
+        words => play(rt, words),
+    }
+}
+
+fn main(rt: HostRuntime) -> ExitCode {
+    match serve(&rt) {
+        Ok(status) => ExitCode::from(status),
+        Err(fault) => {
+            // Where standard error is closed too, the status alone tells of the fault.
+            let _ = eprintln!(rt; "{fault}");
+            ExitCode::from(fault.status())
+        }
+    }
+}
