@@ -9,6 +9,8 @@ mod log;
 mod player;
 mod script;
 mod store;
+#[cfg(test)]
+mod tests;
 mod top;
 mod word;
 mod words;

@@ -8,6 +8,6 @@ returns-in-Err-Shape-clause-outside g c = λ _. record {
   read = c.in-Ok.ensures.read;
   outside =
       λ row means.
-          let P : List ℕ → Type 0 = λ bytes. IsConfig bytes row in
-          c.read_config.ensures.shape (c.in-Err-Shape.is ∙ ap Err c.in-Err-Shape.field-0-is) row (subst P (sym c.as_slice.ensures) means);
+      let P : List ℕ → Type 0 = λ bytes. IsConfig bytes row in
+      c.read_config.ensures.shape (c.in-Err-Shape.is ∙ ap Err c.in-Err-Shape.field-0-is) row (subst P (sym c.as_slice.ensures) means);
 }
