@@ -1,5 +1,5 @@
 -- What is read of a file, and what is written of a text.
-use Rattle.std.specs.Prelude.{◌≡◌, ℕ, ◌<◌, ◌≤◌, ◌⊎◌, List, length, take, Option}
+use Rattle.std.specs.Prelude.{◌≡◌, ℕ, ◌≤◌, List, length, take, Option}
 use Rattle.bd_outside.specs.File.{Told, Untold, NoFile, Content}
 use Rattle.bd_outside.specs.Sink.{Appends}
 

@@ -115,116 +115,130 @@ fn refused_submissions(rt: HostRuntime) -> Result<(), Fail> {
         ),
     ] {
         let end = played(rt.alloc(), config, script)?;
-        assert!(rt; end.fault.is_empty(), "{script}");
-        assert!(rt; end.text.as_slice() == report.as_bytes(), "{script}");
+        assert!(rt; end.fault.is_empty());
+        assert!(rt; end.text.as_slice() == report.as_bytes());
     }
     Ok(())
 }
 
+// A run that ends with a fault, its line and what was written before.
+struct Case {
+    words: &'static [&'static str],
+    config: &'static str,
+    script: &'static str,
+    // the number of the host's call that fails; 0 for none
+    fails: u64,
+    room: u64,
+    fault: &'static str,
+    text: &'static str,
+}
+
+const CASES: [Case; 10] = [
+    Case {
+        words: &["run", "c", "j"],
+        config: CONFIG,
+        script: SCRIPT,
+        fails: 0,
+        room: 10,
+        fault: "write fault, status 3",
+        text: "job 1 0 op",
+    },
+    Case {
+        words: &["run", "c"],
+        config: CONFIG,
+        script: SCRIPT,
+        fails: 0,
+        room: 100,
+        fault: "usage: bdevrun run CONFIG JOBS, status 2",
+        text: "",
+    },
+    Case {
+        words: &["run", "c", "-j"],
+        config: CONFIG,
+        script: SCRIPT,
+        fails: 0,
+        room: 100,
+        fault: "usage: bdevrun run CONFIG JOBS, status 2",
+        text: "",
+    },
+    Case {
+        words: &["run", "x", "j"],
+        config: CONFIG,
+        script: SCRIPT,
+        fails: 0,
+        room: 100,
+        fault: "no file: x, status 3",
+        text: "",
+    },
+    Case {
+        words: &["run", "c", "x"],
+        config: CONFIG,
+        script: SCRIPT,
+        fails: 0,
+        room: 100,
+        fault: "no file: x, status 3",
+        text: "",
+    },
+    Case {
+        words: &["run", "c", "j"],
+        config: CONFIG,
+        script: SCRIPT,
+        fails: 1,
+        room: 100,
+        fault: "read fault: c, status 3",
+        text: "",
+    },
+    Case {
+        words: &["run", "c", "j"],
+        config: CONFIG,
+        script: SCRIPT,
+        fails: 3,
+        room: 100,
+        fault: "read fault: j, status 3",
+        text: "",
+    },
+    Case {
+        words: &["run", "c", "j"],
+        config: "{",
+        script: SCRIPT,
+        fails: 0,
+        room: 100,
+        fault: "configuration shape: 0, status 1",
+        text: "",
+    },
+    Case {
+        words: &["run", "c", "j"],
+        config: CONFIG,
+        script: "0 open h Malloc0 w\n0 wri",
+        fails: 0,
+        room: 100,
+        fault: "script line 0, status 1",
+        text: "",
+    },
+    Case {
+        words: &["run", "c", "j"],
+        config: CONFIG,
+        script: "0 wait\r",
+        fails: 0,
+        room: 100,
+        fault: "script line 0, status 1",
+        text: "",
+    },
+];
+
 #[test]
 fn faults(rt: HostRuntime) -> Result<(), Fail> {
-    let words: [&str; 3] = ["run", "c", "j"];
-    for (words, config, script, fails, room, fault, text) in [
-        (
-            words.as_slice(),
-            CONFIG,
-            SCRIPT,
-            [0].as_slice(),
-            10u64,
-            "write fault, status 3",
-            "job 1 0 op",
-        ),
-        (
-            ["run", "c"].as_slice(),
-            CONFIG,
-            SCRIPT,
-            [0].as_slice(),
-            100,
-            "usage: bdevrun run CONFIG JOBS, status 2",
-            "",
-        ),
-        (
-            ["run", "c", "-j"].as_slice(),
-            CONFIG,
-            SCRIPT,
-            [0].as_slice(),
-            100,
-            "usage: bdevrun run CONFIG JOBS, status 2",
-            "",
-        ),
-        (
-            ["run", "x", "j"].as_slice(),
-            CONFIG,
-            SCRIPT,
-            [0].as_slice(),
-            100,
-            "no file: x, status 3",
-            "",
-        ),
-        (
-            ["run", "c", "x"].as_slice(),
-            CONFIG,
-            SCRIPT,
-            [0].as_slice(),
-            100,
-            "no file: x, status 3",
-            "",
-        ),
-        (
-            words.as_slice(),
-            CONFIG,
-            SCRIPT,
-            [1].as_slice(),
-            100,
-            "read fault: c, status 3",
-            "",
-        ),
-        (
-            words.as_slice(),
-            CONFIG,
-            SCRIPT,
-            [3].as_slice(),
-            100,
-            "read fault: j, status 3",
-            "",
-        ),
-        (
-            words.as_slice(),
-            "{",
-            SCRIPT,
-            [0].as_slice(),
-            100,
-            "configuration shape: 0, status 1",
-            "",
-        ),
-        (
-            words.as_slice(),
-            CONFIG,
-            "0 open h Malloc0 w\n0 wri",
-            [0].as_slice(),
-            100,
-            "script line 0, status 1",
-            "",
-        ),
-        (
-            words.as_slice(),
-            CONFIG,
-            "0 wait\r",
-            [0].as_slice(),
-            100,
-            "script line 0, status 1",
-            "",
-        ),
-    ] {
+    for case in &CASES {
+        let fails = [case.fails];
         let outside = Outside {
-            config,
-            script,
-            fails,
-            room,
+            config: case.config,
+            script: case.script,
+            fails: &fails,
+            room: case.room,
         };
-        let end = outcome_of(rt.alloc(), words, &outside)?;
-        assert!(rt; end.fault.as_str() == fault, "{fault}");
-        assert!(rt; end.text.as_slice() == text.as_bytes(), "{fault}");
+        let end = outcome_of(rt.alloc(), case.words, &outside)?;
+        assert!(rt; end.fault.as_bytes() == case.fault.as_bytes());
+        assert!(rt; end.text.as_slice() == case.text.as_bytes());
     }
     Ok(())
 }

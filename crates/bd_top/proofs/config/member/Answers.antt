@@ -1,4 +1,4 @@
-use Rattle.std.proofs.Common.{◌≡◌, ◌∙◌, sym}
+use Rattle.std.proofs.Common.{◌∙◌, sym}
 use Rattle.bd_top.proofs.ConfigLemmas.{member_where, member_nowhere}
 use Rattle.bd_top.proofs.config.member.Goals as goal
 

@@ -1,4 +1,4 @@
-use Rattle.std.proofs.Common.{◌≡◌, ◌∙◌, sym, ap, rules, arith}
+use Rattle.std.proofs.Common.{◌∙◌, sym, ap}
 use Rattle.std.specs.Prelude.{option_and_then, length}
 use Rattle.bd_top.specs.Config.{only}
 use Rattle.bd_top.proofs.ConfigLemmas.{only_other}

@@ -1,4 +1,4 @@
-use Rattle.std.proofs.Common.{◌≡◌, ◌∙◌, ◌≤◌, ◌<◌, ◌+◌, sym, ap, arith, List, ℕ, length, length-append}
+use Rattle.std.proofs.Common.{◌≡◌, ◌∙◌, ◌≤◌, ◌+◌, ap, arith, length, length-append}
 use Rattle.std.proofs.lemmas.List.{length-take}
 use Rattle.bd_top.proofs.FileLemmas.{front_more, front_end, front_over}
 use Rattle.bd_top.proofs.files.read_file.Goals as goal

@@ -1,4 +1,4 @@
-use Rattle.std.proofs.Common.{◌≡◌, ◌≤◌, ◌-◌, length, take}
+use Rattle.std.proofs.Common.{◌≤◌, ◌-◌, length, take}
 use Rattle.bd_outside.specs.Sink.{Appends}
 use Rattle.bd_top.proofs.files.write_all.Given as goal
 

@@ -1,4 +1,4 @@
-use Rattle.std.proofs.Common.{◌≡◌, ◌∙◌, ◌+◌, sym, arith, subst, List}
+use Rattle.std.proofs.Common.{◌∙◌, ◌+◌, sym, arith, subst, List}
 use Rattle.bd_base.specs.declared.job.Line.{Line}
 use Rattle.bd_top.proofs.ScriptLemmas.{HasRead, begins, reads_bare, reads_command}
 use Rattle.bd_top.proofs.script.read_script.Goals as goal

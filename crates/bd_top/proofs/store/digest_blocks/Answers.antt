@@ -1,4 +1,4 @@
-use Rattle.std.proofs.Common.{◌≡◌, ◌∙◌, ◌++◌, sym, ap, subst, arith, List, ℕ, take}
+use Rattle.std.proofs.Common.{◌∙◌, ◌++◌, sym, ap, subst, arith, List, ℕ, take}
 use Rattle.std.specs.List.{concat}
 use Rattle.sha2.specs.Hashers.{Holds256}
 use Rattle.bd_top.proofs.StoreLemmas.{concat-next}

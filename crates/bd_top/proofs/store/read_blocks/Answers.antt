@@ -1,4 +1,4 @@
-use Rattle.std.proofs.Common.{◌≡◌, ◌∙◌, ◌++◌, sym, ap, arith}
+use Rattle.std.proofs.Common.{◌∙◌, ◌++◌, sym, ap, arith}
 use Rattle.bd_top.proofs.StoreLemmas.{concat-next}
 use Rattle.bd_top.proofs.store.read_blocks.Goals as goal
 
