@@ -40,6 +40,7 @@ outcome_in_act number _ = None
 abbrev pub outcome_in : ℕ → ℕ → Entry → Option Outcome
 outcome_in thread number entry = if entry.thread == thread then outcome_in_act number entry.act else None
 
+-- whether two names are of one request: the same thread and the same number there
 abbrev pub same_request : ReqId → ReqId → Bool
 same_request a b = (a.thread == b.thread) && (a.seq == b.seq)
 
@@ -113,6 +114,7 @@ job_lines scripts trace = flat_map (lines_numbered scripts trace) (range_with_le
 
 -- ---- lines of waiting commands
 
+-- a command whose base never came: its place among the commands, its method and that base
 abbrev pub waiting_line : Waiting → List ℕ
 waiting_line waiting = codes "waiting " ++ decimal waiting.index ++ codes " " ++ waiting.method ++ codes " " ++ waiting.base ++ codes "\n"
 
@@ -123,14 +125,17 @@ abbrev pub is_meant : Option ℕ → ℕ → Bool
 is_meant None thread = true
 is_meant (Some meant) thread = thread == meant
 
+-- a request was accepted
 abbrev pub is_accept : Act → Bool
 is_accept (acts.Accept req dev handle op lba count) = true
 is_accept _ = false
 
+-- a submission was refused
 abbrev pub is_refusal : Act → Bool
 is_refusal (acts.Refuse handle op lba count errno) = true
 is_refusal _ = false
 
+-- whether two statuses are the same
 abbrev pub is_status : Status → Status → Bool
 is_status Success Success = true
 is_status Failed Failed = true
@@ -212,6 +217,7 @@ abbrev pub digest_words : Option (List ℕ) → List ℕ
 digest_words None = []
 digest_words (Some digest) = codes " sha256 " ++ encode_lower digest
 
+-- a malloc device, whose contents are in memory
 abbrev pub is_malloc : Kind → Bool
 is_malloc Malloc = true
 is_malloc _ = false

@@ -5,7 +5,10 @@ ghost use Rattle.std.specs.List.{range_with_len, list_any};
 ghost use Rattle.hex.specs.Hex.{encode_lower};
 ghost use Rattle.bd_report.specs.Report.{report_of, job_lines, lines_numbered, script_lines, job_line, job_line_if, greatest_number, greatest_in, outcome_words, completion_words, shown_words, first_found, outcome_in, completion_in, digest_in, same_request, waiting_line, is_meant, is_accept, is_refusal, is_status, is_end, count_acts, tally_words, thread_line, thread_line_if, thread_lines, is_busy_script, is_way, is_success_of, has_succeeded, moved_in_act, moved, bytes_in, is_malloc, contents_words, digest_words, device_size_words, moved_words, counts_words, device_line, device_lines, end_line};
 
-use bd_base::{Act, DevRow, Entry, Kind, Line, Op, OutOfMemory, Outcome, ReqId, Script, Setup, Shown, Status, Waiting, Way};
+use bd_base::{
+    Act, DevRow, Entry, Kind, Line, Op, OutOfMemory, Outcome, ReqId, Script, Setup, Shown, Status,
+    Waiting, Way,
+};
 use std::alloc::Global;
 
 /// The report of a run from its setup and its trace: the entries of all threads in the order of their
@@ -26,7 +29,12 @@ pub fn report(alloc: Global, setup: &Setup, trace: &[Entry]) -> Result<Vec<u8>, 
 // ---- commands
 
 // Writes the commands in rising order of line number.
-fn write_jobs(alloc: Global, out: &mut Vec<u8>, scripts: &[Script], trace: &[Entry]) -> Result<(), OutOfMemory>
+fn write_jobs(
+    alloc: Global,
+    out: &mut Vec<u8>,
+    scripts: &[Script],
+    trace: &[Entry],
+) -> Result<(), OutOfMemory>
     ensures { OnOk result (out.new.items ≡ out.old.items ++ job_lines scripts.now trace.now) }
 {
     let end = u64::from(greatest_number(scripts)) + 1;
@@ -40,9 +48,7 @@ fn write_jobs(alloc: Global, out: &mut Vec<u8>, scripts: &[Script], trace: &[Ent
 fn greatest_number(scripts: &[Script]) -> u32
     ensures { result ≡ greatest_number scripts.now }
 {
-    scripts
-        .iter()
-        .fold(0, |greatest: u32, script| greatest.max(greatest_in(script)))
+    scripts.iter().fold(0, |greatest: u32, script| greatest.max(greatest_in(script)))
 }
 
 // The greatest line number of a script.
@@ -218,7 +224,9 @@ fn outcome_in(entry: &Entry, thread: u32, number: u32) -> Option<Outcome>
     ensures { result ≡ outcome_in thread number entry.now }
 {
     match &entry.act {
-        Act::Script { line, outcome } if entry.thread == thread && *line == number => Some(*outcome),
+        Act::Script { line, outcome } if entry.thread == thread && *line == number => Some(
+            *outcome,
+        ),
         _ => None,
     }
 }
@@ -241,11 +249,14 @@ fn completion_in(entry: &Entry, request: ReqId) -> Option<(Status, Option<Shown>
     ensures { result ≡ completion_in request entry.now }
 {
     match &entry.act {
-        Act::Complete { req, status, shown } if same_request(*req, request) => Some((*status, *shown)),
+        Act::Complete { req, status, shown } if same_request(*req, request) => Some((
+            *status, *shown,
+        )),
         _ => None,
     }
 }
 
+// Whether two names are of one request.
 fn same_request(a: ReqId, b: ReqId) -> bool
     ensures { result ≡ same_request a b }
 {
@@ -288,7 +299,11 @@ fn write_waiting(alloc: Global, out: &mut Vec<u8>, waiting: &[Waiting]) -> Resul
 }
 
 // Writes a command whose base never came.
-fn write_waiting_line(alloc: Global, out: &mut Vec<u8>, waiting: &Waiting) -> Result<(), OutOfMemory>
+fn write_waiting_line(
+    alloc: Global,
+    out: &mut Vec<u8>,
+    waiting: &Waiting,
+) -> Result<(), OutOfMemory>
     ensures { OnOk result (out.new.items ≡ out.old.items ++ waiting_line waiting.now) }
 {
     let index = waiting.index;
@@ -304,7 +319,12 @@ fn write_waiting_line(alloc: Global, out: &mut Vec<u8>, waiting: &Waiting) -> Re
 // ---- threads
 
 // Writes the counts of each thread that has a command.
-fn write_threads(alloc: Global, out: &mut Vec<u8>, setup: &Setup, trace: &[Entry]) -> Result<(), OutOfMemory>
+fn write_threads(
+    alloc: Global,
+    out: &mut Vec<u8>,
+    setup: &Setup,
+    trace: &[Entry],
+) -> Result<(), OutOfMemory>
     ensures { OnOk result (out.new.items ≡ out.old.items ++ thread_lines setup.now trace.now) }
 {
     for thread in 0..setup.threads {
@@ -333,13 +353,16 @@ fn write_thread_if(
 fn has_command(scripts: &[Script], thread: u32) -> bool
     ensures { result ≡ list_any (is_busy_script thread) scripts.now }
 {
-    scripts
-        .iter()
-        .any(|script| script.thread == thread && script.lines.len() != 0)
+    scripts.iter().any(|script| script.thread == thread && script.lines.len() != 0)
 }
 
 // Writes a thread's counts.
-fn write_thread(alloc: Global, out: &mut Vec<u8>, trace: &[Entry], thread: u32) -> Result<(), OutOfMemory>
+fn write_thread(
+    alloc: Global,
+    out: &mut Vec<u8>,
+    trace: &[Entry],
+    thread: u32,
+) -> Result<(), OutOfMemory>
     ensures { OnOk result (out.new.items ≡ out.old.items ++ thread_line trace.now thread) }
 {
     let start = format!(in alloc; "thread {thread}")?;
@@ -364,11 +387,14 @@ fn write_tally(
     let success = count_ended(trace, thread, Status::Success);
     let failed = count_ended(trace, thread, Status::Failed);
     let aborted = count_ended(trace, thread, Status::Aborted);
-    let text = format!(in alloc; " accepted {accepted} success {success} failed {failed} aborted {aborted}")?;
+    let text = format!(in alloc;
+        " accepted {accepted} success {success} failed {failed} aborted {aborted}"
+    )?;
     out.extend_from_slice(text.as_bytes())?;
     Ok(())
 }
 
+// How many requests were accepted, on one thread or on all.
 fn count_accepted(trace: &[Entry], thread: Option<u32>) -> usize
     ensures { result ≡ count_acts is_accept thread trace.now }
 {
@@ -378,6 +404,7 @@ fn count_accepted(trace: &[Entry], thread: Option<u32>) -> usize
         .count()
 }
 
+// How many submissions were refused, on one thread or on all.
 fn count_refused(trace: &[Entry], thread: Option<u32>) -> usize
     ensures { result ≡ count_acts is_refusal thread trace.now }
 {
@@ -387,6 +414,7 @@ fn count_refused(trace: &[Entry], thread: Option<u32>) -> usize
         .count()
 }
 
+// How many requests completed with this status, on one thread or on all.
 fn count_ended(trace: &[Entry], thread: Option<u32>, status: Status) -> usize
     ensures { result ≡ count_acts (is_end status) thread trace.now }
 {
@@ -406,12 +434,14 @@ fn is_meant(meant: Option<u32>, thread: u32) -> bool
     }
 }
 
+// Whether the act accepts a request.
 fn is_accept(act: &Act) -> bool
     ensures { result ≡ is_accept act.now }
 {
     matches!(act, Act::Accept { .. })
 }
 
+// Whether the act refuses a submission.
 fn is_refusal(act: &Act) -> bool
     ensures { result ≡ is_refusal act.now }
 {
@@ -428,6 +458,7 @@ fn is_end(status: Status, act: &Act) -> bool
     }
 }
 
+// Whether two statuses are the same.
 fn is_status(a: Status, b: Status) -> bool
     ensures { result ≡ is_status a b }
 {
@@ -437,7 +468,12 @@ fn is_status(a: Status, b: Status) -> bool
 // ---- devices
 
 // Writes the devices by number.
-fn write_devices(alloc: Global, out: &mut Vec<u8>, trace: &[Entry], devices: &[DevRow]) -> Result<(), OutOfMemory>
+fn write_devices(
+    alloc: Global,
+    out: &mut Vec<u8>,
+    trace: &[Entry],
+    devices: &[DevRow],
+) -> Result<(), OutOfMemory>
     ensures { OnOk result (out.new.items ≡ out.old.items ++ device_lines trace.now 0 devices.now) }
 {
     for (device, row) in devices.iter().enumerate() {
@@ -480,14 +516,21 @@ fn write_moved(
 }
 
 // Writes counts of requests and of bytes.
-fn write_counts(alloc: Global, out: &mut Vec<u8>, read: Moved, written: Moved) -> Result<(), OutOfMemory>
+fn write_counts(
+    alloc: Global,
+    out: &mut Vec<u8>,
+    read: Moved,
+    written: Moved,
+) -> Result<(), OutOfMemory>
     ensures { OnOk result (out.new.items ≡ out.old.items ++ counts_words read.requests written.requests read.bytes written.bytes) }
 {
     let reads = read.requests;
     let writes = written.requests;
     let read_bytes = read.bytes;
     let write_bytes = written.bytes;
-    let text = format!(in alloc; " reads {reads} writes {writes} read_bytes {read_bytes} write_bytes {write_bytes}")?;
+    let text = format!(in alloc;
+        " reads {reads} writes {writes} read_bytes {read_bytes} write_bytes {write_bytes}"
+    )?;
     out.extend_from_slice(text.as_bytes())?;
     Ok(())
 }
@@ -520,13 +563,19 @@ fn write_contents(
     Ok(())
 }
 
+// Whether the device is a malloc device.
 fn is_malloc(kind: Kind) -> bool
     ensures { result ≡ is_malloc kind }
 {
     matches!(kind, Kind::Malloc)
 }
 
-fn write_digest_if(alloc: Global, out: &mut Vec<u8>, digest: Option<[u8; 32]>) -> Result<(), OutOfMemory>
+// Writes the digest of a device's contents, if there is one.
+fn write_digest_if(
+    alloc: Global,
+    out: &mut Vec<u8>,
+    digest: Option<[u8; 32]>,
+) -> Result<(), OutOfMemory>
     ensures { OnOk result (out.new.items ≡ out.old.items ++ digest_words digest) }
 {
     if let Some(digest) = digest {
@@ -576,7 +625,9 @@ fn moved_in(trace: &[Entry], device: usize, way: Way, act: &Act) -> Option<u64>
             op,
             count,
             ..
-        } if dev.0 as usize == device && is_way(way, *op) && has_succeeded(trace, *req) => Some(*count),
+        } if dev.0 as usize == device && is_way(way, *op) && has_succeeded(trace, *req) => Some(
+            *count,
+        ),
         _ => None,
     }
 }
@@ -595,9 +646,7 @@ fn is_way(way: Way, op: Op) -> bool
 fn has_succeeded(trace: &[Entry], request: ReqId) -> bool
     ensures { result ≡ has_succeeded trace.now request }
 {
-    trace
-        .iter()
-        .any(|entry| is_success_of(request, &entry.act))
+    trace.iter().any(|entry| is_success_of(request, &entry.act))
 }
 
 // Whether the act is a request's completion with success.
@@ -629,17 +678,27 @@ fn write_end(alloc: Global, out: &mut Vec<u8>, trace: &[Entry]) -> Result<(), Ou
 #[cfg(test)]
 mod tests {
     use super::*;
-    use bd_base::{DevId, HandleId, Job, Name, Rows};
+    use bd_base::{DevId, Errno, Fill, HandleId, Job, Name, Rows};
     use std::test::Fail;
 
     // Written by hand from the format of each line.
     const EXPECTED: &str = "job 1 0 open ok\n\
         job 3 0 read success first 0001020304050607 sha256 abababababababababababababababababababababababababababababababab\n\
-        thread 0 accepted 1 success 1 failed 0 aborted 0 refused 0\n\
+        job 4 0 write errno 9\n\
+        job 5 0 read failed\n\
+        job 6 0 wait skipped\n\
+        thread 0 accepted 2 success 1 failed 1 aborted 0 refused 1\n\
         device Malloc0 malloc blocks 64 size 512 reads 1 writes 0 read_bytes 4096 write_bytes 0 sha256 0101010101010101010101010101010101010101010101010101010101010101\n\
-        end accepted 1 success 1 failed 0 aborted 0\n";
+        end accepted 2 success 1 failed 1 aborted 0\n";
 
     const READ: ReqId = ReqId { thread: 0, seq: 0 };
+
+    const FAILING: ReqId = ReqId { thread: 0, seq: 1 };
+
+    const FILL: Fill = Fill {
+        seed: 5,
+        flip: false,
+    };
 
     fn devices(alloc: Global) -> Result<Rows<DevRow>, OutOfMemory> {
         let mut rows = Rows::new(alloc);
@@ -657,7 +716,20 @@ mod tests {
         Ok(rows)
     }
 
-    // Line 1 opens the device, line 3 reads its first eight blocks.
+    // A line that submits a request on the device's first eight blocks.
+    fn submit(alloc: Global, number: u32, op: Op) -> Result<Line, OutOfMemory> {
+        Ok(Line {
+            number,
+            job: Job::Submit {
+                handle: Name::from_slice(alloc, b"a")?,
+                op,
+                lba: 0,
+                count: 8,
+            },
+        })
+    }
+
+    // An open for reading, a read, a write, another read, and a wait.
     fn scripts(alloc: Global) -> Result<Rows<Script>, OutOfMemory> {
         let mut lines = Rows::new(alloc);
         lines.push(Line {
@@ -668,14 +740,12 @@ mod tests {
                 write: false,
             },
         })?;
+        lines.push(submit(alloc, 3, Op::Read)?)?;
+        lines.push(submit(alloc, 4, Op::Write(FILL))?)?;
+        lines.push(submit(alloc, 5, Op::Read)?)?;
         lines.push(Line {
-            number: 3,
-            job: Job::Submit {
-                handle: Name::from_slice(alloc, b"a")?,
-                op: Op::Read,
-                lba: 0,
-                count: 8,
-            },
+            number: 6,
+            job: Job::Wait,
         })?;
         let mut scripts = Rows::new(alloc);
         scripts.push(Script { thread: 0, lines })?;
@@ -702,43 +772,105 @@ mod tests {
         Ok(())
     }
 
-    fn trace(alloc: Global) -> Result<Vec<Entry>, OutOfMemory> {
-        let mut trace = Vec::new(alloc);
-        add(&mut trace, 1, Act::Script { line: 1, outcome: Outcome::Done })?;
+    fn accept(req: ReqId) -> Act {
+        Act::Accept {
+            req,
+            dev: DevId(0),
+            handle: HandleId(0),
+            op: Op::Read,
+            lba: 0,
+            count: 8,
+        }
+    }
+
+    // Lines 1 and 3: the open and the read are done.
+    fn add_read(trace: &mut Vec<Entry>) -> Result<(), OutOfMemory> {
         add(
-            &mut trace,
-            2,
-            Act::Accept {
-                req: READ,
-                dev: DevId(0),
-                handle: HandleId(0),
-                op: Op::Read,
-                lba: 0,
-                count: 8,
+            trace,
+            1,
+            Act::Script {
+                line: 1,
+                outcome: Outcome::Done,
             },
         )?;
-        add(&mut trace, 3, Act::Script { line: 3, outcome: Outcome::Accepted(READ) })?;
-        let shown = Shown {
+        add(trace, 2, accept(READ))?;
+        add(
+            trace,
+            3,
+            Act::Script {
+                line: 3,
+                outcome: Outcome::Accepted(READ),
+            },
+        )?;
+        let shown = Some(Shown {
             first: [0, 1, 2, 3, 4, 5, 6, 7],
             digest: [0xab; 32],
-        };
+        });
         add(
-            &mut trace,
+            trace,
             4,
             Act::Complete {
                 req: READ,
                 status: Status::Success,
-                shown: Some(shown),
+                shown,
             },
         )?;
-        add(&mut trace, 5, Act::Destruct { dev: DevId(0), digest: Some([1; 32]) })?;
-        Ok(trace)
+        Ok(())
+    }
+
+    // Lines 4 and 5: the write is refused, and the second read fails.
+    fn add_failures(trace: &mut Vec<Entry>) -> Result<(), OutOfMemory> {
+        let refusal = Act::Refuse {
+            handle: Some(HandleId(0)),
+            op: Op::Write(FILL),
+            lba: 0,
+            count: 8,
+            errno: Errno::BadDesc,
+        };
+        add(trace, 5, refusal)?;
+        add(
+            trace,
+            6,
+            Act::Script {
+                line: 4,
+                outcome: Outcome::Errno(Errno::BadDesc),
+            },
+        )?;
+        add(trace, 7, accept(FAILING))?;
+        add(
+            trace,
+            8,
+            Act::Script {
+                line: 5,
+                outcome: Outcome::Accepted(FAILING),
+            },
+        )?;
+        add(
+            trace,
+            9,
+            Act::Complete {
+                req: FAILING,
+                status: Status::Failed,
+                shown: None,
+            },
+        )?;
+        Ok(())
     }
 
     #[test]
-    fn reports_an_open_and_a_read(rt: HostRuntime) -> Result<(), Fail> {
+    fn reports_what_became_of_each_line(rt: HostRuntime) -> Result<(), Fail> {
         let setup = setup(rt.alloc())?;
-        let trace = trace(rt.alloc())?;
+        let mut trace = Vec::new(rt.alloc());
+        add_read(&mut trace)?;
+        add_failures(&mut trace)?;
+        add(
+            &mut trace,
+            10,
+            Act::Destruct {
+                dev: DevId(0),
+                digest: Some([1; 32]),
+            },
+        )?;
         let text = report(rt.alloc(), &setup, trace.as_slice())?;
         assert!(rt; text.as_slice() == EXPECTED.as_bytes());
         Ok(())
