@@ -1,5 +1,5 @@
 -- The report of a run, as a function of its setup and its trace.
-use Rattle.std.specs.Prelude.{ℕ, suc, ◌+◌, ◌-◌, ◌*◌, ◌^◌, Bool, true, false, not, ◌&&◌, ◌==◌, if◌then◌else◌, List, [], ◌∷◌, ◌++◌, length, max, min, codes, decimal, flat_map, filter_map, count_by, sum_by, fold, Option, Some, None}
+use Rattle.std.specs.Prelude.{ℕ, ◌+◌, ◌-◌, ◌*◌, ◌^◌, Bool, true, false, not, ◌&&◌, ◌==◌, if◌then◌else◌, List, [], ◌∷◌, ◌++◌, length, max, min, codes, decimal, flat_map, filter_map, count_by, sum_by, fold, Option, Some, None}
 use Rattle.std.specs.List.{list_any, range_with_len, slice_get}
 use Rattle.hex.specs.Hex.{encode_lower}
 use Rattle.bd_base.specs.Errno.{number_of}

@@ -1,4 +1,4 @@
-use Rattle.std.proofs.Common.{◌≡◌, arith, ap, sym, ◌∙◌, ◌++◌, ◌∷◌, [], ◌+◌, ◌*◌, ◌-◌, ◌^◌, min, length, take, filter_map}
+use Rattle.std.proofs.Common.{arith, ap, sym, ◌∙◌, ◌+◌, ◌*◌, ◌-◌, ◌^◌, min, length, take, filter_map}
 use Rattle.std.proofs.lemmas.List.{length_push}
 use Rattle.bd_report.specs.Report.{moved_in_entry, bytes_in}
 use Rattle.bd_report.proofs.ReportLemmas.{filter_map_more_some, filter_map_more_none, bytes_in_push}
