@@ -13,17 +13,15 @@ use std::test::Fail;
 const CONFIG: &str =
     "{\"subsystems\":[{\"subsystem\":\"bdev\",\"config\":[{\"method\":\"bdev_malloc_create\",\"params\":{\"name\":\"Malloc0\",\"num_blocks\":64,\"block_size\":512}}]}]}";
 
-// A line of a script. A handle's name is one letter, and a submission is of one block.
+// A line of a script. A handle's name is one letter, and a submission is of one block: this one,
+// with this seed.
 #[derive(Clone, Copy)]
 enum Word {
     Open(u8, &'static str, bool),
-    Submit(u8, Op, u64),
+    Read(u8, u64),
+    Write(u8, u64, u64),
     Wait,
     Close(u8),
-}
-
-const fn write(seed: u64) -> Op {
-    Op::Write(Fill { seed, flip: false })
 }
 
 const FIRST: &str =
@@ -31,9 +29,9 @@ const FIRST: &str =
 
 const FIRST_WORDS: [Word; 6] = [
     Word::Open(b'h', "Malloc0", true),
-    Word::Submit(b'h', write(5), 0),
+    Word::Write(b'h', 0, 5),
     Word::Wait,
-    Word::Submit(b'h', Op::Read, 0),
+    Word::Read(b'h', 0),
     Word::Wait,
     Word::Close(b'h'),
 ];
@@ -46,12 +44,21 @@ const REFUSALS_WORDS: [Word; 8] = [
     Word::Open(b'h', "Malloc0", false),
     Word::Open(b'h', "Malloc0", true),
     Word::Open(b'k', "Malloc1", false),
-    Word::Submit(b'k', Op::Read, 0),
+    Word::Read(b'k', 0),
     Word::Close(b'k'),
-    Word::Submit(b'h', write(1), 0),
-    Word::Submit(b'h', Op::Read, 64),
-    Word::Submit(b'h', Op::Read, 63),
+    Word::Write(b'h', 0, 1),
+    Word::Read(b'h', 64),
+    Word::Read(b'h', 63),
 ];
+
+fn submit(alloc: Global, handle: u8, op: Op, lba: u64) -> Result<Job, OutOfMemory> {
+    Ok(Job::Submit {
+        handle: Name::from_slice(alloc, &[handle])?,
+        op,
+        lba,
+        count: 1,
+    })
+}
 
 fn job(alloc: Global, word: Word) -> Result<Job, OutOfMemory> {
     match word {
@@ -60,12 +67,11 @@ fn job(alloc: Global, word: Word) -> Result<Job, OutOfMemory> {
             dev: Name::from_slice(alloc, dev.as_bytes())?,
             write,
         }),
-        Word::Submit(handle, op, lba) => Ok(Job::Submit {
-            handle: Name::from_slice(alloc, &[handle])?,
-            op,
-            lba,
-            count: 1,
-        }),
+        Word::Read(handle, lba) => submit(alloc, handle, Op::Read, lba),
+        Word::Write(handle, lba, seed) => {
+            let op = Op::Write(Fill { seed, flip: false });
+            submit(alloc, handle, op, lba)
+        }
         Word::Wait => Ok(Job::Wait),
         Word::Close(handle) => Ok(Job::Close {
             handle: Name::from_slice(alloc, &[handle])?,
