@@ -1,14 +1,13 @@
 -- One verdict at most is right of a history.
-use Rattle.std.proofs.Common.{◌≡◌, ℕ, true, false, List, [], ◌∷◌, ◌++◌, Option, Some, None, refl, sym, ◌∙◌, ap, subst}
+use Rattle.std.proofs.Common.{◌≡◌, ℕ, List, [], ◌∷◌, ◌++◌, Some, None, refl, sym, ◌∙◌, ap, subst}
 use Rattle.bd_base.specs.declared.act.Entry.{Entry}
 use Rattle.bd_base.specs.declared.setup.Setup.{Setup}
 use Rattle.bd_machine.specs.declared.state.State.{State}
-use Rattle.bd_machine.specs.Run.{IsRun, IsRunFrom, after_all, state_after}
+use Rattle.bd_machine.specs.Run.{IsRun, IsRunFrom, after_all}
 use Rattle.bd_machine.specs.Start.{start}
 use Rattle.bd_machine.specs.Step.{refusal, after}
-use Rattle.bd_judge.specs.declared.judging.Verdict.{Verdict}
 use Rattle.bd_judge.specs.declared.judging.Verdict.TheVariants.{Complete, Unfinished, Illegal}
-use Rattle.bd_judge.specs.Judge.{IsStopped, IsVerdict}
+use Rattle.bd_judge.specs.Judge.{IsStopped}
 use Rattle.bd_judge.specs.Laws.{VerdictIsDetermined}
 
 -- a run has no entry that isn't allowed
