@@ -86,38 +86,60 @@ fn first_path(rt: HostRuntime) -> Result<(), Fail> {
     Ok(())
 }
 
-#[test]
-fn refused_submissions(rt: HostRuntime) -> Result<(), Fail> {
-    for (config, script, report) in [
-        // the last block, past it, and across the end
-        (
-            CONFIG,
-            "0 open h Malloc0 r\n0 read h 63 1\n0 read h 64 1\n0 read h 63 2\n0 wait\n0 close h",
-            "job 1 0 open ok\njob 2 0 read success first 0000000000000000 sha256 076a27c79e5ace2a3d47f9dd2e83e4ff6ea8872b3c2218f66c92b89b55f36560\njob 3 0 read errno 22\njob 4 0 read errno 22\njob 5 0 wait ok\njob 6 0 close ok\nthread 0 accepted 1 success 1 failed 0 aborted 0 refused 2\ndevice Malloc0 malloc blocks 64 size 512 reads 1 writes 0 read_bytes 512 write_bytes 0 sha256 c35020473aed1b4642cd726cad727b63fff2824ad68cedd7ffb73c7cbd890479\nend accepted 1 success 1 failed 0 aborted 0\n",
-        ),
-        // no block, 262,144 bytes, and 512 more
-        (
-            LARGE,
-            "0 open h Malloc0 w\n0 write h 0 0 1\n0 write h 0 512 1\n0 write h 0 513 1\n0 wait\n0 close h\n",
-            "job 1 0 open ok\njob 2 0 write errno 22\njob 3 0 write success\njob 4 0 write errno 22\njob 5 0 wait ok\njob 6 0 close ok\nthread 0 accepted 1 success 1 failed 0 aborted 0 refused 2\ndevice Malloc0 malloc blocks 1024 size 512 reads 0 writes 1 read_bytes 0 write_bytes 262144 sha256 88e43fb38adfd0578db7667144c45cd6dea06e5bd4d420c0f2d6b5355a079b48\nend accepted 1 success 1 failed 0 aborted 0\n",
-        ),
-        // a handle that is open for reading comes before a range past the end
-        (
-            CONFIG,
-            "0 open h Malloc0 r\r\n\n# a comment\n0 write h 99 1 7\n0\tclose h",
-            "job 1 0 open ok\njob 4 0 write errno 9\njob 5 0 close ok\nthread 0 accepted 0 success 0 failed 0 aborted 0 refused 1\ndevice Malloc0 malloc blocks 64 size 512 reads 0 writes 0 read_bytes 0 write_bytes 0 sha256 c35020473aed1b4642cd726cad727b63fff2824ad68cedd7ffb73c7cbd890479\nend accepted 0 success 0 failed 0 aborted 0\n",
-        ),
-        // a name bound twice, an unknown device, names that are not bound, and a handle left open
-        (
-            CONFIG,
-            "0 open h Malloc0 r\n0 open h Malloc0 w\n0 open k Malloc1 r\n0 read k 0 1\n0 close k\n",
-            "job 1 0 open ok\njob 2 0 open errno 17\njob 3 0 open errno 19\njob 4 0 read errno 9\njob 5 0 close errno 9\nthread 0 accepted 0 success 0 failed 0 aborted 0 refused 1\ndevice Malloc0 malloc blocks 64 size 512 reads 0 writes 0 read_bytes 0 write_bytes 0 sha256 c35020473aed1b4642cd726cad727b63fff2824ad68cedd7ffb73c7cbd890479\nend accepted 0 success 0 failed 0 aborted 0\n",
-        ),
-    ] {
-        let end = played(rt.alloc(), config, script)?;
-        assert!(rt; end.fault.is_empty());
-        assert!(rt; end.text.as_slice() == report.as_bytes());
+// The report of a run that ends well.
+fn report_of(alloc: Global, config: &str, script: &str) -> Result<Vec<u8>, Fail> {
+    let end = played(alloc, config, script)?;
+    if end.fault.is_empty() {
+        Ok(end.text)
+    } else {
+        Ok(Vec::new(alloc))
     }
+}
+
+// The last block, past it, and across the end.
+#[test]
+fn last_block_and_past_it(rt: HostRuntime) -> Result<(), Fail> {
+    let script =
+        "0 open h Malloc0 r\n0 read h 63 1\n0 read h 64 1\n0 read h 63 2\n0 wait\n0 close h";
+    let expected =
+        "job 1 0 open ok\njob 2 0 read success first 0000000000000000 sha256 076a27c79e5ace2a3d47f9dd2e83e4ff6ea8872b3c2218f66c92b89b55f36560\njob 3 0 read errno 22\njob 4 0 read errno 22\njob 5 0 wait ok\njob 6 0 close ok\nthread 0 accepted 1 success 1 failed 0 aborted 0 refused 2\ndevice Malloc0 malloc blocks 64 size 512 reads 1 writes 0 read_bytes 512 write_bytes 0 sha256 c35020473aed1b4642cd726cad727b63fff2824ad68cedd7ffb73c7cbd890479\nend accepted 1 success 1 failed 0 aborted 0\n";
+    let text = report_of(rt.alloc(), CONFIG, script)?;
+    assert!(rt; text.as_slice() == expected.as_bytes());
+    Ok(())
+}
+
+// No block, 262,144 bytes, and 512 more.
+#[test]
+fn largest_request(rt: HostRuntime) -> Result<(), Fail> {
+    let script =
+        "0 open h Malloc0 w\n0 write h 0 0 1\n0 write h 0 512 1\n0 write h 0 513 1\n0 wait\n0 close h\n";
+    let expected =
+        "job 1 0 open ok\njob 2 0 write errno 22\njob 3 0 write success\njob 4 0 write errno 22\njob 5 0 wait ok\njob 6 0 close ok\nthread 0 accepted 1 success 1 failed 0 aborted 0 refused 2\ndevice Malloc0 malloc blocks 1024 size 512 reads 0 writes 1 read_bytes 0 write_bytes 262144 sha256 88e43fb38adfd0578db7667144c45cd6dea06e5bd4d420c0f2d6b5355a079b48\nend accepted 1 success 1 failed 0 aborted 0\n";
+    let text = report_of(rt.alloc(), LARGE, script)?;
+    assert!(rt; text.as_slice() == expected.as_bytes());
+    Ok(())
+}
+
+// A handle that is open for reading comes before a range past the end.
+#[test]
+fn descriptor_before_range(rt: HostRuntime) -> Result<(), Fail> {
+    let script = "0 open h Malloc0 r\r\n\n# a comment\n0 write h 99 1 7\n0\tclose h";
+    let expected =
+        "job 1 0 open ok\njob 4 0 write errno 9\njob 5 0 close ok\nthread 0 accepted 0 success 0 failed 0 aborted 0 refused 1\ndevice Malloc0 malloc blocks 64 size 512 reads 0 writes 0 read_bytes 0 write_bytes 0 sha256 c35020473aed1b4642cd726cad727b63fff2824ad68cedd7ffb73c7cbd890479\nend accepted 0 success 0 failed 0 aborted 0\n";
+    let text = report_of(rt.alloc(), CONFIG, script)?;
+    assert!(rt; text.as_slice() == expected.as_bytes());
+    Ok(())
+}
+
+// A name bound twice, an unknown device, names that are not bound, and a handle left open.
+#[test]
+fn names_bound_and_not(rt: HostRuntime) -> Result<(), Fail> {
+    let script =
+        "0 open h Malloc0 r\n0 open h Malloc0 w\n0 open k Malloc1 r\n0 read k 0 1\n0 close k\n";
+    let expected =
+        "job 1 0 open ok\njob 2 0 open errno 17\njob 3 0 open errno 19\njob 4 0 read errno 9\njob 5 0 close errno 9\nthread 0 accepted 0 success 0 failed 0 aborted 0 refused 1\ndevice Malloc0 malloc blocks 64 size 512 reads 0 writes 0 read_bytes 0 write_bytes 0 sha256 c35020473aed1b4642cd726cad727b63fff2824ad68cedd7ffb73c7cbd890479\nend accepted 0 success 0 failed 0 aborted 0\n";
+    let text = report_of(rt.alloc(), CONFIG, script)?;
+    assert!(rt; text.as_slice() == expected.as_bytes());
     Ok(())
 }
 
