@@ -1,0 +1,2 @@
+//! Plays one script on one thread, over one malloc device.
+#![tactic(auto)]
