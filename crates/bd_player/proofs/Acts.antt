@@ -20,12 +20,12 @@ ActsLead setup w [] w' = w ≡ w'
 ActsLead setup w (act ∷ acts) w' = (is_shutdown act ≡ false) × (refusal_alone setup 0 w (entry_at (w.stamp + 1) act) ≡ None) × ActsLead setup (alone setup 0 w (entry_at (w.stamp + 1) act)) acts w'
 
 -- one act after another
-pub acts_then : (setup : Setup) (u v w : World) (as bs : List Act) → ActsLead setup u as v → ActsLead setup v bs w → ActsLead setup u (as ++ bs) w
-acts_then setup u v w [] bs h k = subst (λ (x : World). ActsLead setup x bs w) (sym h) k
-acts_then setup u v w (a ∷ as) bs h k = (h.0, h.1.0, acts_then setup (alone setup 0 u (entry_at (u.stamp + 1) a)) v w as bs h.1.1 k)
+pub acts_then : (setup : Setup) (u v w : World) (xs ys : List Act) → ActsLead setup u xs v → ActsLead setup v ys w → ActsLead setup u (xs ++ ys) w
+acts_then setup u v w [] ys h k = subst (λ (x : World). ActsLead setup x ys w) (sym h) k
+acts_then setup u v w (x ∷ xs) ys h k = (h.0, h.1, acts_then setup (alone setup 0 u (entry_at (u.stamp + 1) x)) v w xs ys h.2 k)
 
 -- acts that lead, with their stamps, are entries that lead
 pub acts_lead : (setup : Setup) (w w' : World) (acts : List Act) → ActsLead setup w acts w' → Leads setup 0 w (stamped w.stamp acts) w'
 unfolding alone
 acts_lead setup w w' [] h = h
-acts_lead setup w w' (act ∷ acts) h = (refl, h.0, h.1.0, acts_lead setup (alone setup 0 w (entry_at (w.stamp + 1) act)) w' acts h.1.1)
+acts_lead setup w w' (act ∷ acts) h = (refl, h.0, h.1, acts_lead setup (alone setup 0 w (entry_at (w.stamp + 1) act)) w' acts h.2)
