@@ -1,3 +1,6 @@
 pub mod Worlds
+pub mod Entries
 pub mod Keys
 pub mod Whole
+pub mod Scripts
+pub mod Closes

@@ -1,10 +1,9 @@
 -- What one thread alone plays through, with its Shutdown, is a complete run.
-use Rattle.std.proofs.Common.{◌≡◌, ℕ, ◌+◌, ◌<◌, ◌%◌, Bool, true, false, not, cond, ◌&&◌, ◌||◌, ◌==◌, nat_lt, List, [], ◌∷◌, ◌++◌, length, map, get_or, Option, Some, None, refl, sym, ◌∙◌, ap, subst, arith}
+use Rattle.std.proofs.Common.{◌≡◌, ℕ, ◌<◌, ◌%◌, Bool, true, false, not, ◌&&◌, ◌||◌, ◌==◌, nat_lt, List, [], ◌∷◌, ◌++◌, length, map, get_or, None, refl, sym, ◌∙◌, ap, subst, arith}
 use Rattle.std.specs.List.{list_any, list_all, range_with_len}
 use Rattle.std.proofs.lemmas.Bool.{and_from, lt-ltb}
 use Rattle.std.proofs.Math.Nat.{mod-one}
 use mathlib.Core.Path.{fun_ext}
-use Rattle.bd_base.specs.declared.act.Act.{Act}
 use Rattle.bd_base.specs.declared.act.Act.TheVariants as acts
 use Rattle.bd_base.specs.declared.act.Entry.{Entry}
 use Rattle.bd_base.specs.declared.setup.Setup.{Setup}
@@ -16,38 +15,20 @@ use Rattle.bd_machine.specs.declared.state.State.{State}
 use Rattle.bd_machine.specs.declared.state.Tracked.{Tracked}
 use Rattle.bd_machine.specs.declared.guard.TheConstants.{UNBUILT, IN_ORDER, AT_REST, SCRIPTS_BLOCKED}
 use Rattle.bd_machine.specs.Asked.{is_script_blocked}
-use Rattle.bd_machine.specs.BlockMap.{home}
 use Rattle.bd_machine.specs.Content.{Told}
 use Rattle.bd_machine.specs.Rest.{is_ring, is_in_ring, is_nothing_due, is_nowhere, is_request, is_open_request, are_all_taken, are_all_put, are_all_completed, is_at_rest, are_scripts_blocked}
-use Rattle.bd_machine.specs.Run.{IsRun, IsRunFrom, IsCompleteRun, after_all, is_destructed, is_finished}
+use Rattle.bd_machine.specs.Run.{IsRun, IsCompleteRun, after_all, is_destructed, is_finished}
 use Rattle.bd_machine.specs.Same.{same_id, same_dev}
 use Rattle.bd_machine.specs.Start.{start, dev_of, part_at_start}
-use Rattle.bd_machine.specs.Step.{IsAllowed, is_in_order, is_shutdown, change_in, after}
+use Rattle.bd_machine.specs.Step.{IsAllowed, is_in_order, change_in, after}
 use Rattle.bd_machine.specs.Table.{look_up}
-use Rattle.bd_machine.specs.View.{Change, part_of, blank_part}
+use Rattle.bd_machine.specs.View.{part_of, blank_part}
 use Rattle.bd_machine.proofs.Laws.{part-own}
 use Rattle.bd_alone.specs.Laws.{IsLed, IsAtRest, has_destructed_all, IsPlayedAlone, PlayedAloneIsComplete}
 use Rattle.bd_alone.specs.World.{World, world, unless_closed, Leads}
+use Rattle.bd_alone.proofs.Entries.{run_on, after_on, shut_stays}
 use Rattle.bd_alone.proofs.Keys.{IsKeyed, all_keyed, after_keyed, none_such}
 use Rattle.bd_alone.proofs.Worlds.{all_pass, in_order, threads_stay, leads_is_run, world_eq}
-
--- ---- lists of entries
-
-pub run_on : (setup : Setup) (s : State) (es fs : List Entry) → IsRunFrom setup s es → IsRunFrom setup (after_all setup s es) fs → IsRunFrom setup s (es ++ fs)
-run_on setup s [] fs run rest = rest
-run_on setup s (e ∷ es) fs run rest = (run.0, run_on setup (after setup s e) es fs run.1 rest)
-
-pub after_on : (setup : Setup) (s : State) (es fs : List Entry) → after_all setup s (es ++ fs) ≡ after_all setup (after_all setup s es) fs
-after_on setup s [] fs = refl
-after_on setup s (e ∷ es) fs = after_on setup (after setup s e) es fs
-
-pub shut_after : (setup : Setup) (s : State) (e : Entry) → s.shut ≡ true → (after setup s e).shut ≡ true
-unfolding after
-shut_after setup s e h = ap (λ b. b || is_shutdown e.act) h
-
-pub shut_stays : (setup : Setup) (s : State) (es : List Entry) → s.shut ≡ true → (after_all setup s es).shut ≡ true
-shut_stays setup s [] h = h
-shut_stays setup s (e ∷ es) h = shut_stays setup (after setup s e) es (shut_after setup s e h)
 
 -- ---- a state of one thread at rest
 

@@ -1,5 +1,5 @@
 -- A thread's world is a function of the state, and the thread's entries lead both the same way.
-use Rattle.std.proofs.Common.{◌≡◌, ℕ, ◌+◌, ◌<◌, Bool, true, false, cond, ◌&&◌, ◌||◌, ◌==◌, nat_lt, ltb-true, List, [], ◌∷◌, ◌++◌, length, filter, Option, Some, None, option_and_then, refl, sym, ◌∙◌, ap, subst, arith}
+use Rattle.std.proofs.Common.{◌≡◌, ℕ, ◌<◌, Bool, true, false, cond, ◌&&◌, ◌||◌, ◌==◌, nat_lt, ltb-true, List, [], ◌∷◌, ◌++◌, length, Option, Some, None, option_and_then, refl, sym, ◌∙◌, ap, subst, arith}
 use Rattle.std.specs.List.{AllByRecursion}
 use Rattle.std.proofs.lemmas.Bool.{and_from, lt-ltb}
 use Rattle.std.proofs.lemmas.List.{length-set}
@@ -7,26 +7,21 @@ use mathlib.Core.Path.{fun_ext}
 use Rattle.bd_base.specs.declared.act.Act.{Act}
 use Rattle.bd_base.specs.declared.act.Act.TheVariants as acts
 use Rattle.bd_base.specs.declared.act.Entry.{Entry}
-use Rattle.bd_base.specs.declared.event.Answer.{Answer}
 use Rattle.bd_base.specs.declared.id.DevId.{DevId}
 use Rattle.bd_base.specs.declared.setup.Setup.{Setup}
 use Rattle.bd_machine.specs.declared.guard.TheConstants.{UNBUILT, IN_ORDER}
 use Rattle.bd_machine.specs.declared.state.Id.{Id}
 use Rattle.bd_machine.specs.declared.state.Kept.{Kept}
-use Rattle.bd_machine.specs.declared.state.Part.{Part}
 use Rattle.bd_machine.specs.declared.state.Place.{Place}
 use Rattle.bd_machine.specs.declared.state.Place.TheVariants.{At, Ring, Nowhere}
-use Rattle.bd_machine.specs.declared.state.Registry.{Registry}
 use Rattle.bd_machine.specs.declared.state.State.{State}
 use Rattle.bd_machine.specs.declared.state.Tracked.{Tracked}
 use Rattle.bd_machine.specs.Guards.{guards, change, is_built}
-use Rattle.bd_machine.specs.Registry.{answer_to, registry_after}
 use Rattle.bd_machine.specs.Rest.{is_nowhere}
-use Rattle.bd_machine.specs.Run.{IsRunFrom, after_all}
 use Rattle.bd_machine.specs.Same.{same_id}
-use Rattle.bd_machine.specs.Step.{IsAllowed, refusal, first_failing, guards_in, guards_shutdown, is_in_order, is_later, is_shutdown, moved, place_after, change_in, carried_out, after}
+use Rattle.bd_machine.specs.Step.{IsAllowed, first_failing, guards_in, guards_shutdown, is_in_order, is_later, is_shutdown, moved, change_in, carried_out, after}
 use Rattle.bd_machine.specs.Table.{look_up}
-use Rattle.bd_machine.specs.View.{View, Came, Change, Move, Taking, view, came_for, here_of, kept_on, message_of, message_for, kept_in, id_of, is_unused_if_any, took, asked, destructed_by, part_of}
+use Rattle.bd_machine.specs.View.{View, Came, Change, Move, Taking, view, came_for, here_of, kept_on, message_of, message_for, kept_in, id_of, is_unused_if_any, took, destructed_by}
 use Rattle.bd_machine.proofs.Acts.{Passes, passed}
 use Rattle.bd_machine.proofs.Laws.{tracked, found-moved, part-own, view_eq}
 use Rattle.bd_alone.specs.Laws.{AloneIsAllowed, LeadsIsRun, IsLed}

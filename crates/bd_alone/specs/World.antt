@@ -1,5 +1,5 @@
 -- What one thread goes by: what is its own, and what the threads share, by key. The same rules as the machine's, without the machine's state.
-use Rattle.std.specs.Prelude.{◌≡◌, ℕ, Bool, true, false, cond, ◌||◌, nat_lt, List, [], ◌∷◌, filter, Option, Some, None, option_and_then}
+use Rattle.std.specs.Prelude.{◌≡◌, ℕ, Bool, false, cond, ◌||◌, nat_lt, List, [], ◌∷◌, filter, Option, Some, None, option_and_then}
 use Rattle.bd_base.specs.declared.act.Act.{Act}
 use Rattle.bd_base.specs.declared.act.Entry.{Entry}
 use Rattle.bd_base.specs.declared.id.DevId.{DevId}
@@ -16,7 +16,7 @@ use Rattle.bd_machine.specs.Rest.{is_nowhere}
 use Rattle.bd_machine.specs.Same.{same_id}
 use Rattle.bd_machine.specs.Step.{first_failing, is_shutdown, place_after}
 use Rattle.bd_machine.specs.Table.{look_up}
-use Rattle.bd_machine.specs.View.{View, Came, Change, Move, Taking, here_of, message_of, id_of, is_of, took, asked, destructed_by, part_of}
+use Rattle.bd_machine.specs.View.{View, Came, Change, Move, here_of, message_of, id_of, is_of, took, asked, destructed_by, part_of}
 
 -- the stamp of the last entry; whether a Shutdown stands; the registry; the thread's part; the tokens that aren't closed, with their places
 pub record World : Type 0 where
