@@ -4,3 +4,6 @@ pub mod Whole
 pub mod Pass
 pub mod Steps
 pub mod Carry
+pub mod StoreLemmas
+pub mod Spliced
+pub mod Lines

@@ -1,5 +1,5 @@
 -- One script on one thread, over one malloc device.
-use Rattle.std.specs.Prelude.{◌≡◌, ℕ, ◌≤◌, Bool, true, false, List, [], ◌∷◌, Option, Some, None}
+use Rattle.std.specs.Prelude.{◌≡◌, ℕ, ◌≤◌, Bool, true, false, not, List, [], ◌∷◌, Option, Some, None}
 use Rattle.std.specs.List.{AllByRecursion}
 use Rattle.bd_base.specs.declared.device.DevRow.{DevRow}
 use Rattle.bd_base.specs.declared.device.ErrKind.TheVariants.{Failure}
@@ -10,6 +10,8 @@ use Rattle.bd_base.specs.declared.device.Rates.{Rates}
 use Rattle.bd_base.specs.declared.job.Job.{Job}
 use Rattle.bd_base.specs.declared.job.Job.TheVariants as jobs
 use Rattle.bd_base.specs.declared.job.Line.{Line}
+use Rattle.bd_base.specs.declared.request.Op.{Op}
+use Rattle.bd_base.specs.declared.request.Op.TheVariants as ops
 use Rattle.bd_base.specs.declared.setup.Setup.{Setup}
 use Rattle.bd_machine.specs.Admission.{has_range}
 
@@ -39,11 +41,16 @@ pub record IsMalloc (row : DevRow) : Type 0 where
   pub boundary : row.boundary ≡ 0
   pub size : 8 ≤ row.size
 
+-- a type on a range; a turned byte comes of an error device alone, and there is none
+abbrev pub is_plain : Op → Bool
+is_plain (ops.Write fill) = not fill.flip
+is_plain op = has_range op
+
 -- what one thread alone plays: it opens, closes, submits on a range, and waits
 abbrev pub is_playable : Job → Bool
 is_playable (jobs.Open handle dev write) = true
 is_playable (jobs.Close handle) = true
-is_playable (jobs.Submit handle op lba count) = has_range op
+is_playable (jobs.Submit handle op lba count) = is_plain op
 is_playable jobs.Wait = true
 is_playable _ = false
 

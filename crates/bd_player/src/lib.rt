@@ -1,2 +1,8 @@
 //! Plays one script on one thread, over one malloc device.
 #![tactic(auto)]
+
+// mod admission;
+mod player;
+mod store;
+
+
