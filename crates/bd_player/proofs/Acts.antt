@@ -5,15 +5,7 @@ use Rattle.bd_base.specs.declared.act.Entry.{Entry}
 use Rattle.bd_base.specs.declared.setup.Setup.{Setup}
 use Rattle.bd_machine.specs.Step.{is_shutdown}
 use Rattle.bd_alone.specs.World.{World, refusal_alone, alone, Leads}
-
--- the entry of the one thread with this stamp
-abbrev pub entry_at : ℕ → Act → Entry
-entry_at stamp act = record { stamp = stamp; thread = 0; act = act }
-
--- these acts as entries, each with the next stamp
-abbrev pub stamped : ℕ → List Act → List Entry
-stamped stamp [] = []
-stamped stamp (act ∷ acts) = entry_at (stamp + 1) act ∷ stamped (stamp + 1) acts
+pub use Rattle.bd_player.specs.Went.{entry_at, stamped}
 
 abbrev pub ActsLead : Setup → World → List Act → World → Type 0
 ActsLead setup w [] w' = w ≡ w'

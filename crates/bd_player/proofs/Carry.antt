@@ -37,20 +37,7 @@ use Rattle.bd_player.specs.Solo.{setup_of, IsMalloc}
 use Rattle.bd_player.proofs.Acts.{ActsLead, acts_then}
 use Rattle.bd_player.proofs.Tokens.{Live, two}
 use Rattle.bd_player.proofs.Steps.{world_with, part_with, on_thread, in_ring, open_request, opened_by, piece_out, piece_done, base_before, accept_leads, cut_leads, put_leads, took_leads, apply_leads, complete_leads, script_leads}
-pub use Rattle.bd_player.proofs.Steps.{request_of}
-
--- the acts of a request of one piece, and its line
-abbrev pub carry_acts : ℕ → ℕ → HandleId → Op → ℕ → ℕ → Option Shown → List Act
-carry_acts number requests id op lba count shown =
-    acts.Accept (request_of requests) device id op lba count ∷
-    acts.Cut (request_of requests) 1 ∷
-    acts.Put 0 (requests + requests) (tokens.Piece (request_of requests) 0) ∷
-    acts.Took 0 (requests + requests) (tokens.Piece (request_of requests) 0) ∷
-    acts.Apply (request_of requests) 0 device ends.Done ∷
-    acts.Put 0 (requests + requests + 1) (tokens.Piece (request_of requests) 0) ∷
-    acts.Took 0 (requests + requests + 1) (tokens.Piece (request_of requests) 0) ∷
-    acts.Complete (request_of requests) Success shown ∷
-    acts.Script number (outcomes.Accepted (request_of requests)) ∷ []
+pub use Rattle.bd_player.specs.Went.{request_of, carry_acts}
 
 pub carried : (row : DevRow) (lines : List Line) (stamp next number : ℕ) (handles : List Handle) (opened : ℕ) (bound : List Binding) (requests : ℕ) (blocks : List (List ℕ)) (name : List ℕ) (id : HandleId) (h : Handle) (op : Op) (lba count : ℕ) (shown : Option Shown)
     → IsMalloc row

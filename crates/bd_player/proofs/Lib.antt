@@ -7,3 +7,6 @@ pub mod Carry
 pub mod StoreLemmas
 pub mod Spliced
 pub mod Lines
+pub mod Logs
+pub mod Jobs
+pub mod Submits

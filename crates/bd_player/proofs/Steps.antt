@@ -50,6 +50,7 @@ use Rattle.bd_machine.specs.Table.{write}
 use Rattle.bd_machine.specs.View.{Came, Move, Here, Closed, here_of, is_of, message_of}
 use Rattle.bd_machine.proofs.Tables.{id_same}
 use Rattle.bd_alone.specs.World.{World, view_in, carried_alone}
+pub use Rattle.bd_player.specs.Went.{request_of}
 use Rattle.bd_player.specs.Seen.{device, base_with, bound_in, piece_of, counted}
 use Rattle.bd_player.specs.Solo.{IsMalloc, setup_of}
 use Rattle.bd_player.proofs.Pass.{four, one_leads}
@@ -63,10 +64,6 @@ on_thread kept = Some (record { place = At 0; kept = kept })
 
 abbrev pub in_ring : ℕ → Kept → Option Tracked
 in_ring number kept = Some (record { place = Ring 0 0 number; kept = kept })
-
--- the request with this number of the thread
-abbrev pub request_of : ℕ → ReqId
-request_of requests = record { thread = 0; seq = requests }
 
 module _ (handles : List Handle) (opened : ℕ) where
   -- the thread's world before a Shutdown, with this part and these tokens

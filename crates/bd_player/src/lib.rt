@@ -1,7 +1,7 @@
 //! Plays one script on one thread, over one malloc device.
 #![tactic(auto)]
 
-// mod admission;
+mod admission;
 mod player;
 mod store;
 
