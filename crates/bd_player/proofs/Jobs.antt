@@ -164,7 +164,7 @@ own_more : (h : Handle) → IsOwn h → (hs : List Handle) → AllByRecursion Is
 own_more h own [] all = (own, tt)
 own_more h own (x ∷ xs) all = (all.0, own_more h own xs all.1)
 
-own_left : (keep : Handle → Bool) (hs : List Handle) → AllByRecursion IsOwn hs → AllByRecursion IsOwn (filter keep hs)
+pub own_left : (keep : Handle → Bool) (hs : List Handle) → AllByRecursion IsOwn hs → AllByRecursion IsOwn (filter keep hs)
 own_left keep [] all = tt
 own_left keep (x ∷ xs) all = go (keep x) (own_left keep xs all.1)
   where

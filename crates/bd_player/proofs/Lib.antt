@@ -10,3 +10,5 @@ pub mod Lines
 pub mod Logs
 pub mod Jobs
 pub mod Submits
+pub mod Ends
+pub mod Played

@@ -149,3 +149,23 @@ pub record Carries (number : ℕ) (id : HandleId) (asked : Asked) (old new : Pla
     blocks = blocks_after (piece_of asked.op asked.lba asked.count) old.blocks;
     log = old.log ++ stamped (length old.log) (carry_acts number old.requests id asked.op asked.lba asked.count shown);
   }
+
+-- every handle is closed behind the Shutdown, and all else stayed
+pub record AllClosed (old new : Player) : Type 0 where
+  pub went : Went true old new
+  pub next : new.next ≡ old.next
+  pub bound : new.bound.items ≡ old.bound.items
+  pub opened : new.opened ≡ old.opened
+  pub requests : new.requests ≡ old.requests
+  pub blocks : new.blocks ≡ old.blocks
+  pub handles : new.handles.items ≡ []
+
+-- the world at the end: no handle is open, and the device is destructed
+abbrev pub last_world : Player → ℕ → World
+last_world p stamp = world_at stamp true [] p.opened (record (part_at p.next p.bound.items p.requests p.blocks None) { destructed = device ∷ [] })
+
+-- the player shut down: what it added behind the Shutdown leads to a world where the device is destructed
+pub record Finishes (old new : Player) : Type 0 where
+  pub entries : List Entry
+  pub added : new.log ≡ old.log ++ entry_at (length old.log + 1) acts.Shutdown ∷ entries
+  pub leads : Leads (setup_of old.row.now old.lines.now) 0 (world_at (length old.log + 1) true old.handles.items old.opened (part_at old.next old.bound.items old.requests old.blocks None)) entries (last_world old (length new.log))

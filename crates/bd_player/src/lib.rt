@@ -5,4 +5,4 @@ mod admission;
 mod player;
 mod store;
 
-
+pub use player::play;

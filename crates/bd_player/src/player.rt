@@ -1,7 +1,9 @@
 //! Plays a script on one malloc device and one thread. A submission is carried to its completion
 //! before its line is done: its one piece goes by messages from this thread to itself and back.
-ghost use Rattle.std.specs.Prelude.{◌≡◌, cond, is_none, ◌+◌, ◌<◌, ◌≤◌, ◌++◌, ◌∷◌, [], Some, None, true, length, slice_get, take, drop, IfOk, OnOk, option_map};
-ghost use Rattle.std.specs.List.{concat};
+ghost use Rattle.std.specs.Prelude.{◌≡◌, cond, is_none, ◌+◌, ◌<◌, ◌≤◌, ◌++◌, ◌∷◌, [], Some, None, true, length, slice_get, take, drop, map, IfOk, OnOk, option_map};
+ghost use Rattle.std.specs.List.{concat, AllByRecursion};
+ghost use Rattle.bd_machine.specs.Run.{IsCompleteRun};
+ghost use Rattle.bd_alone.specs.Laws.{lines_done, number_of};
 ghost use Rattle.bd_base.specs.declared.job.Job.TheVariants as jobs;
 ghost use Rattle.bd_machine.specs.Registry.{handle_of};
 ghost use Rattle.bd_machine.specs.Admission.{refusal_on};
@@ -11,7 +13,7 @@ ghost use Rattle.bd_base.specs.declared.act.Outcome.TheVariants as outcomes;
 ghost use Rattle.bd_base.specs.declared.act.Token.TheVariants as tokens;
 ghost use Rattle.bd_machine.specs.Completion.{is_shown, is_shown_data};
 ghost use Rattle.bd_machine.specs.Effect.{blocks_after, is_read};
-ghost use Rattle.bd_player.specs.Went.{longer, entry_at, Binds, Carries, Closes, IsNew, IsReady, IsNext, IsLineDone};
+ghost use Rattle.bd_player.specs.Went.{longer, entry_at, Binds, Carries, Closes, AllClosed, Finishes, IsNew, IsOwn, IsReady, IsNext, IsLineDone};
 
 
 use crate::admission::refusal;
@@ -339,6 +341,35 @@ impl<'a> Player<'a> {
             _ => self.end_line(number, Outcome::Done),
         }
     }
+
+    // Closes each handle that is left.
+    fn close_left(&mut self) -> Result<(), OutOfMemory>
+        requires own { AllByRecursion IsOwn self.old.handles.items }
+        ensures { OnOk result (AllClosed self.old self.new) }
+    {
+        for _ in 0..self.handles.len() {
+            if let Some(handle) = self.handles.first() {
+                let id = handle.id;
+                self.close_handle(id)?;
+            }
+        }
+        Ok(())
+    }
+
+    // Shuts down: the handles that are left are closed, and the device is destructed.
+    fn finish(&mut self) -> Result<(), OutOfMemory>
+        requires malloc { IsMalloc self.old.row.now }
+        requires ready { IsReady self.old }
+        ensures { OnOk result (Finishes self.old self.new) }
+    {
+        self.add(Act::Shutdown)?;
+        self.close_left()?;
+        let digest = digest_blocks(self.blocks.as_slice());
+        self.add(Act::Destruct {
+            dev: DEVICE,
+            digest: Some(digest),
+        })
+    }
 }
 
 // The first 8 bytes and the digest of what a read gave.
@@ -352,4 +383,20 @@ fn shown(bytes: &[u8]) -> Shown
         first,
         digest: digest_of(bytes),
     }
+}
+
+/// Plays a script's lines in order on a malloc device, from its blocks of zeros to its destruct, and
+/// gives the history: a complete run of the sequential machine, in which every line is done.
+pub fn play(alloc: Global, row: &DevRow, lines: &[Line]) -> Result<Vec<Entry>, OutOfMemory>
+    requires malloc { IsMalloc row.now }
+    requires playable { ArePlayable lines.now }
+    ensures complete { IfOk result (λ v. IsCompleteRun (setup_of row.now lines.now) [] v.items) }
+    ensures scripts { IfOk result (λ v. lines_done 0 v.items ≡ map number_of lines.now) }
+{
+    let mut player = Player::new(alloc, row, lines)?;
+    for line in lines {
+        player.line(line)?;
+    }
+    player.finish()?;
+    Ok(player.log.into_vec())
 }
