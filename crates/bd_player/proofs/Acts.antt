@@ -1,7 +1,6 @@
 -- Acts of the one thread that lead from one world to another, each with the next stamp.
-use Rattle.std.proofs.Common.{◌≡◌, ℕ, ◌+◌, false, List, [], ◌∷◌, ◌++◌, None, refl, sym, ◌∙◌, ap, subst}
+use Rattle.std.proofs.Common.{◌≡◌, ◌+◌, false, List, [], ◌∷◌, ◌++◌, None, refl, sym, subst}
 use Rattle.bd_base.specs.declared.act.Act.{Act}
-use Rattle.bd_base.specs.declared.act.Entry.{Entry}
 use Rattle.bd_base.specs.declared.setup.Setup.{Setup}
 use Rattle.bd_machine.specs.Step.{is_shutdown}
 use Rattle.bd_alone.specs.World.{World, refusal_alone, alone, Leads}

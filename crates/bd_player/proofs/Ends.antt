@@ -1,5 +1,5 @@
 -- How what a player did goes on, and how it ends: the handles that are left are closed, and the device is destructed.
-use Rattle.std.proofs.Common.{◌≡◌, ℕ, zero, suc, ◌+◌, ◌-◌, ◌<◌, ◌≤◌, Bool, true, false, not, cond, ◌&&◌, ◌==◌, List, [], ◌∷◌, ◌++◌, length, filter, append_assoc, append-nil, Option, Some, None, refl, sym, ◌∙◌, ap, ap₂, subst, eq-eqb, arith}
+use Rattle.std.proofs.Common.{◌≡◌, ℕ, suc, ◌+◌, ◌≤◌, Bool, true, false, not, cond, ◌==◌, List, [], ◌∷◌, ◌++◌, length, filter, append_assoc, append-nil, Some, None, refl, sym, ◌∙◌, ap, ap₂, subst, eq-eqb, arith}
 use Rattle.std.specs.List.{AllByRecursion, concat}
 use Rattle.std.proofs.lemmas.Bool.{and_from}
 use Rattle.sha2.specs.Sha256.{sha256}
@@ -8,7 +8,6 @@ use Rattle.bd_base.specs.declared.act.Act.TheVariants as acts
 use Rattle.bd_base.specs.declared.act.Entry.{Entry}
 use Rattle.bd_base.specs.declared.event.Answer.TheVariants as answers
 use Rattle.bd_base.specs.declared.event.RegEvent.TheVariants as events
-use Rattle.bd_base.specs.declared.id.HandleId.{HandleId}
 use Rattle.bd_base.specs.declared.setup.Setup.{Setup}
 use Rattle.bd_machine.specs.declared.state.Handle.{Handle}
 use Rattle.bd_machine.specs.Registry.{handle_of, is_own}
@@ -17,7 +16,7 @@ use Rattle.bd_alone.specs.World.{World, alone, Leads}
 use Rattle.bd_player.specs.declared.player.Player.{Player}
 use Rattle.bd_player.specs.Seen.{device, part_at, world_at}
 use Rattle.bd_player.specs.Solo.{setup_of, IsMalloc}
-use Rattle.bd_player.specs.Went.{IsReady, IsOwn, Went, Closes, AllClosed, Finishes, entry_at, last_world, longer, seen, without_handle}
+use Rattle.bd_player.specs.Went.{IsOwn, Went, Closes, AllClosed, Finishes, entry_at, last_world, longer, seen, without_handle}
 use Rattle.bd_player.proofs.Acts.{ActsLead, acts_lead, stamped}
 use Rattle.bd_player.proofs.Jobs.{own_left}
 use Rattle.bd_player.proofs.Lines.{one_act, close_shut_steps, destruct_steps}
@@ -42,7 +41,7 @@ went_then shut a b c h k =
       entries = h.entries ++ k.entries;
       added = k.added ∙ ap (λ (es : List Entry). es ++ k.entries) h.added ∙ append_assoc a.log h.entries k.entries;
       leads = leads_then (setup_of a.row.now a.lines.now) 0 (seen shut a) (seen shut b) (seen shut c) h.entries k.entries h.leads
-        (subst (λ (s : Setup). Leads s 0 (seen shut b) k.entries (seen shut c)) setup-is k.leads);
+          (subst (λ (s : Setup). Leads s 0 (seen shut b) k.entries (seen shut c)) setup-is k.leads);
     }
 
 one_longer : (xs : List Entry) (x : Entry) → length (xs ++ x ∷ []) ≡ length xs + 1
@@ -93,17 +92,17 @@ close_first old mid h hs is own closes =
     let found : handle_of old.handles.items h.id ≡ Some h = ap (λ (xs : List Handle). handle_of xs h.id) is ∙ first_found h hs in
     let is-own : IsOwn h = (subst (λ (xs : List Handle). AllByRecursion IsOwn xs) is own).0 in
     let leads : ActsLead setup (seen true old) (act ∷ []) end =
-      one_act setup (seen true old) end act refl
-      (close_shut_steps old.row.now old.lines.now (length old.log) old.next old.handles.items old.opened old.bound.items old.requests old.blocks h.id h (ap (λ (xs : List Handle). handle_of xs h.id) (all_own old.handles.items own) ∙ found) found is-own.0) in
+    one_act setup (seen true old) end act refl
+    (close_shut_steps old.row.now old.lines.now (length old.log) old.next old.handles.items old.opened old.bound.items old.requests old.blocks h.id h (ap (λ (xs : List Handle). handle_of xs h.id) (all_own old.handles.items own) ∙ found) found is-own.0) in
     record {
       row = closes.row;
       lines = closes.lines;
       entries = stamped (length old.log) (act ∷ []);
       added = closes.log;
       leads = subst (λ (x : World). Leads setup 0 (seen true old) (stamped (length old.log) (act ∷ [])) x)
-        (shut_world (length old.log + 1) (length mid.log) (without_handle h.id old.handles.items) mid.handles.items old.opened mid.opened old.next mid.next old.bound.items mid.bound.items old.requests mid.requests old.blocks mid.blocks
-        (sym (ap length closes.log ∙ one_longer old.log _)) (sym closes.handles) (sym closes.opened) (sym closes.next) (sym closes.bound) (sym closes.requests) (sym closes.blocks))
-        (acts_lead setup (seen true old) end (act ∷ []) leads);
+          (shut_world (length old.log + 1) (length mid.log) (without_handle h.id old.handles.items) mid.handles.items old.opened mid.opened old.next mid.next old.bound.items mid.bound.items old.requests mid.requests old.blocks mid.blocks
+          (sym (ap length closes.log ∙ one_longer old.log _)) (sym closes.handles) (sym closes.opened) (sym closes.next) (sym closes.bound) (sym closes.requests) (sym closes.blocks))
+          (acts_lead setup (seen true old) end (act ∷ []) leads);
     }
   where
     shut_world : (s s' : ℕ) (hs hs' : List Handle) (o o' n n' : ℕ) (b b' : _) (r r' : ℕ) (k k' : List (List ℕ)) → s ≡ s' → hs ≡ hs' → o ≡ o' → n ≡ n' → b ≡ b' → r ≡ r' → k ≡ k'
@@ -120,7 +119,7 @@ one_closed first now next left h hs so is closes = record {
   blocks = closes.blocks ∙ so.blocks;
   own = subst (λ (xs : List Handle). AllByRecursion IsOwn xs) (sym closes.handles) (own_left (λ x. not (is_own 0 h.id x)) now.handles.items so.own);
   few = subst (λ (xs : List Handle). length xs ≤ left) (sym closes.handles) (subst (λ (xs : List Handle). length (without_handle h.id xs) ≤ left) (sym is)
-    (within (first_goes h hs (subst (λ (xs : List Handle). AllByRecursion IsOwn xs) is so.own).0) (subst (λ (xs : List Handle). length xs ≤ suc left) is so.few)));
+      (within (first_goes h hs (subst (λ (xs : List Handle). AllByRecursion IsOwn xs) is so.own).0) (subst (λ (xs : List Handle). length xs ≤ suc left) is so.few)));
 }
   where
     within : {a b c : ℕ} → a ≤ b → suc b ≤ suc c → a ≤ c
@@ -173,19 +172,19 @@ finished old shut closed new digest malloc shut-is all is new-is =
     let end : World = last_world old (length closed.log + 1) in
     let begin-is : seen true closed ≡ begin = λ i. world_at (length closed.log) true (a.handles i) (a.opened i) (part_at (a.next i) (a.bound i) (a.requests i) (a.blocks i) None) in
     let last : Leads setup 0 begin (stamped (length closed.log) (act ∷ [])) end =
-      acts_lead setup begin end (act ∷ []) (one_act setup begin end act refl (destruct_steps old.row.now old.lines.now (length closed.log) old.next old.opened old.bound.items old.requests old.blocks digest malloc (is ∙ ap (λ (bs : List (List ℕ)). sha256 (concat bs)) a.blocks))) in
+    acts_lead setup begin end (act ∷ []) (one_act setup begin end act refl (destruct_steps old.row.now old.lines.now (length closed.log) old.next old.opened old.bound.items old.requests old.blocks digest malloc (is ∙ ap (λ (bs : List (List ℕ)). sha256 (concat bs)) a.blocks))) in
     let closes : Leads setup 0 (seen true p) a.went.entries begin = subst (λ (w : World). Leads setup 0 (seen true p) a.went.entries w) begin-is a.went.leads in
     let first-is : seen true p ≡ world_at (length old.log + 1) true old.handles.items old.opened (part_at old.next old.bound.items old.requests old.blocks None) =
-      ap (λ (n : ℕ). world_at n true old.handles.items old.opened (part_at old.next old.bound.items old.requests old.blocks None)) (one_longer old.log _) in
+    ap (λ (n : ℕ). world_at n true old.handles.items old.opened (part_at old.next old.bound.items old.requests old.blocks None)) (one_longer old.log _) in
     let last-is : end ≡ last_world old (length new.log) = ap (last_world old) (sym (ap (λ (x : Player). length x.log) new-is ∙ one_longer closed.log _)) in
     let entries : List Entry = a.went.entries ++ stamped (length closed.log) (act ∷ []) in
     record {
       entries = entries;
       added =
-        ap (λ (x : Player). x.log) new-is
-        ∙ ap (λ (l : List Entry). l ++ stamped (length closed.log) (act ∷ [])) a.went.added
-        ∙ append_assoc (longer old.log acts.Shutdown) a.went.entries (stamped (length closed.log) (act ∷ []))
-        ∙ append_assoc old.log (entry_at (length old.log + 1) acts.Shutdown ∷ []) entries;
+          ap (λ (x : Player). x.log) new-is
+          ∙ ap (λ (l : List Entry). l ++ stamped (length closed.log) (act ∷ [])) a.went.added
+          ∙ append_assoc (longer old.log acts.Shutdown) a.went.entries (stamped (length closed.log) (act ∷ []))
+          ∙ append_assoc old.log (entry_at (length old.log + 1) acts.Shutdown ∷ []) entries;
       leads = subst (λ (w : World). Leads setup 0 (world_at (length old.log + 1) true old.handles.items old.opened (part_at old.next old.bound.items old.requests old.blocks None)) entries w) last-is
-        (subst (λ (w : World). Leads setup 0 w entries end) first-is (leads_then setup 0 (seen true p) begin end a.went.entries (stamped (length closed.log) (act ∷ [])) closes last));
+          (subst (λ (w : World). Leads setup 0 w entries end) first-is (leads_then setup 0 (seen true p) begin end a.went.entries (stamped (length closed.log) (act ∷ [])) closes last));
     }

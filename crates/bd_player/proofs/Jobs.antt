@@ -1,5 +1,5 @@
 -- Each line of the player, done whole.
-use Rattle.std.proofs.Common.{◌≡◌, ℕ, zero, suc, ◌+◌, ◌<◌, ◌≤◌, Bool, true, false, not, cond, List, [], ◌∷◌, ◌++◌, length, filter, Option, Some, None, is_some, is_none, slice_get, refl, sym, ◌∙◌, ap, ap₂, subst, arith}
+use Rattle.std.proofs.Common.{◌≡◌, ℕ, suc, ◌+◌, ◌<◌, ◌≤◌, Bool, true, false, not, cond, List, [], ◌∷◌, ◌++◌, length, filter, Option, Some, None, is_some, refl, sym, ◌∙◌, ap, subst, arith}
 use Rattle.std.specs.List.{AllByRecursion}
 use Rattle.std.proofs.lemmas.Option.{slice_get_within}
 use Rattle.bd_base.specs.Name.{same_name}
@@ -13,9 +13,8 @@ use Rattle.bd_base.specs.declared.event.RegEvent.TheVariants as events
 use Rattle.bd_base.specs.declared.id.HandleId.{HandleId}
 use Rattle.bd_base.specs.declared.job.Job.{Job}
 use Rattle.bd_base.specs.declared.job.Job.TheVariants as jobs
-use Rattle.bd_base.specs.declared.job.Line.{Line}
 use Rattle.bd_base.specs.declared.request.Op.{Op}
-use Rattle.bd_base.specs.declared.request.Errno.TheVariants.{NoDev, BadDesc, Exists}
+use Rattle.bd_base.specs.declared.request.Errno.TheVariants.{BadDesc, Exists}
 use Rattle.bd_base.specs.declared.setup.Setup.{Setup}
 use Rattle.bd_machine.specs.declared.state.Binding.{Binding}
 use Rattle.bd_machine.specs.declared.state.Decided.{Decided}
@@ -30,8 +29,8 @@ use Rattle.bd_player.specs.declared.player.Player.{Player}
 use Rattle.bd_player.specs.Seen.{device, part_at, world_at, bound_in}
 use Rattle.bd_player.specs.Solo.{setup_of, is_playable}
 use Rattle.bd_player.specs.Went.{IsReady, IsNext, IsLineDone, Went, IsOwn, Binds, Closes, seen, entry_at, longer, without_handle}
-use Rattle.bd_player.proofs.Acts.{ActsLead, acts_then, stamped}
-use Rattle.bd_player.proofs.Lines.{one_act, script_steps, open_steps, open_refused_steps, close_steps, close_refused_steps}
+use Rattle.bd_player.proofs.Acts.{ActsLead, acts_then}
+use Rattle.bd_player.proofs.Lines.{one_act, script_steps, open_steps, close_steps}
 use Rattle.bd_player.proofs.Logs.{Logged, logged_then, logged_length, went_by}
 
 -- ---- what a line leaves
@@ -68,7 +67,7 @@ line_went old new xs job number handles opened decided outcome next row lines lo
     let end : World = world_at (length old.log + length xs + 1) false handles opened (part_at (old.next + 1) (bound_after (Some job) decided old.bound.items) old.requests old.blocks None) in
     let last = script_steps old.row.now old.lines.now (length old.log + length xs) old.next number handles opened old.bound.items old.requests old.blocks decided job outcome next due post in
     let all : ActsLead setup (seen false old) (xs ++ acts.Script number outcome ∷ []) end =
-      acts_then setup (seen false old) mid end xs (acts.Script number outcome ∷ []) leads (one_act setup mid end (acts.Script number outcome) refl last) in
+    acts_then setup (seen false old) mid end xs (acts.Script number outcome ∷ []) leads (one_act setup mid end (acts.Script number outcome) refl last) in
     went_by old new (xs ++ acts.Script number outcome ∷ []) end row lines log all
     (world_by (length old.log + length xs + 1) (length new.log) handles new.handles.items opened new.opened (old.next + 1) new.next (bound_after (Some job) decided old.bound.items) new.bound.items old.requests new.requests old.blocks new.blocks
     (sym (logged_length old.log new.log (xs ++ acts.Script number outcome ∷ []) log ∙ ap (λ (n : ℕ). length old.log + n) (one_longer xs) ∙ sum (length old.log) (length xs)))
@@ -124,8 +123,8 @@ only_ends old new number job outcome ready next due post bound is =
     (let p : Player = record old { next = old.next + 1; log = old.log ++ entry_at (length old.log + 1) (acts.Script number outcome) ∷ [] } in
     record {
       went = line_went old p [] job number old.handles.items old.opened None outcome next refl refl refl
-      (ap (λ (n : ℕ). world_at n false old.handles.items old.opened (part_at old.next old.bound.items old.requests old.blocks None)) (plus_none (length old.log)))
-      due post (record { handles_are = refl; opened_is = refl; next_is = refl; bound_is = bound; requests_are = refl; blocks_are = refl });
+          (ap (λ (n : ℕ). world_at n false old.handles.items old.opened (part_at old.next old.bound.items old.requests old.blocks None)) (plus_none (length old.log)))
+          due post (record { handles_are = refl; opened_is = refl; next_is = refl; bound_is = bound; requests_are = refl; blocks_are = refl });
       ready = still_ready old p number job ready next refl refl refl refl refl (more ready.few_opened) ready.own_handles;
       next = refl;
     })
@@ -153,7 +152,7 @@ act_and_end old mid new act number job decided outcome ready next mid-is new-is 
     (let p : Player = record old { next = old.next + 1; log = longer (longer old.log act) (acts.Script number outcome) } in
     record {
       went = line_went old p (act ∷ []) job number old.handles.items old.opened decided outcome next refl refl (logged_two old.log act (acts.Script number outcome)) leads
-      due post (record { handles_are = refl; opened_is = refl; next_is = refl; bound_is = bound; requests_are = refl; blocks_are = refl });
+          due post (record { handles_are = refl; opened_is = refl; next_is = refl; bound_is = bound; requests_are = refl; blocks_are = refl });
       ready = still_ready old p number job ready next refl refl refl refl refl (more ready.few_opened) ready.own_handles;
       next = refl;
     })
@@ -190,11 +189,11 @@ open_granted old mid done new number handle dev write ready next free named mid-
     let one = one_act (setup_of old.row.now old.lines.now) (seen false old) _ act refl (open_steps old.row.now old.lines.now (length old.log) old.next number old.handles.items old.opened old.bound.items old.requests old.blocks handle dev write next free named) in
     record {
       went = line_went old new (act ∷ []) job number (old.handles.items ++ h ∷ []) (old.opened + 1) (Some (decisions.Opened (record { 0 = old.opened }))) outcomes.Done next b.row b.lines
-      (b.log ∙ logged_two old.log act (acts.Script number outcomes.Done)) one refl refl
-      (record { handles_are = sym b.handles; opened_is = sym b.opened; next_is = sym b.next; bound_is = sym b.bound; requests_are = sym b.requests; blocks_are = sym b.blocks });
+          (b.log ∙ logged_two old.log act (acts.Script number outcomes.Done)) one refl refl
+          (record { handles_are = sym b.handles; opened_is = sym b.opened; next_is = sym b.next; bound_is = sym b.bound; requests_are = sym b.requests; blocks_are = sym b.blocks });
       ready = still_ready old new number job ready next b.row b.lines b.next b.blocks b.requests
-      (subst (λ (n : ℕ). new.opened ≤ n) (sym b.next) (subst (λ (n : ℕ). n ≤ old.next + 1) (sym b.opened) (more_both ready.few_opened)))
-      (subst (λ (hs : List Handle). AllByRecursion IsOwn hs) (sym b.handles) (own_more h (refl, refl) old.handles.items ready.own_handles));
+          (subst (λ (n : ℕ). new.opened ≤ n) (sym b.next) (subst (λ (n : ℕ). n ≤ old.next + 1) (sym b.opened) (more_both ready.few_opened)))
+          (subst (λ (hs : List Handle). AllByRecursion IsOwn hs) (sym b.handles) (own_more h (refl, refl) old.handles.items ready.own_handles));
       next = b.next;
     }
 
@@ -234,10 +233,10 @@ close_granted old mid done new number name id h ready next bind found closes don
     let one = one_act (setup_of old.row.now old.lines.now) (seen false old) _ act refl (close_steps old.row.now old.lines.now (length old.log) old.next number old.handles.items old.opened old.bound.items old.requests old.blocks name id h next bind found (found_own old.handles.items id h ready.own_handles found).0) in
     record {
       went = line_went old new (act ∷ []) job number (without_handle id old.handles.items) old.opened (Some decisions.Closed) outcomes.Done next row' lines' log' one refl refl
-      (record { handles_are = sym handles'; opened_is = sym opened'; next_is = sym on'; bound_is = sym bound'; requests_are = sym requests'; blocks_are = sym blocks' });
+          (record { handles_are = sym handles'; opened_is = sym opened'; next_is = sym on'; bound_is = sym bound'; requests_are = sym requests'; blocks_are = sym blocks' });
       ready = still_ready old new number job ready next row' lines' on' blocks' requests'
-      (subst (λ (n : ℕ). new.opened ≤ n) (sym on') (subst (λ (n : ℕ). n ≤ old.next + 1) (sym opened') (more ready.few_opened)))
-      (subst (λ (hs : List Handle). AllByRecursion IsOwn hs) (sym handles') (own_left (λ x. not (is_own 0 id x)) old.handles.items ready.own_handles));
+          (subst (λ (n : ℕ). new.opened ≤ n) (sym on') (subst (λ (n : ℕ). n ≤ old.next + 1) (sym opened') (more ready.few_opened)))
+          (subst (λ (hs : List Handle). AllByRecursion IsOwn hs) (sym handles') (own_left (λ x. not (is_own 0 id x)) old.handles.items ready.own_handles));
       next = on';
     }
 

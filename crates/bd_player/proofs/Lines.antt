@@ -1,17 +1,15 @@
 -- Each act of the player but a request's journey: the machine's guards let it pass, and this is the world behind it.
-use Rattle.std.proofs.Common.{◌≡◌, ℕ, zero, suc, ◌+◌, ◌<◌, Bool, true, false, not, cond, ◌&&◌, ◌||◌, ◌==◌, nat_lt, nat_eq, List, [], ◌∷◌, ◌++◌, length, filter, Option, Some, None, is_none, is_some, slice_get, find, refl, sym, ◌∙◌, ap, ap₂, subst, eq-eqb, eqb-true, arith}
+use Rattle.std.proofs.Common.{◌≡◌, ℕ, ◌+◌, Bool, true, false, not, cond, ◌&&◌, ◌==◌, nat_lt, nat_eq, List, [], ◌∷◌, ◌++◌, filter, Option, Some, None, is_none, is_some, slice_get, refl, sym, ◌∙◌, ap, eq-eqb, arith}
 use Rattle.std.specs.Option.{option_map, option_and_then}
 use Rattle.std.specs.Bool.{beq}
-use Rattle.std.specs.List.{AllByRecursion}
 use Rattle.std.specs.Cmp.Lexicographic.{pointwise}
 use Rattle.std.proofs.lemmas.Bool.{and_from}
 use Rattle.sha2.specs.Sha256.{sha256}
 use Rattle.std.specs.List.{concat}
 use Rattle.bd_base.specs.declared.device.Kind.{Kind}
 use Rattle.bd_base.specs.declared.request.Fill.{Fill}
-use Rattle.bd_machine.specs.declared.guard.TheConstants.{MAY_DESTRUCT, CONTENT_DIGEST}
 use Rattle.bd_machine.specs.Admission.{has_range, refusal_of}
-use Rattle.bd_machine.specs.Asked.{is_job_open, is_job_close, is_job_submit, handle_bound}
+use Rattle.bd_machine.specs.Asked.{is_job_open, is_job_close, is_job_submit}
 use Rattle.bd_machine.specs.BlockMap.{is_malloc_kind}
 use Rattle.bd_machine.specs.Registry.{device_named, open_answer, close_answer, handle_of, is_own}
 use Rattle.bd_machine.specs.Same.{same_answer, same_handle, same_if_any, same_op}
@@ -22,11 +20,9 @@ use Rattle.bd_base.specs.Errno.{number_of}
 use Rattle.bd_base.specs.Name.{same_name}
 use Rattle.bd_base.specs.declared.act.Act.{Act}
 use Rattle.bd_base.specs.declared.act.Act.TheVariants as acts
-use Rattle.bd_base.specs.declared.act.Entry.{Entry}
 use Rattle.bd_base.specs.declared.act.Outcome.{Outcome}
 use Rattle.bd_base.specs.declared.act.Outcome.TheVariants as outcomes
 use Rattle.bd_base.specs.declared.device.DevRow.{DevRow}
-use Rattle.bd_base.specs.declared.event.Answer.{Answer}
 use Rattle.bd_base.specs.declared.event.Answer.TheVariants as answers
 use Rattle.bd_base.specs.declared.event.RegEvent.TheVariants as events
 use Rattle.bd_base.specs.declared.id.HandleId.{HandleId}
@@ -38,14 +34,13 @@ use Rattle.bd_base.specs.declared.request.Errno.TheVariants.{NoDev, BadDesc}
 use Rattle.bd_base.specs.declared.request.Op.{Op}
 use Rattle.bd_base.specs.declared.request.Op.TheVariants as ops
 use Rattle.bd_base.specs.declared.setup.Setup.{Setup}
-use Rattle.bd_machine.specs.declared.guard.TheConstants.{NEXT_LINE, OUTCOME_DUE, IN_ORDER, UNBUILT, REGISTRY_ANSWER, EVENT_ASKED, LINE_ASKS, REFUSAL_DUE}
+use Rattle.bd_machine.specs.declared.guard.TheConstants.{NEXT_LINE, OUTCOME_DUE, IN_ORDER}
 use Rattle.bd_machine.specs.declared.state.Binding.{Binding}
 use Rattle.bd_machine.specs.declared.state.Decided.{Decided}
 use Rattle.bd_machine.specs.declared.state.Decided.TheVariants as decisions
 use Rattle.bd_machine.specs.declared.state.Handle.{Handle}
-use Rattle.bd_machine.specs.declared.state.Part.{Part}
 use Rattle.bd_machine.specs.Asked.{outcome_by, job_of}
-use Rattle.bd_machine.specs.Same.{same_outcome, same_errno, same_request, is_the}
+use Rattle.bd_machine.specs.Same.{same_outcome, same_errno, is_the}
 use Rattle.bd_machine.specs.Scripts.{bound_after, posted, is_line}
 use Rattle.bd_machine.specs.Step.{is_shutdown}
 use Rattle.bd_alone.specs.World.{World, refusal_alone, alone}
@@ -95,13 +90,13 @@ pub script_steps : (row : DevRow) (lines : List Line) (stamp next number : ℕ) 
 unfolding alone
 script_steps row lines stamp next number handles opened bound requests blocks decided job outcome line due post = record {
   allowed =
-    ap (λ (o : Option Line). cond (nat_lt stamp (stamp + 1)) (cond (is_line number o && true) (cond (is_the same_outcome outcome (option_and_then (λ l. outcome_by (part_at next bound requests blocks decided) decided l.job) o)) None (Some OUTCOME_DUE)) (Some NEXT_LINE)) (Some IN_ORDER)) line
-    ∙ pass (nat_lt stamp (stamp + 1)) _ _ None (later stamp)
-    (pass ((number == number) && true) _ _ None (and_from (number == number) true (eq-eqb number number refl) refl)
-    (pass (is_the same_outcome outcome (outcome_by (part_at next bound requests blocks decided) decided job)) _ _ None (ap (is_the same_outcome outcome) due ∙ outcome_self outcome) refl));
+      ap (λ (o : Option Line). cond (nat_lt stamp (stamp + 1)) (cond (is_line number o && true) (cond (is_the same_outcome outcome (option_and_then (λ l. outcome_by (part_at next bound requests blocks decided) decided l.job) o)) None (Some OUTCOME_DUE)) (Some NEXT_LINE)) (Some IN_ORDER)) line
+      ∙ pass (nat_lt stamp (stamp + 1)) _ _ None (later stamp)
+      (pass ((number == number) && true) _ _ None (and_from (number == number) true (eq-eqb number number refl) refl)
+      (pass (is_the same_outcome outcome (outcome_by (part_at next bound requests blocks decided) decided job)) _ _ None (ap (is_the same_outcome outcome) due ∙ outcome_self outcome) refl));
   leads =
-    ap (λ (o : Option Line). world_at (stamp + 1) false handles opened (record (part_at (next + 1) (bound_after (option_map job_of o) decided bound) requests blocks None) { due = posted (setup_of row lines) (option_map job_of o) })) line
-    ∙ ap (λ ds. world_at (stamp + 1) false handles opened (record (part_at (next + 1) (bound_after (Some job) decided bound) requests blocks None) { due = ds })) post;
+      ap (λ (o : Option Line). world_at (stamp + 1) false handles opened (record (part_at (next + 1) (bound_after (option_map job_of o) decided bound) requests blocks None) { due = posted (setup_of row lines) (option_map job_of o) })) line
+      ∙ ap (λ ds. world_at (stamp + 1) false handles opened (record (part_at (next + 1) (bound_after (Some job) decided bound) requests blocks None) { due = ds })) post;
 }
 
 -- ---- opens
@@ -119,13 +114,13 @@ pub open_steps : (row : DevRow) (lines : List Line) (stamp next number : ℕ) (h
 unfolding alone
 open_steps row lines stamp next number handles opened bound requests blocks handle dev write line free named = record {
   allowed =
-    pass (nat_lt stamp (stamp + 1)) _ _ None (later stamp)
-    (pass (same_answer (answers.Opened (record { 0 = opened }) device) (open_answer (record { handles = handles; next = opened }) (device_named (setup_of row lines) dev))) _ _ None
-    (ap (λ (o : Option ℕ). same_answer (answers.Opened (record { 0 = opened }) device) (open_answer (record { handles = handles; next = opened }) o)) (ap first_if named)
-    ∙ and_from (opened == opened) true (eq-eqb opened opened refl) refl)
-    (pass (is_job_open (part_at next bound requests blocks None) dev write (option_map job_of (slice_get lines next))) _ _ None
-    (ap (λ (o : Option Line). is_job_open (part_at next bound requests blocks None) dev write (option_map job_of o)) line
-    ∙ and_from (same_name dev dev && beq write write) (is_none (bound_in bound handle)) (and_from (same_name dev dev) (beq write write) (name_self dev) (flag_self write)) (ap is_none free)) refl));
+      pass (nat_lt stamp (stamp + 1)) _ _ None (later stamp)
+      (pass (same_answer (answers.Opened (record { 0 = opened }) device) (open_answer (record { handles = handles; next = opened }) (device_named (setup_of row lines) dev))) _ _ None
+      (ap (λ (o : Option ℕ). same_answer (answers.Opened (record { 0 = opened }) device) (open_answer (record { handles = handles; next = opened }) o)) (ap first_if named)
+      ∙ and_from (opened == opened) true (eq-eqb opened opened refl) refl)
+      (pass (is_job_open (part_at next bound requests blocks None) dev write (option_map job_of (slice_get lines next))) _ _ None
+      (ap (λ (o : Option Line). is_job_open (part_at next bound requests blocks None) dev write (option_map job_of o)) line
+      ∙ and_from (same_name dev dev && beq write write) (is_none (bound_in bound handle)) (and_from (same_name dev dev) (beq write write) (name_self dev) (flag_self write)) (ap is_none free)) refl));
   leads = refl;
 }
 
@@ -138,12 +133,12 @@ pub open_refused_steps : (row : DevRow) (lines : List Line) (stamp next number :
 unfolding alone
 open_refused_steps row lines stamp next number handles opened bound requests blocks handle dev write line free named = record {
   allowed =
-    pass (nat_lt stamp (stamp + 1)) _ _ None (later stamp)
-    (pass (same_answer (answers.Refused NoDev) (open_answer (record { handles = handles; next = opened }) (device_named (setup_of row lines) dev))) _ _ None
-    (ap (λ (o : Option ℕ). same_answer (answers.Refused NoDev) (open_answer (record { handles = handles; next = opened }) o)) (ap first_if named))
-    (pass (is_job_open (part_at next bound requests blocks None) dev write (option_map job_of (slice_get lines next))) _ _ None
-    (ap (λ (o : Option Line). is_job_open (part_at next bound requests blocks None) dev write (option_map job_of o)) line
-    ∙ and_from (same_name dev dev && beq write write) (is_none (bound_in bound handle)) (and_from (same_name dev dev) (beq write write) (name_self dev) (flag_self write)) (ap is_none free)) refl));
+      pass (nat_lt stamp (stamp + 1)) _ _ None (later stamp)
+      (pass (same_answer (answers.Refused NoDev) (open_answer (record { handles = handles; next = opened }) (device_named (setup_of row lines) dev))) _ _ None
+      (ap (λ (o : Option ℕ). same_answer (answers.Refused NoDev) (open_answer (record { handles = handles; next = opened }) o)) (ap first_if named))
+      (pass (is_job_open (part_at next bound requests blocks None) dev write (option_map job_of (slice_get lines next))) _ _ None
+      (ap (λ (o : Option Line). is_job_open (part_at next bound requests blocks None) dev write (option_map job_of o)) line
+      ∙ and_from (same_name dev dev && beq write write) (is_none (bound_in bound handle)) (and_from (same_name dev dev) (beq write write) (name_self dev) (flag_self write)) (ap is_none free)) refl));
   leads = refl;
 }
 
@@ -168,12 +163,12 @@ pub close_steps : (row : DevRow) (lines : List Line) (stamp next number : ℕ) (
 unfolding alone
 close_steps row lines stamp next number handles opened bound requests blocks name id h line bind handle own = record {
   allowed =
-    pass (nat_lt stamp (stamp + 1)) _ _ None (later stamp)
-    (pass (same_answer (answers.Closed None) (close_answer 0 (handle_of handles id))) _ _ None
-    (ap (λ (o : Option Handle). same_answer (answers.Closed None) (close_answer 0 o)) handle
-    ∙ ap (λ b. same_answer (answers.Closed None) (cond b (answers.Closed None) (answers.Refused BadDesc))) (eq-eqb h.thread.0 0 own))
-    (pass (is_job_close (part_at next bound requests blocks None) id (option_map job_of (slice_get lines next))) _ _ None
-    (asks_close next bound requests blocks id name number (slice_get lines next) line bind) refl));
+      pass (nat_lt stamp (stamp + 1)) _ _ None (later stamp)
+      (pass (same_answer (answers.Closed None) (close_answer 0 (handle_of handles id))) _ _ None
+      (ap (λ (o : Option Handle). same_answer (answers.Closed None) (close_answer 0 o)) handle
+      ∙ ap (λ b. same_answer (answers.Closed None) (cond b (answers.Closed None) (answers.Refused BadDesc))) (eq-eqb h.thread.0 0 own))
+      (pass (is_job_close (part_at next bound requests blocks None) id (option_map job_of (slice_get lines next))) _ _ None
+      (asks_close next bound requests blocks id name number (slice_get lines next) line bind) refl));
   leads = refl;
 }
 
@@ -186,11 +181,11 @@ pub close_refused_steps : (row : DevRow) (lines : List Line) (stamp next number 
 unfolding alone
 close_refused_steps row lines stamp next number handles opened bound requests blocks name id line bind handle = record {
   allowed =
-    pass (nat_lt stamp (stamp + 1)) _ _ None (later stamp)
-    (pass (same_answer (answers.Refused NoDev) (close_answer 0 (handle_of handles id))) _ _ None
-    (ap (λ (o : Option Handle). same_answer (answers.Refused NoDev) (close_answer 0 o)) handle)
-    (pass (is_job_close (part_at next bound requests blocks None) id (option_map job_of (slice_get lines next))) _ _ None
-    (asks_close next bound requests blocks id name number (slice_get lines next) line bind) refl));
+      pass (nat_lt stamp (stamp + 1)) _ _ None (later stamp)
+      (pass (same_answer (answers.Refused NoDev) (close_answer 0 (handle_of handles id))) _ _ None
+      (ap (λ (o : Option Handle). same_answer (answers.Refused NoDev) (close_answer 0 o)) handle)
+      (pass (is_job_close (part_at next bound requests blocks None) id (option_map job_of (slice_get lines next))) _ _ None
+      (asks_close next bound requests blocks id name number (slice_get lines next) line bind) refl));
   leads = refl;
 }
 
@@ -204,11 +199,11 @@ pub close_shut_steps : (row : DevRow) (lines : List Line) (stamp next : ℕ) (ha
 unfolding alone
 close_shut_steps row lines stamp next handles opened bound requests blocks id h mine handle own = record {
   allowed =
-    pass (nat_lt stamp (stamp + 1)) _ _ None (later stamp)
-    (pass (same_answer (answers.Closed None) (close_answer 0 (handle_of handles id))) _ _ None
-    (ap (λ (o : Option Handle). same_answer (answers.Closed None) (close_answer 0 o)) handle
-    ∙ ap (λ b. same_answer (answers.Closed None) (cond b (answers.Closed None) (answers.Refused BadDesc))) (eq-eqb h.thread.0 0 own))
-    (pass (is_some (handle_of (filter (is_of 0) handles) id)) _ _ None (ap (λ (o : Option Handle). is_some o) mine) refl));
+      pass (nat_lt stamp (stamp + 1)) _ _ None (later stamp)
+      (pass (same_answer (answers.Closed None) (close_answer 0 (handle_of handles id))) _ _ None
+      (ap (λ (o : Option Handle). same_answer (answers.Closed None) (close_answer 0 o)) handle
+      ∙ ap (λ b. same_answer (answers.Closed None) (cond b (answers.Closed None) (answers.Refused BadDesc))) (eq-eqb h.thread.0 0 own))
+      (pass (is_some (handle_of (filter (is_of 0) handles) id)) _ _ None (ap (λ (o : Option Handle). is_some o) mine) refl));
   leads = refl;
 }
 
@@ -251,12 +246,12 @@ pub refuse_steps : (row : DevRow) (lines : List Line) (stamp next number : ℕ) 
 unfolding alone
 refuse_steps row lines stamp next number handles opened bound requests blocks name id op lba count errno line bind range due = record {
   allowed =
-    pass (has_range op) _ _ None range
-    (pass (nat_lt stamp (stamp + 1)) _ _ None (later stamp)
-    (pass (is_job_submit (part_at next bound requests blocks None) id op lba count (option_map job_of (slice_get lines next))) _ _ None
-    (asks_submit next bound requests blocks id name op lba count number (slice_get lines next) line bind)
-    (pass (is_the same_errno errno (refusal_of (setup_of row lines) (view_in 0 (world_at stamp false handles opened (part_at next bound requests blocks None))) id op lba count)) _ _ None
-    (ap (is_the same_errno errno) due ∙ eq-eqb (number_of errno) (number_of errno) refl) refl)));
+      pass (has_range op) _ _ None range
+      (pass (nat_lt stamp (stamp + 1)) _ _ None (later stamp)
+      (pass (is_job_submit (part_at next bound requests blocks None) id op lba count (option_map job_of (slice_get lines next))) _ _ None
+      (asks_submit next bound requests blocks id name op lba count number (slice_get lines next) line bind)
+      (pass (is_the same_errno errno (refusal_of (setup_of row lines) (view_in 0 (world_at stamp false handles opened (part_at next bound requests blocks None))) id op lba count)) _ _ None
+      (ap (is_the same_errno errno) due ∙ eq-eqb (number_of errno) (number_of errno) refl) refl)));
   leads = refl;
 }
 
@@ -270,9 +265,9 @@ pub destruct_steps : (row : DevRow) (lines : List Line) (stamp next : ℕ) (open
 unfolding alone
 destruct_steps row lines stamp next opened bound requests blocks digest malloc is = record {
   allowed =
-    pass (nat_lt stamp (stamp + 1)) _ _ None (later stamp)
-    (pass (cond (is_malloc_kind row.kind) (pointwise nat_eq digest (sha256 (concat blocks))) false) _ _ None
-    (ap (λ (k : Kind). cond (is_malloc_kind k) (pointwise nat_eq digest (sha256 (concat blocks))) false) malloc.kind
-    ∙ ap (λ (d : List ℕ). pointwise nat_eq digest d) (sym is) ∙ name_self digest) refl);
+      pass (nat_lt stamp (stamp + 1)) _ _ None (later stamp)
+      (pass (cond (is_malloc_kind row.kind) (pointwise nat_eq digest (sha256 (concat blocks))) false) _ _ None
+      (ap (λ (k : Kind). cond (is_malloc_kind k) (pointwise nat_eq digest (sha256 (concat blocks))) false) malloc.kind
+      ∙ ap (λ (d : List ℕ). pointwise nat_eq digest d) (sym is) ∙ name_self digest) refl);
   leads = refl;
 }

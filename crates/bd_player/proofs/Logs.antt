@@ -6,7 +6,7 @@ use Rattle.bd_base.specs.declared.act.Entry.{Entry}
 use Rattle.bd_alone.specs.World.{World, Leads}
 use Rattle.bd_player.specs.declared.player.Player.{Player}
 use Rattle.bd_player.specs.Solo.{setup_of}
-use Rattle.bd_player.specs.Went.{IsReady, IsLineDone, Went, seen, entry_at, longer}
+use Rattle.bd_player.specs.Went.{Went, seen, entry_at, longer}
 use Rattle.bd_player.proofs.Acts.{ActsLead, acts_lead, stamped}
 
 -- the log gained these acts, each with the next stamp

@@ -1,5 +1,5 @@
 -- A whole script played: what the player did is a complete run, and every line is done.
-use Rattle.std.proofs.Common.{◌≡◌, ℕ, zero, suc, ◌+◌, ◌<◌, ◌≤◌, Bool, true, false, cond, ◌&&◌, List, [], ◌∷◌, ◌++◌, length, map, take, replicate, filter_map, slice_get, append-nil, le_refl, Option, Some, None, refl, sym, ◌∙◌, ap, ap₂, subst, arith}
+use Rattle.std.proofs.Common.{◌≡◌, ℕ, zero, suc, ◌+◌, ◌<◌, ◌≤◌, Bool, true, false, cond, ◌&&◌, List, [], ◌∷◌, ◌++◌, length, map, take, replicate, slice_get, append-nil, le_refl, Option, Some, None, refl, sym, ◌∙◌, ap, ap₂, subst, arith}
 use Rattle.std.specs.List.{AllByRecursion, cons_option}
 use Rattle.std.proofs.lemmas.List.{length-append, length-replicate, length-map, take_all}
 use Rattle.std.proofs.lemmas.List.Elements.{filter_map-append}
@@ -12,10 +12,9 @@ use Rattle.bd_base.specs.declared.setup.Setup.{Setup}
 use Rattle.bd_machine.specs.declared.state.Handle.{Handle}
 use Rattle.bd_machine.specs.BlockMap.{is_base_kind}
 use Rattle.bd_machine.specs.Content.{content_at_start}
-use Rattle.bd_machine.specs.declared.state.State.{State}
-use Rattle.bd_machine.specs.Asked.{is_script_blocked, is_waiting_line}
+use Rattle.bd_machine.specs.Asked.{is_waiting_line}
 use Rattle.bd_machine.specs.Effect.{zero_blocks}
-use Rattle.bd_machine.specs.Run.{IsRun, IsCompleteRun, state_after}
+use Rattle.bd_machine.specs.Run.{IsCompleteRun, state_after}
 use Rattle.bd_machine.specs.Start.{start}
 use Rattle.bd_machine.specs.View.{part_of}
 use Rattle.bd_alone.specs.Laws.{IsPlayedAlone, lines_done, line_by, number_of}
@@ -165,7 +164,6 @@ module _ (row : DevRow) (lines : List Line) (first mid end : Player) (malloc : I
       let tail : List Entry = entry_at (length mid.log + 1) acts.Shutdown ∷ finishes.entries in
       let n : ℕ = (part_of (state_after setup [] end.log) 0).next in
       let split : lines_done 0 end.log ≡ map number_of lines ++ lines_done 0 tail =
-        ap (lines_done 0) entries_are ∙ filter_map-append (line_by 0) so.went.entries tail ∙ ap (λ (xs : List ℕ). xs ++ lines_done 0 tail) front_done in
+      ap (lines_done 0) entries_are ∙ filter_map-append (line_by 0) so.went.entries tail ∙ ap (λ (xs : List ℕ). xs ++ lines_done 0 tail) front_done in
       let whole : lines_done 0 end.log ≡ map number_of (take n lines) = lines_are_front setup [] end.log 0 complete.0 in
       whole ∙ only_all lines n (lines_done 0 tail) (sym whole ∙ split)
-

@@ -1,5 +1,5 @@
 -- Submissions: one that is refused, and one that is carried to its completion.
-use Rattle.std.proofs.Common.{◌≡◌, ℕ, zero, suc, ◌+◌, ◌-◌, ◌*◌, ◌<◌, ◌≤◌, Bool, true, false, not, cond, ◌&&◌, ◌||◌, ◌==◌, nat_lt, List, [], ◌∷◌, ◌++◌, length, filter, take, drop, map, replicate, Option, Some, None, slice_get, refl, sym, ◌∙◌, ap, ap₂, subst, eqb-true, eq-eqb, arith}
+use Rattle.std.proofs.Common.{◌≡◌, ℕ, zero, suc, ◌+◌, ◌*◌, ◌<◌, ◌≤◌, Bool, true, false, not, cond, ◌&&◌, ◌||◌, ◌==◌, nat_lt, List, [], ◌∷◌, ◌++◌, length, filter, take, drop, Option, Some, None, refl, sym, ◌∙◌, ap, subst, eq-eqb, arith}
 use Rattle.std.specs.List.{AllByRecursion, concat}
 use Rattle.std.proofs.lemmas.List.{length-append, length-replicate}
 use Rattle.std.proofs.lemmas.Option.{slice_get_within}
@@ -18,7 +18,7 @@ use Rattle.bd_machine.specs.declared.state.Handle.{Handle}
 use Rattle.bd_base.specs.declared.request.Errno.TheVariants.{BadDesc, NotSup, Inval}
 use Rattle.bd_machine.specs.Admission.{has_range, is_outside, is_unmap, refusal_of, refusal_on, writes}
 use Rattle.bd_machine.specs.BlockMap.{is_aio}
-use Rattle.bd_machine.specs.Effect.{blocks_after, is_read, patterned, rewritten, zeroed}
+use Rattle.bd_machine.specs.Effect.{blocks_after, patterned, rewritten, zeroed}
 use Rattle.bd_machine.specs.Registry.{handle_of}
 use Rattle.bd_machine.specs.View.{is_of}
 use Rattle.bd_alone.specs.World.{view_in}
@@ -30,7 +30,7 @@ use Rattle.bd_player.specs.Went.{IsReady, IsNext, IsLineDone, IsOwn, Carries, ca
 use Rattle.bd_player.proofs.Carry.{carried}
 use Rattle.bd_player.proofs.Jobs.{act_and_end}
 use Rattle.bd_player.proofs.Lines.{one_act, refuse_steps}
-use Rattle.bd_player.proofs.Logs.{Logged, logged_length, went_by}
+use Rattle.bd_player.proofs.Logs.{logged_length, went_by}
 use Rattle.bd_player.proofs.Spliced.{kept}
 
 -- ---- what is known of a submission
@@ -143,13 +143,13 @@ shape_after size op lba count blocks plain =
     let shape = rewritten-shape size op lba own plain in
     record {
       same_length =
-        length-append (front ++ rewritten op lba own) rest ∙ ap (λ (n : ℕ). n + length rest) (length-append front (rewritten op lba own) ∙ ap (λ (n : ℕ). length front + n) shape.same_length)
-        ∙ sym (ap length (kept lba count blocks) ∙ length-append (front ++ own) rest ∙ ap (λ (n : ℕ). n + length rest) (length-append front own));
+          length-append (front ++ rewritten op lba own) rest ∙ ap (λ (n : ℕ). n + length rest) (length-append front (rewritten op lba own) ∙ ap (λ (n : ℕ). length front + n) shape.same_length)
+          ∙ sym (ap length (kept lba count blocks) ∙ length-append (front ++ own) rest ∙ ap (λ (n : ℕ). n + length rest) (length-append front own));
       sized = λ s.
-        let all : Sized size (front ++ own ++ rest) = subst (λ (xs : List (List ℕ)). Sized size xs) (kept lba count blocks) s in
-        sized-append size (front ++ rewritten op lba own) rest
-        (sized-append size front (rewritten op lba own) (sized-front size front own (sized-front size (front ++ own) rest all)) (shape.sized (sized-rest size front own (sized-front size (front ++ own) rest all))))
-        (sized-rest size (front ++ own) rest all);
+          let all : Sized size (front ++ own ++ rest) = subst (λ (xs : List (List ℕ)). Sized size xs) (kept lba count blocks) s in
+          sized-append size (front ++ rewritten op lba own) rest
+          (sized-append size front (rewritten op lba own) (sized-front size front own (sized-front size (front ++ own) rest all)) (shape.sized (sized-rest size front own (sized-front size (front ++ own) rest all))))
+          (sized-rest size (front ++ own) rest all);
     }
 
 -- ---- what an admitted submission asks is inside
@@ -224,7 +224,7 @@ carried_done old new number name id h asked malloc ready next bind found dev pla
     subst (IsLineDone old) (sym carries.new_is)
     (record {
       went = went_by old p xs (world_at (length old.log + 9) false old.handles.items old.opened (part_at (old.next + 1) old.bound.items (old.requests + 1) blocks None)) refl refl refl leads
-        (ap (λ (n : ℕ). world_at n false old.handles.items old.opened (part_at (old.next + 1) old.bound.items (old.requests + 1) blocks None)) (sym (logged_length old.log p.log xs refl)));
+          (ap (λ (n : ℕ). world_at n false old.handles.items old.opened (part_at (old.next + 1) old.bound.items (old.requests + 1) blocks None)) (sym (logged_length old.log p.log xs refl)));
       ready = record {
         next_within = below inside;
         few_requests = both ready.few_requests;

@@ -1,5 +1,5 @@
 -- One script on one thread, over one malloc device.
-use Rattle.std.specs.Prelude.{◌≡◌, ℕ, ◌≤◌, Bool, true, false, not, List, [], ◌∷◌, Option, Some, None}
+use Rattle.std.specs.Prelude.{◌≡◌, ◌≤◌, Bool, true, false, not, List, [], ◌∷◌}
 use Rattle.std.specs.List.{AllByRecursion}
 use Rattle.bd_base.specs.declared.device.DevRow.{DevRow}
 use Rattle.bd_base.specs.declared.device.ErrKind.TheVariants.{Failure}

@@ -18,7 +18,6 @@ use Rattle.bd_base.specs.declared.id.HandleId.{HandleId}
 use Rattle.bd_base.specs.declared.job.Job.{Job}
 use Rattle.bd_base.specs.declared.job.Line.{Line}
 use Rattle.bd_machine.specs.declared.state.Handle.{Handle}
-use Rattle.bd_machine.specs.declared.state.Binding.{Binding}
 use Rattle.bd_machine.specs.Asked.{no_request}
 use Rattle.bd_machine.specs.Completion.{is_shown}
 use Rattle.bd_machine.specs.Effect.{zero_blocks, blocks_after, is_read}

@@ -34,13 +34,7 @@ fn is_outside(row: &DevRow, lba: u64, count: u64) -> bool
 /// Why a submission through a handle of a malloc device is refused: `BadDesc` for a write, zeroes,
 /// unmap or flush through a handle that is open for reading; then `Inval` for no block, more than
 /// 262,144 bytes, or a range past the device's end. The order is this project's choice.
-pub(crate) fn refusal(
-    row: &DevRow,
-    handle: Handle,
-    op: Op,
-    lba: u64,
-    count: u64,
-) -> Option<Errno>
+pub(crate) fn refusal(row: &DevRow, handle: Handle, op: Op, lba: u64, count: u64) -> Option<Errno>
     requires malloc { row.now.kind ≡ Malloc }
     requires dev { handle.dev ≡ device }
     ensures { result ≡ refusal_on (setup_of row.now []) (Some handle) op lba count }

@@ -4,5 +4,7 @@
 mod admission;
 mod player;
 mod store;
+#[cfg(test)]
+mod tests;
 
 pub use player::play;

@@ -15,7 +15,6 @@ ghost use Rattle.bd_machine.specs.Completion.{is_shown, is_shown_data};
 ghost use Rattle.bd_machine.specs.Effect.{blocks_after, is_read};
 ghost use Rattle.bd_player.specs.Went.{longer, entry_at, Binds, Carries, Closes, AllClosed, Finishes, IsNew, IsOwn, IsReady, IsNext, IsLineDone};
 
-
 use crate::admission::refusal;
 use crate::store::{apply, digest_blocks, read_blocks, zero_blocks};
 use bd_base::{

@@ -4,11 +4,12 @@ use Rattle.bd_player.proofs.Spliced.{spliced-turn, spliced-done, length-set, pat
 use Rattle.bd_player.proofs.store.fill_blocks.Goals as goal
 
 pub loop-k-preserved : goal.loop-k-preserved
-loop-k-preserved c =
-    (length-set c.loop-k.rows c.loop-k.k _ ∙ c.loop-k.invariant.0,
-    spliced-turn (patterned_block c.args.seed) c.loop-k.k c.end_of-end.result c.loop-k.rows c.at_mut.result.now _ c.loop-k-test.true (omega arith)
-    (c.fill.ensures ∙ ap (λ (b : List ℕ). pattern c.args.seed c.loop-k.k (length b)) c.at_mut.ensures.value)
-    ∙ c.loop-k.invariant.1)
+loop-k-preserved c = (
+  length-set c.loop-k.rows c.loop-k.k _ ∙ c.loop-k.invariant.0,
+  spliced-turn (patterned_block c.args.seed) c.loop-k.k c.end_of-end.result c.loop-k.rows c.at_mut.result.now _ c.loop-k-test.true (omega arith)
+      (c.fill.ensures ∙ ap (λ (b : List ℕ). pattern c.args.seed c.loop-k.k (length b)) c.at_mut.ensures.value)
+      ∙ c.loop-k.invariant.1,
+)
 
 pub returns : goal.returns
 returns c =

@@ -1,4 +1,4 @@
-use Rattle.std.proofs.Common.{◌≡◌, ℕ, ◌+◌, ◌*◌, List, Option, ◌∙◌, ap, subst, arith}
+use Rattle.std.proofs.Common.{◌≡◌, ℕ, ◌+◌, ◌*◌, List, ◌∙◌, ap, subst, arith}
 use Rattle.std.proofs.lemmas.Result.{on_ok_weaker}
 use Rattle.bd_base.specs.declared.act.Act.{Act}
 use Rattle.bd_base.specs.declared.act.Act.TheVariants as acts
@@ -9,7 +9,7 @@ use Rattle.bd_base.specs.declared.request.Status.TheVariants.{Success}
 use Rattle.bd_machine.specs.Effect.{blocks_after}
 use Rattle.bd_player.specs.declared.player.Player.{Player}
 use Rattle.bd_player.specs.Seen.{device, piece_of}
-use Rattle.bd_player.specs.Went.{longer, request_of, Carries, ShowsBlocks}
+use Rattle.bd_player.specs.Went.{longer, request_of, ShowsBlocks}
 use Rattle.bd_player.proofs.Logs.{logged_nine}
 use Rattle.bd_player.proofs.player.Player.carry.Goals as goal
 
@@ -37,9 +37,9 @@ returns c =
       shown = c.in_ok-shown.shown;
       shows = subst (λ (bs : List (List ℕ)). ShowsBlocks asked bs c.in_ok-shown.shown) (ap (λ (p : Player). p.blocks) passed) c.in_ok-shown.ensures.shown;
       new_is =
-        e ∙ ap end (c.in_ok-add-4.ensures ∙ ap (add complete) (c.in_ok-pass-2.ensures ∙ ap (pass (n + 1)) (c.in_ok-add-3.ensures ∙ ap (add apply) (c.in_ok-shown.ensures.served ∙ ap serve passed))))
-        ∙ ap carried (twice c.from-sent.result old.requests c.from-sent.ensures)
-        ∙ ap (λ l. record old { next = old.next + 1; requests = old.requests + 1; blocks = blocks_after (piece_of asked.op asked.lba asked.count) old.blocks; log = l })
-        (logged_nine old.log accept (acts.Cut req 1) (acts.Put 0 (old.requests + old.requests) (tokens.Piece req 0)) (acts.Took 0 (old.requests + old.requests) (tokens.Piece req 0)) apply (acts.Put 0 (old.requests + old.requests + 1) (tokens.Piece req 0)) (acts.Took 0 (old.requests + old.requests + 1) (tokens.Piece req 0)) complete (acts.Script c.args.number (outcomes.Accepted req)));
+          e ∙ ap end (c.in_ok-add-4.ensures ∙ ap (add complete) (c.in_ok-pass-2.ensures ∙ ap (pass (n + 1)) (c.in_ok-add-3.ensures ∙ ap (add apply) (c.in_ok-shown.ensures.served ∙ ap serve passed))))
+          ∙ ap carried (twice c.from-sent.result old.requests c.from-sent.ensures)
+          ∙ ap (λ l. record old { next = old.next + 1; requests = old.requests + 1; blocks = blocks_after (piece_of asked.op asked.lba asked.count) old.blocks; log = l })
+          (logged_nine old.log accept (acts.Cut req 1) (acts.Put 0 (old.requests + old.requests) (tokens.Piece req 0)) (acts.Took 0 (old.requests + old.requests) (tokens.Piece req 0)) apply (acts.Put 0 (old.requests + old.requests + 1) (tokens.Piece req 0)) (acts.Took 0 (old.requests + old.requests + 1) (tokens.Piece req 0)) complete (acts.Script c.args.number (outcomes.Accepted req)));
     })
     c.end_line.ensures

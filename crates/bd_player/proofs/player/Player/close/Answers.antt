@@ -1,4 +1,4 @@
-use Rattle.std.proofs.Common.{ℕ, List, Some, true, false, not, refl, sym, ◌∙◌, ap, rules}
+use Rattle.std.proofs.Common.{Some, false, not, refl, sym, ◌∙◌, ap, rules}
 use Rattle.std.proofs.lemmas.Fn.{filter_same}
 use Rattle.std.proofs.lemmas.Result.{on_ok_weaker}
 use Rattle.bd_base.specs.Name.{same_name}
@@ -11,7 +11,7 @@ use Rattle.bd_base.specs.declared.request.Errno.TheVariants.{NoDev, BadDesc}
 use Rattle.bd_machine.specs.declared.state.Binding.{Binding}
 use Rattle.bd_machine.specs.declared.state.Decided.TheVariants as decisions
 use Rattle.bd_player.specs.Solo.{setup_of}
-use Rattle.bd_player.specs.Went.{seen, longer}
+use Rattle.bd_player.specs.Went.{seen}
 use Rattle.bd_player.proofs.Jobs.{only_ends, act_and_end, close_granted, line_inside, unbound_due}
 use Rattle.bd_player.proofs.Lines.{one_act, close_refused_steps}
 use Rattle.bd_player.proofs.player.Player.close.Goals as goal

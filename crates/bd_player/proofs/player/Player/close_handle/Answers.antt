@@ -1,4 +1,4 @@
-use Rattle.std.proofs.Common.{not, ◌&&◌, ◌==◌, ◌∙◌, ap, rules}
+use Rattle.std.proofs.Common.{not, ◌∙◌, ap, rules}
 use Rattle.std.proofs.lemmas.Fn.{filter_same}
 use Rattle.bd_machine.specs.declared.state.Handle.{Handle}
 use Rattle.bd_machine.specs.Registry.{is_own}

@@ -24,14 +24,14 @@ loop-preserved c =
     let so = subst (ClosedSoFar c.args.self.now c.loop.self) (one_fewer c.len-end.result c.loop.counter c.loop-test.true) c.loop.invariant in
     let left = c.len-end.result - (c.loop.counter + 1) in
     elim c.match-first.branch [
-      in-Some+in_ok-close_handle w ↦
-        subst (λ (p : Player). ClosedSoFar c.args.self.now p left) (sym w.self-is)
-        (one_closed c.args.self.now c.loop.self w.close_handle.new.self left w.in-Some.handle.now (drop 1 c.loop.self.handles.items) so
-        (first_is c.loop.self.handles.items w.in-Some.handle.now (w.in-Some.ensures.item.0 ∙ ap (λ (xs : List Handle). nat_lt 0 (length xs)) c.deref.ensures.value) (w.in-Some.ensures.item.1 ∙ ap (λ (xs : List Handle). get_or xs 0 w.in-Some.handle.now) c.deref.ensures.value))
-        w.in_ok-close_handle.ensures)
+      | in-Some+in_ok-close_handle w ↦
+          subst (λ (p : Player). ClosedSoFar c.args.self.now p left) (sym w.self-is)
+          (one_closed c.args.self.now c.loop.self w.close_handle.new.self left w.in-Some.handle.now (drop 1 c.loop.self.handles.items) so
+          (first_is c.loop.self.handles.items w.in-Some.handle.now (w.in-Some.ensures.item.0 ∙ ap (λ (xs : List Handle). nat_lt 0 (length xs)) c.deref.ensures.value) (w.in-Some.ensures.item.1 ∙ ap (λ (xs : List Handle). get_or xs 0 w.in-Some.handle.now) c.deref.ensures.value))
+          w.in_ok-close_handle.ensures)
       | in_default w ↦
-        subst (λ (p : Player). ClosedSoFar c.args.self.now p left) (sym w.self-is)
-        (none_left c.args.self.now c.loop.self left so (nothing c.loop.self.handles.items (w.in_default.ensures.item.0 ∙ ap (λ (xs : List Handle). nat_lt 0 (length xs)) c.deref.ensures.value)))
+          subst (λ (p : Player). ClosedSoFar c.args.self.now p left) (sym w.self-is)
+          (none_left c.args.self.now c.loop.self left so (nothing c.loop.self.handles.items (w.in_default.ensures.item.0 ∙ ap (λ (xs : List Handle). nat_lt 0 (length xs)) c.deref.ensures.value)))
     ]
 
 pub returns : goal.returns

@@ -1,4 +1,4 @@
-use Rattle.std.proofs.Common.{ℕ, List, Some, true, false, refl, sym, ◌∙◌, ap}
+use Rattle.std.proofs.Common.{ℕ, List, Some, false, refl, sym, ◌∙◌, ap}
 use Rattle.std.specs.Option.{is_some}
 use Rattle.std.proofs.lemmas.Result.{on_ok_weaker}
 use Rattle.bd_base.specs.declared.act.Act.TheVariants as acts

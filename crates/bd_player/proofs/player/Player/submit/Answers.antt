@@ -1,5 +1,4 @@
-use Rattle.std.proofs.Common.{ℕ, ◌+◌, ◌≤◌, Some, None, true, refl, sym, ◌∙◌, ap, subst, arith, length, take, drop}
-use Rattle.std.specs.List.{concat}
+use Rattle.std.proofs.Common.{ℕ, ◌+◌, ◌≤◌, Some, None, refl, sym, ◌∙◌, subst, arith}
 use Rattle.std.proofs.lemmas.Option.{slice_get_within}
 use Rattle.std.proofs.lemmas.Result.{on_ok_weaker}
 use Rattle.bd_base.specs.declared.request.Errno.TheVariants.{BadDesc}
