@@ -64,9 +64,9 @@ fn memory_is_enough_for_a_write_and_a_read(rt: HostRuntime) -> Result<(), Fail> 
     ];
     let history = play(alloc, &row, &lines)?;
     // an open is two entries, a request nine; then the Shutdown, the close that is left, the destruct
-    assert_eq!(history.len(), 23);
+    assert_eq!(rt; history.len(), 23);
     let read = history.iter().any(|entry| shows(&entry.act));
-    assert!(read);
+    assert!(rt; read);
     Ok(())
 }
 
