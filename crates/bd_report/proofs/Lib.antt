@@ -1,1 +1,4 @@
+pub mod IndexLemmas
+pub mod MovedLemmas
+pub mod OrderLemmas
 pub mod ReportLemmas

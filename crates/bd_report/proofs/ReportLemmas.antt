@@ -1,9 +1,11 @@
 -- What a step of a loop adds to the lists that the report is defined by.
-use Rattle.std.proofs.Common.{◌≡◌, refl, sym, ap, ◌∙◌, ℕ, ◌+◌, ◌*◌, ◌-◌, ◌^◌, ◌<◌, List, [], ◌∷◌, ◌++◌, length, take, min, flat_map, filter_map, get_or, Option, Some, None, arith}
-use Rattle.std.specs.List.{range_with_len, cons_option}
-use Rattle.std.proofs.lemmas.List.{append-nil, map-id, take_more, flat_map_more}
+use Rattle.std.proofs.Common.{◌≡◌, refl, sym, ap, ◌∙◌, ℕ, zero, suc, ⊎_elim, ◌≤◌, ◌+◌, ◌*◌, ◌-◌, ◌^◌, List, [], ◌∷◌, ◌++◌, min, flat_map, filter_map, Option, Some, None, arith}
+use Rattle.std.specs.List.{range_with_len, cons_option, sum_by}
+use Rattle.std.proofs.Math.Nat.{zero-mul, mul-zero, mul-suc, add-mul, mul-le-mul_right, min-eq_left, min-eq_right}
+use Rattle.std.proofs.lemmas.Bool.{cases_lt}
+use Rattle.std.proofs.lemmas.List.Sums.{sum_by-cons}
+use Rattle.std.proofs.lemmas.List.{map-id, flat_map_more}
 use Rattle.std.proofs.lemmas.List.FromFn.{map-range_with_len_more}
-use Rattle.std.proofs.lemmas.List.Sums.{sum_by_push}
 use Rattle.bd_report.specs.Report.{bytes_in, counts_words}
 
 -- one more number at the end of a range from 0
@@ -24,24 +26,31 @@ pub filter_map_push : {X Y : Type 0} (f : X → Option Y) (xs : List X) (x : X) 
 filter_map_push f [] x = refl
 filter_map_push f (y ∷ xs) x = ap (cons_option (f y)) (filter_map_push f xs x) ∙ cons_option-append (f y) (filter_map f xs) (cons_option (f x) [])
 
--- a step at which something is found
-pub filter_map_more_some : {X Y : Type 0} (f : X → Option Y) (xs : List X) (i : ℕ) (d : X) (y : Y) → i < length xs → f (get_or xs i d) ≡ Some y → filter_map f (take (i + 1) xs) ≡ filter_map f (take i xs) ++ y ∷ []
-filter_map_more_some f xs i d y h e =
-    ap (filter_map f) (take_more xs i d h) ∙ filter_map_push f (take i xs) (get_or xs i d) ∙ ap (λ o. filter_map f (take i xs) ++ cons_option o []) e
+-- a sum of products with one number
+sum_times : (size : ℕ) (counts : List ℕ) → sum_by (λ n. n * size) counts ≡ sum_by (λ n. n) counts * size
+sum_times size [] = sym (zero-mul size)
+sum_times size (count ∷ counts) =
+    sum_by-cons (λ n. n * size) count counts ∙
+    ap (λ s. count * size + s) (sum_times size counts) ∙
+    sym (add-mul count (sum_by (λ n. n) counts) size) ∙
+    ap (λ s. s * size) (sym (sum_by-cons (λ n. n) count counts))
 
--- a step at which nothing is found
-pub filter_map_more_none : {X Y : Type 0} (f : X → Option Y) (xs : List X) (i : ℕ) (d : X) → i < length xs → f (get_or xs i d) ≡ None → filter_map f (take (i + 1) xs) ≡ filter_map f (take i xs)
-filter_map_more_none f xs i d h e =
-    ap (filter_map f) (take_more xs i d h) ∙ filter_map_push f (take i xs) (get_or xs i d) ∙ ap (λ o. filter_map f (take i xs) ++ cons_option o []) e ∙ append-nil (filter_map f (take i xs))
+-- a product of a number that was capped, capped again
+product_capped : (s size m : ℕ) → min (min s m * size) m ≡ min (s * size) m
+product_capped s zero m = ap (λ p. min p m) (mul-zero (min s m) ∙ sym (mul-zero s))
+product_capped s (suc size) m =
+    ⊎_elim
+    (λ below. ap (λ n. min (n * suc size) m) (min-eq_left (omega (arith, below))))
+    (λ above.
+    let once : m ≤ m * suc size = omega (arith, mul-suc m size) in
+    let more : m * suc size ≤ s * suc size = mul-le-mul_right (suc size) above in
+    ap (λ n. min (n * suc size) m) (min-eq_right above) ∙ min-eq_right once ∙ sym (min-eq_right (omega (arith, once, more))))
+    (cases_lt s m)
 
--- a sum capped at each step is the sum capped once
-pub capped_sum : (s p m : ℕ) → min (min s m + min p m) m ≡ min (s + p) m
-capped_sum s p m = omega arith
-
--- the bytes with one more request
-pub bytes_in_push : (size : ℕ) (counts : List ℕ) (count : ℕ) → bytes_in size (counts ++ count ∷ []) ≡ min (bytes_in size counts + min (count * size) (2 ^ 64 - 1)) (2 ^ 64 - 1)
-bytes_in_push size counts count =
-    ap (λ s. min s (2 ^ 64 - 1)) (sum_by_push (λ n. n * size) counts count) ∙ sym (capped_sum _ (count * size) (2 ^ 64 - 1))
+-- the bytes from the capped sum of the blocks
+pub bytes_of_blocks : (size : ℕ) (counts : List ℕ) → min (min (sum_by (λ n. n) counts) (2 ^ 64 - 1) * size) (2 ^ 64 - 1) ≡ bytes_in size counts
+bytes_of_blocks size counts =
+    product_capped (sum_by (λ n. n) counts) size (2 ^ 64 - 1) ∙ ap (λ s. min s (2 ^ 64 - 1)) (sym (sum_times size counts))
 
 -- equal counts give equal words
 pub counts_same : (a b c d : ℕ) {a' b' c' d' : ℕ} → a ≡ a' → b ≡ b' → c ≡ c' → d ≡ d' → counts_words a b c d ≡ counts_words a' b' c' d'

@@ -1,1 +1,7 @@
+pub mod First
+pub mod Index
+pub mod Moved
+pub mod Order
 pub mod Report
+pub mod Tally
+pub mod TraceIndex

@@ -1,13 +1,15 @@
 //! The report of a run: a line for each command, for each command that waits for its base, for each
 //! thread that has a command and for each device, and one for the whole run.
-ghost use Rattle.std.specs.Prelude.{◌≡◌, ◌++◌, ◌+◌, ◌*◌, ◌-◌, ◌^◌, ◌&&◌, ◌==◌, length, min, flat_map, filter_map, IfOk, OnOk, codes};
-ghost use Rattle.std.specs.List.{range_with_len, list_any};
+ghost use Rattle.std.specs.Prelude.{◌≡◌, ◌++◌, ◌*◌, ◌-◌, ◌^◌, ◌&&◌, ◌==◌, length, min, flat_map, IfOk, OnOk, codes};
+ghost use Rattle.std.specs.List.{list_any};
 ghost use Rattle.hex.specs.Hex.{encode_lower};
-ghost use Rattle.bd_report.specs.Report.{report_of, job_lines, lines_numbered, script_lines, job_line, job_line_if, greatest_number, greatest_in, outcome_words, completion_words, shown_words, first_found, outcome_in, completion_in, digest_in, same_request, waiting_line, is_meant, is_accept, is_refusal, is_status, is_end, count_acts, tally_words, thread_line, thread_line_if, thread_lines, is_busy_script, is_way, is_success_of, has_succeeded, moved_in_act, moved, bytes_in, is_malloc, contents_words, digest_words, device_size_words, moved_words, counts_words, device_line, device_lines, end_line};
+ghost use Rattle.bd_report.specs.Order.{command_line};
+ghost use Rattle.bd_report.specs.Report.{report_of, job_lines, job_line, outcome_words, completion_words, shown_words, waiting_line, tally_words, thread_line, thread_line_if, thread_lines, is_busy_script, is_malloc, contents_words, digest_words, device_size_words, moved_words, counts_words, device_line, device_lines, end_line};
 
+use crate::index::TraceIndex;
+use crate::order::{Command, in_order};
 use bd_base::{
-    Act, DevRow, Entry, Kind, Line, Op, OutOfMemory, Outcome, ReqId, Script, Setup, Shown, Status,
-    Waiting, Way,
+    DevRow, Entry, Kind, Line, OutOfMemory, Outcome, Script, Setup, Shown, Status, Waiting, Way,
 };
 use std::alloc::Global;
 
@@ -17,12 +19,20 @@ use std::alloc::Global;
 pub fn report(alloc: Global, setup: &Setup, trace: &[Entry]) -> Result<Vec<u8>, OutOfMemory>
     ensures { IfOk result (λ v. v.items ≡ report_of setup.now trace.now) }
 {
+    let index = TraceIndex::new(alloc, trace)?;
+    write_report(alloc, setup, &index)
+}
+
+// The report by the index of the trace.
+fn write_report(alloc: Global, setup: &Setup, index: &TraceIndex) -> Result<Vec<u8>, OutOfMemory>
+    ensures { IfOk result (λ v. v.items ≡ report_of setup.now index.now) }
+{
     let mut out = Vec::new(alloc);
-    write_jobs(alloc, &mut out, setup.scripts.as_slice(), trace)?;
+    write_jobs(alloc, &mut out, setup.scripts.as_slice(), index)?;
     write_waiting(alloc, &mut out, setup.waiting.as_slice())?;
-    write_threads(alloc, &mut out, setup, trace)?;
-    write_devices(alloc, &mut out, trace, setup.devices.as_slice())?;
-    write_end(alloc, &mut out, trace)?;
+    write_threads(alloc, &mut out, setup, index)?;
+    write_devices(alloc, &mut out, index, setup.devices.as_slice())?;
+    write_end(alloc, &mut out, index)?;
     Ok(out)
 }
 
@@ -33,80 +43,26 @@ fn write_jobs(
     alloc: Global,
     out: &mut Vec<u8>,
     scripts: &[Script],
-    trace: &[Entry],
+    index: &TraceIndex,
 ) -> Result<(), OutOfMemory>
-    ensures { OnOk result (out.new.items ≡ out.old.items ++ job_lines scripts.now trace.now) }
+    ensures { OnOk result (out.new.items ≡ out.old.items ++ job_lines scripts.now index.now) }
 {
-    let end = u64::from(greatest_number(scripts)) + 1;
-    for number in 0..end {
-        write_numbered(alloc, out, scripts, trace, number)?;
-    }
+    let commands = in_order(alloc, scripts)?;
+    write_commands(alloc, out, commands.as_slice(), index)?;
     Ok(())
 }
 
-// The greatest line number of all.
-fn greatest_number(scripts: &[Script]) -> u32
-    ensures { result ≡ greatest_number scripts.now }
-{
-    scripts.iter().fold(0, |greatest: u32, script| greatest.max(greatest_in(script)))
-}
-
-// The greatest line number of a script.
-fn greatest_in(script: &Script) -> u32
-    ensures { result ≡ greatest_in script.now }
-{
-    script
-        .lines
-        .as_slice()
-        .iter()
-        .fold(0, |greatest: u32, line| greatest.max(line.number))
-}
-
-// Writes the command with a number, in whatever script it stands.
-fn write_numbered(
+// Writes commands in their order.
+fn write_commands(
     alloc: Global,
     out: &mut Vec<u8>,
-    scripts: &[Script],
-    trace: &[Entry],
-    number: u64,
+    commands: &[Command],
+    index: &TraceIndex,
 ) -> Result<(), OutOfMemory>
-    ensures { OnOk result (out.new.items ≡ out.old.items ++ lines_numbered scripts.now trace.now number) }
+    ensures { OnOk result (out.new.items ≡ out.old.items ++ flat_map (command_line index.now) commands.now) }
 {
-    for script in scripts {
-        write_script(alloc, out, script, trace, number)?;
-    }
-    Ok(())
-}
-
-// Writes the command with a number, if it stands in this script.
-fn write_script(
-    alloc: Global,
-    out: &mut Vec<u8>,
-    script: &Script,
-    trace: &[Entry],
-    number: u64,
-) -> Result<(), OutOfMemory>
-    ensures { OnOk result (out.new.items ≡ out.old.items ++ script_lines trace.now number script.now) }
-{
-    for line in script.lines.as_slice() {
-        write_job_if(alloc, out, trace, number, script.thread, line)?;
-    }
-    Ok(())
-}
-
-// Writes the line of a thread's command, if it has this number.
-fn write_job_if(
-    alloc: Global,
-    out: &mut Vec<u8>,
-    trace: &[Entry],
-    number: u64,
-    thread: u32,
-    line: &Line,
-) -> Result<(), OutOfMemory>
-    ensures { OnOk result (out.new.items ≡ out.old.items ++ job_line_if trace.now number thread line.now) }
-{
-    if u64::from(line.number) == number {
-        write_job(alloc, out, trace, thread, line)?;
+    for command in commands {
+        write_job(alloc, out, index, command.thread, command.line)?;
     }
     Ok(())
 }
@@ -115,17 +71,17 @@ fn write_job_if(
 fn write_job(
     alloc: Global,
     out: &mut Vec<u8>,
-    trace: &[Entry],
+    index: &TraceIndex,
     thread: u32,
     line: &Line,
 ) -> Result<(), OutOfMemory>
-    ensures { OnOk result (out.new.items ≡ out.old.items ++ job_line trace.now thread line.now) }
+    ensures { OnOk result (out.new.items ≡ out.old.items ++ job_line index.now thread line.now) }
 {
     let number = line.number;
     let word = line.job.word();
     let start = format!(in alloc; "job {number} {thread} {word} ")?;
     out.extend_from_slice(start.as_bytes())?;
-    write_outcome(alloc, out, trace, first_outcome(trace, thread, number))?;
+    write_outcome(alloc, out, index, index.outcome(thread, number))?;
     out.extend_from_slice(b"\n")?;
     Ok(())
 }
@@ -134,10 +90,10 @@ fn write_job(
 fn write_outcome(
     alloc: Global,
     out: &mut Vec<u8>,
-    trace: &[Entry],
+    index: &TraceIndex,
     outcome: Option<Outcome>,
 ) -> Result<(), OutOfMemory>
-    ensures { OnOk result (out.new.items ≡ out.old.items ++ outcome_words trace.now outcome) }
+    ensures { OnOk result (out.new.items ≡ out.old.items ++ outcome_words index.now outcome) }
 {
     match outcome {
         None => out.extend_from_slice(b"skipped")?,
@@ -151,7 +107,7 @@ fn write_outcome(
             let text = format!(in alloc; "errno 16 open {open}")?;
             out.extend_from_slice(text.as_bytes())?;
         }
-        Some(Outcome::Accepted(req)) => write_completion(alloc, out, first_completion(trace, req))?,
+        Some(Outcome::Accepted(req)) => write_completion(alloc, out, index.completion(req))?,
     }
     Ok(())
 }
@@ -204,88 +160,6 @@ fn write_hex(alloc: Global, out: &mut Vec<u8>, bytes: &[u8]) -> Result<(), OutOf
     Ok(())
 }
 
-// ---- what the trace says
-
-// The outcome of a thread's line.
-fn first_outcome(trace: &[Entry], thread: u32, number: u32) -> Option<Outcome>
-    ensures { result ≡ first_found (outcome_in thread number) trace.now }
-{
-    for entry in trace {
-        let found = outcome_in(entry, thread, number);
-        if found.is_some() {
-            return found;
-        }
-    }
-    None
-}
-
-// The outcome of a thread's line, if the entry is that line's.
-fn outcome_in(entry: &Entry, thread: u32, number: u32) -> Option<Outcome>
-    ensures { result ≡ outcome_in thread number entry.now }
-{
-    match &entry.act {
-        Act::Script { line, outcome } if entry.thread == thread && *line == number => Some(
-            *outcome,
-        ),
-        _ => None,
-    }
-}
-
-// A request's status and what it showed.
-fn first_completion(trace: &[Entry], request: ReqId) -> Option<(Status, Option<Shown>)>
-    ensures { result ≡ first_found (completion_in request) trace.now }
-{
-    for entry in trace {
-        let found = completion_in(entry, request);
-        if found.is_some() {
-            return found;
-        }
-    }
-    None
-}
-
-// A request's status and what it showed, if the entry is its completion.
-fn completion_in(entry: &Entry, request: ReqId) -> Option<(Status, Option<Shown>)>
-    ensures { result ≡ completion_in request entry.now }
-{
-    match &entry.act {
-        Act::Complete { req, status, shown } if same_request(*req, request) => Some((
-            *status, *shown,
-        )),
-        _ => None,
-    }
-}
-
-// Whether two names are of one request.
-fn same_request(a: ReqId, b: ReqId) -> bool
-    ensures { result ≡ same_request a b }
-{
-    a.thread == b.thread && a.seq == b.seq
-}
-
-// The digest of a device's contents at its end.
-fn first_digest(trace: &[Entry], device: usize) -> Option<[u8; 32]>
-    ensures { result ≡ first_found (digest_in device) trace.now }
-{
-    for entry in trace {
-        let found = digest_in(entry, device);
-        if found.is_some() {
-            return found;
-        }
-    }
-    None
-}
-
-// The digest of a device's contents, if the entry is its destruction and tells one.
-fn digest_in(entry: &Entry, device: usize) -> Option<[u8; 32]>
-    ensures { result ≡ digest_in device entry.now }
-{
-    match &entry.act {
-        Act::Destruct { dev, digest } if dev.0 as usize == device => *digest,
-        _ => None,
-    }
-}
-
 // ---- waiting commands
 
 // Writes the commands whose base never came.
@@ -323,12 +197,12 @@ fn write_threads(
     alloc: Global,
     out: &mut Vec<u8>,
     setup: &Setup,
-    trace: &[Entry],
+    index: &TraceIndex,
 ) -> Result<(), OutOfMemory>
-    ensures { OnOk result (out.new.items ≡ out.old.items ++ thread_lines setup.now trace.now) }
+    ensures { OnOk result (out.new.items ≡ out.old.items ++ thread_lines setup.now index.now) }
 {
     for thread in 0..setup.threads {
-        write_thread_if(alloc, out, setup, trace, thread)?;
+        write_thread_if(alloc, out, setup, index, thread)?;
     }
     Ok(())
 }
@@ -338,13 +212,13 @@ fn write_thread_if(
     alloc: Global,
     out: &mut Vec<u8>,
     setup: &Setup,
-    trace: &[Entry],
+    index: &TraceIndex,
     thread: u32,
 ) -> Result<(), OutOfMemory>
-    ensures { OnOk result (out.new.items ≡ out.old.items ++ thread_line_if setup.now trace.now thread) }
+    ensures { OnOk result (out.new.items ≡ out.old.items ++ thread_line_if setup.now index.now thread) }
 {
     if has_command(setup.scripts.as_slice(), thread) {
-        write_thread(alloc, out, trace, thread)?;
+        write_thread(alloc, out, index, thread)?;
     }
     Ok(())
 }
@@ -360,15 +234,15 @@ fn has_command(scripts: &[Script], thread: u32) -> bool
 fn write_thread(
     alloc: Global,
     out: &mut Vec<u8>,
-    trace: &[Entry],
+    index: &TraceIndex,
     thread: u32,
 ) -> Result<(), OutOfMemory>
-    ensures { OnOk result (out.new.items ≡ out.old.items ++ thread_line trace.now thread) }
+    ensures { OnOk result (out.new.items ≡ out.old.items ++ thread_line index.now thread) }
 {
     let start = format!(in alloc; "thread {thread}")?;
     out.extend_from_slice(start.as_bytes())?;
-    write_tally(alloc, out, trace, Some(thread))?;
-    let refused = count_refused(trace, Some(thread));
+    write_tally(alloc, out, index, Some(thread))?;
+    let refused = index.tally(Some(thread)).refused;
     let end = format!(in alloc; " refused {refused}\n")?;
     out.extend_from_slice(end.as_bytes())?;
     Ok(())
@@ -378,91 +252,21 @@ fn write_thread(
 fn write_tally(
     alloc: Global,
     out: &mut Vec<u8>,
-    trace: &[Entry],
+    index: &TraceIndex,
     thread: Option<u32>,
 ) -> Result<(), OutOfMemory>
-    ensures { OnOk result (out.new.items ≡ out.old.items ++ tally_words thread trace.now) }
+    ensures { OnOk result (out.new.items ≡ out.old.items ++ tally_words thread index.now) }
 {
-    let accepted = count_accepted(trace, thread);
-    let success = count_ended(trace, thread, Status::Success);
-    let failed = count_ended(trace, thread, Status::Failed);
-    let aborted = count_ended(trace, thread, Status::Aborted);
+    let tally = index.tally(thread);
+    let accepted = tally.accepted;
+    let success = tally.success;
+    let failed = tally.failed;
+    let aborted = tally.aborted;
     let text = format!(in alloc;
         " accepted {accepted} success {success} failed {failed} aborted {aborted}"
     )?;
     out.extend_from_slice(text.as_bytes())?;
     Ok(())
-}
-
-// How many requests were accepted, on one thread or on all.
-fn count_accepted(trace: &[Entry], thread: Option<u32>) -> usize
-    ensures { result ≡ count_acts is_accept thread trace.now }
-{
-    trace
-        .iter()
-        .filter(|entry| is_meant(thread, entry.thread) && is_accept(&entry.act))
-        .count()
-}
-
-// How many submissions were refused, on one thread or on all.
-fn count_refused(trace: &[Entry], thread: Option<u32>) -> usize
-    ensures { result ≡ count_acts is_refusal thread trace.now }
-{
-    trace
-        .iter()
-        .filter(|entry| is_meant(thread, entry.thread) && is_refusal(&entry.act))
-        .count()
-}
-
-// How many requests completed with this status, on one thread or on all.
-fn count_ended(trace: &[Entry], thread: Option<u32>, status: Status) -> usize
-    ensures { result ≡ count_acts (is_end status) thread trace.now }
-{
-    trace
-        .iter()
-        .filter(|entry| is_meant(thread, entry.thread) && is_end(status, &entry.act))
-        .count()
-}
-
-// Whether a thread's entries are meant; with no thread those of all are.
-fn is_meant(meant: Option<u32>, thread: u32) -> bool
-    ensures { result ≡ is_meant meant thread }
-{
-    match meant {
-        None => true,
-        Some(meant) => thread == meant,
-    }
-}
-
-// Whether the act accepts a request.
-fn is_accept(act: &Act) -> bool
-    ensures { result ≡ is_accept act.now }
-{
-    matches!(act, Act::Accept { .. })
-}
-
-// Whether the act refuses a submission.
-fn is_refusal(act: &Act) -> bool
-    ensures { result ≡ is_refusal act.now }
-{
-    matches!(act, Act::Refuse { .. })
-}
-
-// Whether the act is a completion with this status.
-fn is_end(status: Status, act: &Act) -> bool
-    ensures { result ≡ is_end status act.now }
-{
-    match act {
-        Act::Complete { status: ended, .. } => is_status(status, *ended),
-        _ => false,
-    }
-}
-
-// Whether two statuses are the same.
-fn is_status(a: Status, b: Status) -> bool
-    ensures { result ≡ is_status a b }
-{
-    a == b
 }
 
 // ---- devices
@@ -471,13 +275,13 @@ fn is_status(a: Status, b: Status) -> bool
 fn write_devices(
     alloc: Global,
     out: &mut Vec<u8>,
-    trace: &[Entry],
+    index: &TraceIndex,
     devices: &[DevRow],
 ) -> Result<(), OutOfMemory>
-    ensures { OnOk result (out.new.items ≡ out.old.items ++ device_lines trace.now 0 devices.now) }
+    ensures { OnOk result (out.new.items ≡ out.old.items ++ device_lines index.now 0 devices.now) }
 {
     for (device, row) in devices.iter().enumerate() {
-        write_device(alloc, out, trace, device, row)?;
+        write_device(alloc, out, index, device, row)?;
     }
     Ok(())
 }
@@ -486,15 +290,15 @@ fn write_devices(
 fn write_device(
     alloc: Global,
     out: &mut Vec<u8>,
-    trace: &[Entry],
+    index: &TraceIndex,
     device: usize,
     row: &DevRow,
 ) -> Result<(), OutOfMemory>
-    ensures { OnOk result (out.new.items ≡ out.old.items ++ device_line trace.now device row.now) }
+    ensures { OnOk result (out.new.items ≡ out.old.items ++ device_line index.now device row.now) }
 {
     write_device_size(alloc, out, row)?;
-    write_moved(alloc, out, trace, device, row.size)?;
-    write_contents(alloc, out, trace, device, row.kind)?;
+    write_moved(alloc, out, index, device, row.size)?;
+    write_contents(alloc, out, index, device, row.kind)?;
     out.extend_from_slice(b"\n")?;
     Ok(())
 }
@@ -503,15 +307,24 @@ fn write_device(
 fn write_moved(
     alloc: Global,
     out: &mut Vec<u8>,
-    trace: &[Entry],
+    index: &TraceIndex,
     device: usize,
     size: u32,
 ) -> Result<(), OutOfMemory>
-    ensures { OnOk result (out.new.items ≡ out.old.items ++ moved_words trace.now device size) }
+    ensures { OnOk result (out.new.items ≡ out.old.items ++ moved_words index.now device size) }
 {
-    let read = sum_moved(trace, device, Way::Read, size);
-    let written = sum_moved(trace, device, Way::Write, size);
-    write_counts(alloc, out, read, written)?;
+    let read = index.moved(device, Way::Read);
+    let written = index.moved(device, Way::Write);
+    let read_bytes = read.bytes(size);
+    let write_bytes = written.bytes(size);
+    write_counts(
+        alloc,
+        out,
+        read.requests,
+        written.requests,
+        read_bytes,
+        write_bytes,
+    )?;
     Ok(())
 }
 
@@ -519,15 +332,13 @@ fn write_moved(
 fn write_counts(
     alloc: Global,
     out: &mut Vec<u8>,
-    read: Moved,
-    written: Moved,
+    reads: usize,
+    writes: usize,
+    read_bytes: u64,
+    write_bytes: u64,
 ) -> Result<(), OutOfMemory>
-    ensures { OnOk result (out.new.items ≡ out.old.items ++ counts_words read.requests written.requests read.bytes written.bytes) }
+    ensures { OnOk result (out.new.items ≡ out.old.items ++ counts_words reads writes read_bytes write_bytes) }
 {
-    let reads = read.requests;
-    let writes = written.requests;
-    let read_bytes = read.bytes;
-    let write_bytes = written.bytes;
     let text = format!(in alloc;
         " reads {reads} writes {writes} read_bytes {read_bytes} write_bytes {write_bytes}"
     )?;
@@ -551,14 +362,14 @@ fn write_device_size(alloc: Global, out: &mut Vec<u8>, row: &DevRow) -> Result<(
 fn write_contents(
     alloc: Global,
     out: &mut Vec<u8>,
-    trace: &[Entry],
+    index: &TraceIndex,
     device: usize,
     kind: Kind,
 ) -> Result<(), OutOfMemory>
-    ensures { OnOk result (out.new.items ≡ out.old.items ++ contents_words trace.now device kind) }
+    ensures { OnOk result (out.new.items ≡ out.old.items ++ contents_words index.now device kind) }
 {
     if is_malloc(kind) {
-        write_digest_if(alloc, out, first_digest(trace, device))?;
+        write_digest_if(alloc, out, index.digest(device))?;
     }
     Ok(())
 }
@@ -584,93 +395,14 @@ fn write_digest_if(
     Ok(())
 }
 
-// How many requests completed with success, and their bytes, at most `u64::MAX`.
-#[derive(Clone, Copy)]
-struct Moved {
-    requests: usize,
-    bytes: u64,
-}
-
-// The reads or writes that were submitted on a device and completed with success.
-fn sum_moved(trace: &[Entry], device: usize, way: Way, size: u32) -> Moved
-    ensures requests { result.requests ≡ length (moved trace.now device way) }
-    ensures bytes { result.bytes ≡ bytes_in size (moved trace.now device way) }
-{
-    let mut requests: usize = 0;
-    let mut bytes: u64 = 0;
-    for entry in trace {
-        if let Some(count) = moved_in(trace, device, way, &entry.act) {
-            requests += 1;
-            bytes = add_blocks(bytes, count, size);
-        }
-    }
-    Moved { requests, bytes }
-}
-
-// Bytes with so many blocks more, at most `u64::MAX`.
-fn add_blocks(bytes: u64, count: u64, size: u32) -> u64
-    ensures { result ≡ min (bytes + min (count * size) (2 ^ 64 - 1)) (2 ^ 64 - 1) }
-{
-    bytes.saturating_add(count.saturating_mul(u64::from(size)))
-}
-
-// The blocks of a read or write on the device that completed with success.
-fn moved_in(trace: &[Entry], device: usize, way: Way, act: &Act) -> Option<u64>
-    ensures { result ≡ moved_in_act trace.now device way act.now }
-{
-    match act {
-        Act::Accept {
-            req,
-            dev,
-            op,
-            count,
-            ..
-        } if dev.0 as usize == device && is_way(way, *op) && has_succeeded(trace, *req) => Some(
-            *count,
-        ),
-        _ => None,
-    }
-}
-
-// Whether it is a read, for the way of reads, or a write.
-fn is_way(way: Way, op: Op) -> bool
-    ensures { result ≡ is_way way op }
-{
-    match (way, op) {
-        (Way::Read, Op::Read) | (Way::Write, Op::Write(_)) => true,
-        _ => false,
-    }
-}
-
-// Whether a request completed with success.
-fn has_succeeded(trace: &[Entry], request: ReqId) -> bool
-    ensures { result ≡ has_succeeded trace.now request }
-{
-    trace.iter().any(|entry| is_success_of(request, &entry.act))
-}
-
-// Whether the act is a request's completion with success.
-fn is_success_of(request: ReqId, act: &Act) -> bool
-    ensures { result ≡ is_success_of request act.now }
-{
-    match act {
-        Act::Complete {
-            req,
-            status: Status::Success,
-            ..
-        } => same_request(*req, request),
-        _ => false,
-    }
-}
-
 // ---- the end
 
 // Writes the counts of all threads together.
-fn write_end(alloc: Global, out: &mut Vec<u8>, trace: &[Entry]) -> Result<(), OutOfMemory>
-    ensures { OnOk result (out.new.items ≡ out.old.items ++ end_line trace.now) }
+fn write_end(alloc: Global, out: &mut Vec<u8>, index: &TraceIndex) -> Result<(), OutOfMemory>
+    ensures { OnOk result (out.new.items ≡ out.old.items ++ end_line index.now) }
 {
     out.extend_from_slice(b"end")?;
-    write_tally(alloc, out, trace, None)?;
+    write_tally(alloc, out, index, None)?;
     out.extend_from_slice(b"\n")?;
     Ok(())
 }
@@ -678,7 +410,7 @@ fn write_end(alloc: Global, out: &mut Vec<u8>, trace: &[Entry]) -> Result<(), Ou
 #[cfg(test)]
 mod tests {
     use super::*;
-    use bd_base::{DevId, Errno, Fill, HandleId, Job, Name, Rows};
+    use bd_base::{Act, DevId, Errno, Fill, HandleId, Job, Name, Op, ReqId, Rows};
     use std::test::Fail;
 
     // Written by hand from the format of each line.
@@ -691,9 +423,23 @@ mod tests {
         device Malloc0 malloc blocks 64 size 512 reads 1 writes 0 read_bytes 4096 write_bytes 0 sha256 0101010101010101010101010101010101010101010101010101010101010101\n\
         end accepted 2 success 1 failed 1 aborted 0\n";
 
+    // Written by hand. Of what is told twice the job lines and the digest take the first, and the
+    // counts take each. Commands of one number stand in the order of the scripts.
+    const EXPECTED_OF_REPEATS: &str = "job 2 1 read failed\n\
+        job 5 1 flush skipped\n\
+        job 5 0 read ok\n\
+        thread 0 accepted 0 success 0 failed 0 aborted 1 refused 0\n\
+        thread 1 accepted 1 success 1 failed 1 aborted 0 refused 0\n\
+        device Malloc0 malloc blocks 64 size 512 reads 1 writes 0 read_bytes 4096 write_bytes 0 sha256 0202020202020202020202020202020202020202020202020202020202020202\n\
+        end accepted 1 success 1 failed 1 aborted 1\n";
+
     const READ: ReqId = ReqId { thread: 0, seq: 0 };
 
     const FAILING: ReqId = ReqId { thread: 0, seq: 1 };
+
+    const TWICE: ReqId = ReqId { thread: 1, seq: 7 };
+
+    const UNKNOWN: ReqId = ReqId { thread: 0, seq: 7 };
 
     const FILL: Fill = Fill {
         seed: 5,
@@ -873,6 +619,75 @@ mod tests {
         )?;
         let text = report(rt.alloc(), &setup, trace.as_slice())?;
         assert!(rt; text.as_slice() == EXPECTED.as_bytes());
+        Ok(())
+    }
+
+    // A script of thread 1 whose numbers fall, and one of thread 0 with a number of the first.
+    fn repeating_scripts(alloc: Global) -> Result<Rows<Script>, OutOfMemory> {
+        let mut lines = Rows::new(alloc);
+        lines.push(submit(alloc, 5, Op::Flush)?)?;
+        lines.push(submit(alloc, 2, Op::Read)?)?;
+        let mut scripts = Rows::new(alloc);
+        scripts.push(Script { thread: 1, lines })?;
+        let mut lines = Rows::new(alloc);
+        lines.push(submit(alloc, 5, Op::Read)?)?;
+        scripts.push(Script { thread: 0, lines })?;
+        Ok(scripts)
+    }
+
+    fn script(line: u32, outcome: Outcome) -> Act {
+        Act::Script { line, outcome }
+    }
+
+    fn complete(req: ReqId, status: Status) -> Act {
+        Act::Complete {
+            req,
+            status,
+            shown: None,
+        }
+    }
+
+    fn destruct(digest: Option<[u8; 32]>) -> Act {
+        Act::Destruct {
+            dev: DevId(0),
+            digest,
+        }
+    }
+
+    fn add_on(trace: &mut Vec<Entry>, thread: u32, act: Act) -> Result<(), OutOfMemory> {
+        trace.push(Entry {
+            stamp: 1,
+            thread,
+            act,
+        })?;
+        Ok(())
+    }
+
+    // Two completions of one request, two outcomes of one line, a completion of a request that was
+    // not accepted, and three ends of one device.
+    fn add_repeats(trace: &mut Vec<Entry>) -> Result<(), OutOfMemory> {
+        add_on(trace, 1, accept(TWICE))?;
+        add_on(trace, 1, script(2, Outcome::Accepted(TWICE)))?;
+        add_on(trace, 1, complete(TWICE, Status::Failed))?;
+        add_on(trace, 1, complete(TWICE, Status::Success))?;
+        add_on(trace, 1, script(2, Outcome::Done))?;
+        add_on(trace, 0, script(5, Outcome::Done))?;
+        add_on(trace, 0, complete(UNKNOWN, Status::Aborted))?;
+        add_on(trace, 0, destruct(None))?;
+        add_on(trace, 0, destruct(Some([2; 32])))?;
+        add_on(trace, 0, destruct(Some([3; 32])))?;
+        Ok(())
+    }
+
+    #[test]
+    fn the_first_of_repeats_is_told(rt: HostRuntime) -> Result<(), Fail> {
+        let mut setup = setup(rt.alloc())?;
+        setup.threads = 2;
+        setup.scripts = repeating_scripts(rt.alloc())?;
+        let mut trace = Vec::new(rt.alloc());
+        add_repeats(&mut trace)?;
+        let text = report(rt.alloc(), &setup, trace.as_slice())?;
+        assert!(rt; text.as_slice() == EXPECTED_OF_REPEATS.as_bytes());
         Ok(())
     }
 }

@@ -1,0 +1,35 @@
+-- What the index of a trace says: at each key, what the trace says first.
+use Rattle.std.specs.Prelude.{◌≡◌, ℕ, Bool, ◌&&◌, nat_eq, List, Option}
+use Rattle.std.specs.HashMap.{HashMap, get}
+use Rattle.std.specs.HashSet.{HashSet, contains}
+use Rattle.bd_base.specs.declared.act.Entry.{Entry}
+use Rattle.bd_base.specs.declared.act.Outcome.{Outcome}
+use Rattle.bd_base.specs.declared.id.ReqId.{ReqId}
+use Rattle.bd_base.specs.declared.request.Shown.{Shown}
+use Rattle.bd_base.specs.declared.request.Status.{Status}
+use Rattle.bd_report.specs.Report.{first_found, outcome_in, completion_in, has_succeeded, digest_in}
+
+-- the same two numbers, as of a thread and a line there or a request there
+abbrev pub same_pair : ℕ × ℕ → ℕ × ℕ → Bool
+same_pair a b = nat_eq a.0 b.0 && nat_eq a.1 b.1
+
+-- the key of a request
+abbrev pub key_of : ReqId → ℕ × ℕ
+key_of request = (request.thread, request.seq)
+
+module _ {S : Type 0} where
+  -- at each thread and line number, the first outcome
+  abbrev pub TellsOutcomes : HashMap (ℕ × ℕ) Outcome S → List Entry → Type 0
+  TellsOutcomes m trace = (thread number : ℕ) → get same_pair m (thread, number) ≡ first_found (outcome_in thread number) trace
+
+  -- at each request, the first completion
+  abbrev pub TellsCompletions : HashMap (ℕ × ℕ) (Status × Option Shown) S → List Entry → Type 0
+  TellsCompletions m trace = (request : ReqId) → get same_pair m (key_of request) ≡ first_found (completion_in request) trace
+
+  -- whether each request succeeded
+  abbrev pub TellsSuccesses : HashSet (ℕ × ℕ) S → List Entry → Type 0
+  TellsSuccesses s trace = (request : ReqId) → contains same_pair s (key_of request) ≡ has_succeeded trace request
+
+  -- at each device, the first digest
+  abbrev pub TellsDigests : HashMap ℕ (List ℕ) S → List Entry → Type 0
+  TellsDigests m trace = (device : ℕ) → get nat_eq m device ≡ first_found (digest_in device) trace

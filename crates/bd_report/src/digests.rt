@@ -1,0 +1,45 @@
+//! The digests that a trace tells of the devices, by device.
+ghost use Rattle.std.specs.Prelude.{◌≡◌, ℕ, ◌==◌, if◌then◌else◌, nat_eq, None, IfOk, OnOk};
+ghost use Rattle.std.specs.HashMap.{get};
+ghost use Rattle.bd_report.specs.First.{first_of};
+ghost use Rattle.bd_report.specs.Index.{TellsDigests};
+ghost use Rattle.bd_report.specs.Report.{digest_in};
+
+use crate::first::put_first;
+use bd_base::{Act, Entry, OutOfMemory};
+use std::alloc::Global;
+use std::collections::HashMap;
+
+/// The digest of a device's contents, by device.
+pub(crate) type Digests = HashMap<usize, [u8; 32]>;
+
+/// The first digest of each device. Want of memory is the only error.
+pub(crate) fn first_digests(alloc: Global, trace: &[Entry]) -> Result<Digests, OutOfMemory>
+    ensures { IfOk result (λ m. TellsDigests m trace.now) }
+{
+    let mut digests = HashMap::new(alloc);
+    for entry in trace {
+        note_digest(&mut digests, entry)?;
+    }
+    Ok(digests)
+}
+
+// Notes the digest that an entry tells of its device, if it is the first.
+fn note_digest(digests: &mut Digests, entry: &Entry) -> Result<(), OutOfMemory>
+    ensures { OnOk result ((device : ℕ) → get nat_eq digests.new device ≡ first_of (get nat_eq digests.old device) (digest_in device entry.now)) }
+{
+    if let Act::Destruct { dev, digest } = &entry.act {
+        put_digest(digests, dev.0 as usize, *digest)?;
+    }
+    Ok(())
+}
+
+// Notes a device's digest, if there is one and it is the first.
+fn put_digest(digests: &mut Digests, at: usize, digest: Option<[u8; 32]>) -> Result<(), OutOfMemory>
+    ensures { OnOk result ((device : ℕ) → get nat_eq digests.new device ≡ first_of (get nat_eq digests.old device) (if at == device then digest else None)) }
+{
+    if let Some(digest) = digest {
+        put_first(digests, at, digest)?;
+    }
+    Ok(())
+}

@@ -1,0 +1,100 @@
+//! What a trace says, found by key: of a line, a request, a thread or a device.
+ghost use Rattle.std.specs.Prelude.{◌≡◌, IfOk};
+ghost use Rattle.bd_report.specs.Moved.{moved_of};
+ghost use Rattle.bd_report.specs.Report.{first_found, outcome_in, completion_in, digest_in};
+ghost use Rattle.bd_report.specs.Tally.{tally_of};
+
+use crate::digests::{Digests, first_digests};
+use crate::ends::Ends;
+use crate::moved::{DeviceMoves, Moved, device_moves, moved_at};
+use crate::outcomes::{Outcomes, first_outcomes};
+use crate::tally::{Tallies, Tally, tally_at, thread_tallies, whole_tally};
+use bd_base::{Entry, OutOfMemory, Outcome, ReqId, Shown, Status, Way};
+use std::alloc::Global;
+use std::marker::Model;
+
+/// A trace with an index, in which what it says is found without a search. It is seen as the trace.
+#[derive(Drop)]
+pub(crate) struct TraceIndex<'a> {
+    ends: Ends<'a>,
+    outcomes: Outcomes,
+    digests: Digests,
+    whole: Tally,
+    tallies: Tallies,
+    reads: DeviceMoves,
+    writes: DeviceMoves,
+}
+
+impl<'a> Model for TraceIndex<'a> {
+    ghost use Rattle.std.specs.Prelude.{List};
+    ghost use Rattle.bd_base.specs.declared.act.Entry.{Entry};
+
+    ghost Value = { List Entry };
+
+    ghost use Rattle.bd_report.specs.TraceIndex.{trace_of, Tells};
+
+    ghost view = { trace_of };
+
+    ghost invariant = { Tells };
+}
+
+impl<'a> TraceIndex<'a> {
+    /// The index of a trace. Want of memory is the only error.
+    pub(crate) fn new(alloc: Global, trace: &'a [Entry]) -> Result<TraceIndex<'a>, OutOfMemory>
+        ensures { IfOk result (λ t. t ≡ trace.now) }
+    {
+        let ends = Ends::new(alloc, trace)?;
+        let reads = device_moves(alloc, &ends, Way::Read)?;
+        let writes = device_moves(alloc, &ends, Way::Write)?;
+        Ok(TraceIndex {
+            ends,
+            outcomes: first_outcomes(alloc, trace)?,
+            digests: first_digests(alloc, trace)?,
+            whole: whole_tally(trace),
+            tallies: thread_tallies(alloc, trace)?,
+            reads,
+            writes,
+        })
+    }
+
+    /// The first outcome of a thread's line.
+    pub(crate) fn outcome(&self, thread: u32, number: u32) -> Option<Outcome>
+        ensures { result ≡ first_found (outcome_in thread number) self.now }
+    {
+        self.outcomes.get(&(thread, number)).copied()
+    }
+
+    /// A request's first completion: its status and what it showed.
+    pub(crate) fn completion(&self, request: ReqId) -> Option<(Status, Option<Shown>)>
+        ensures { result ≡ first_found (completion_in request) self.now }
+    {
+        self.ends.completion(request)
+    }
+
+    /// The first digest of a device's contents.
+    pub(crate) fn digest(&self, device: usize) -> Option<[u8; 32]>
+        ensures { result ≡ first_found (digest_in device) self.now }
+    {
+        self.digests.get(&device).copied()
+    }
+
+    /// The counts of a thread's acts, or of all.
+    pub(crate) fn tally(&self, thread: Option<u32>) -> Tally
+        ensures { result ≡ tally_of thread self.now }
+    {
+        match thread {
+            None => self.whole,
+            Some(thread) => tally_at(&self.tallies, thread),
+        }
+    }
+
+    /// The reads or writes that were submitted on a device and completed with success.
+    pub(crate) fn moved(&self, device: usize, way: Way) -> Moved
+        ensures { result ≡ moved_of self.now way self.now device }
+    {
+        match way {
+            Way::Read => moved_at(&self.reads, device),
+            Way::Write => moved_at(&self.writes, device),
+        }
+    }
+}
