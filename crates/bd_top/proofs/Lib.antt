@@ -1,6 +1,7 @@
 pub mod ConfigLemmas
 pub mod FileLemmas
-pub mod LogLemmas
+pub mod Histories
+pub mod InForm
+pub mod Playable
 pub mod ScriptLemmas
-pub mod StoreLemmas
 pub mod WordLemmas

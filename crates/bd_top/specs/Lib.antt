@@ -1,8 +1,6 @@
-pub mod Admission
 pub mod Config
 pub mod Fault
 pub mod Files
-pub mod Log
 pub mod Run
 pub mod Script
 pub mod Words

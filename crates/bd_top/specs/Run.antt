@@ -1,46 +1,40 @@
 -- What a run that ends with Ok is, and why another one ends.
-use Rattle.std.specs.Prelude.{◌≡◌, ℕ, List, [], ◌∷◌, Option, None, Some, ◌⊎◌}
+use Rattle.std.specs.Prelude.{◌≡◌, ℕ, ◌<◌, true, List, [], ◌∷◌, ◌++◌, length, map, Option, None, Some, ◌⊎◌}
 use Rattle.bd_base.specs.declared.act.Entry.{Entry}
 use Rattle.bd_base.specs.declared.device.DevRow.{DevRow}
-use Rattle.bd_base.specs.declared.device.ErrKind.TheVariants.{Failure}
-use Rattle.bd_base.specs.declared.device.Injection.{Injection}
-use Rattle.bd_base.specs.declared.device.Injections.{Injections}
-use Rattle.bd_base.specs.declared.device.Rates.{Rates}
+use Rattle.bd_base.specs.declared.id.DevId.{DevId}
+use Rattle.bd_base.specs.declared.id.ReqId.{ReqId}
 use Rattle.bd_base.specs.declared.job.Line.{Line}
 use Rattle.bd_base.specs.declared.setup.Setup.{Setup}
+use Rattle.bd_machine.specs.Laws.{IsCompletedOnce, count_of, is_destruct_of}
+use Rattle.bd_machine.specs.Run.{IsCompleteRun}
+use Rattle.bd_machine.specs.Start.{dev_of}
+use Rattle.bd_alone.specs.Laws.{IsAfterLastClose, lines_done, number_of}
+use Rattle.bd_player.specs.Solo.{setup_of}
 use Rattle.bd_outside.specs.Count.{Rises}
-use Rattle.bd_outside.specs.File.{Told, IsAbsent}
+use Rattle.bd_outside.specs.File.{Told, IsAbsent, Content}
 use Rattle.bd_outside.specs.Sink.{Appends}
+use Rattle.bd_report.specs.Report.{report_of}
 use Rattle.bd_top.specs.declared.fault.Fault.{Fault}
 use Rattle.bd_top.specs.declared.fault.Fault.TheVariants.{Usage, NoFile, ReadFault, WriteFault, ConfigShape, JobText, OutOfMemory}
 use Rattle.bd_top.specs.Config.{IsConfig}
 use Rattle.bd_top.specs.Files.{IsRead, AppendsFront}
-use Rattle.bd_top.specs.Log.{IsLogOf}
-use Rattle.bd_report.specs.Report.{report_of}
 use Rattle.bd_top.specs.Script.{script_of}
 use Rattle.bd_top.specs.Words.{Files, files_of}
 
--- ---- the setup
+-- ---- a history
 
-abbrev pub no_rates : Rates
-no_rates = record { rw_ios_per_sec = 0; rw_mbytes_per_sec = 0; r_mbytes_per_sec = 0; w_mbytes_per_sec = 0 }
+-- each request that was accepted is completed once, on its own thread
+abbrev pub AreCompletedOnce : List Entry → Type 0
+AreCompletedOnce trace = (r : ReqId) → IsCompletedOnce r trace
 
-abbrev pub no_injection : Injection
-no_injection = record { kind = Failure; left = 0 }
+-- each device of the setup is destructed once
+abbrev pub AreDestructedOnce : Setup → List Entry → Type 0
+AreDestructedOnce setup trace = (n : ℕ) → n < length setup.devices → count_of (is_destruct_of (dev_of n)) trace ≡ 1
 
-abbrev pub no_injections : Injections
-no_injections = record { read = no_injection; write = no_injection; zeroes = no_injection; unmap = no_injection; flush = no_injection }
-
--- one thread with this script, and one device
-abbrev pub setup_of : DevRow → List Line → Setup
-setup_of row lines = record {
-  threads = 1;
-  devices = row ∷ [];
-  rates = no_rates ∷ [];
-  injections = no_injections ∷ [];
-  waiting = [];
-  scripts = record { thread = 0; lines = lines } ∷ [];
-}
+-- where a device is destructed, it was closed for the last time before
+abbrev pub AreAfterLastClose : Setup → List Entry → Type 0
+AreAfterLastClose setup trace = (dev : DevId) (before : List Entry) (e : Entry) (behind : List Entry) → trace ≡ before ++ e ∷ behind → is_destruct_of dev e.act ≡ true → IsAfterLastClose setup [] dev before behind
 
 -- ---- Ok
 
@@ -68,7 +62,7 @@ pub record IsNoText (jobs : Told) : Type 0 where
   pub read : IsRead jobs bytes
   pub outside : script_of bytes ≡ None
 
--- the two files were played: this is the log, and this the report
+-- the two files were played: this is the history, and this the report
 pub record IsPlayed (words : List (List ℕ)) (told : List ℕ → Told) (trace : List Entry) (report : List ℕ) : Type 0 where
   pub files : Files
   pub row : DevRow
@@ -76,7 +70,11 @@ pub record IsPlayed (words : List (List ℕ)) (told : List ℕ → Told) (trace 
   pub named : files_of words ≡ Some files
   pub device : IsDevice (told files.config) row
   pub script : IsScript (told files.jobs) lines
-  pub log : IsLogOf lines trace
+  pub complete : IsCompleteRun (setup_of row lines) [] trace
+  pub scripts : lines_done 0 trace ≡ map number_of lines
+  pub once : AreCompletedOnce trace
+  pub destructed : AreDestructedOnce (setup_of row lines) trace
+  pub last_close : AreAfterLastClose (setup_of row lines) trace
   pub says : report ≡ report_of (setup_of row lines) trace
 
 -- the two files were played, and the output gained the report
@@ -144,6 +142,29 @@ Cause words told m (NoFile name) = IsOfFiles words told m.host (NoFile name)
 Cause words told m (ReadFault name) = IsOfFiles words told m.host (ReadFault name)
 Cause words told m (ConfigShape place) = IsOfFiles words told m.host (ConfigShape place)
 Cause words told m (JobText line) = IsOfFiles words told m.host (JobText line)
+
+-- ---- files in form
+
+-- the words name two files, and the host tells a configuration in the one and a script in the other
+pub record AreInForm (words : List (List ℕ)) (told : List ℕ → Told) : Type 0 where
+  pub files : Files
+  pub named : files_of words ≡ Some files
+  pub config : List ℕ
+  pub config_told : told files.config ≡ Content config
+  pub row : DevRow
+  pub config_means : IsConfig config row
+  pub jobs : List ℕ
+  pub jobs_told : told files.jobs ≡ Content jobs
+  pub lines : List Line
+  pub jobs_mean : script_of jobs ≡ Some lines
+
+-- no count rose: the host neither failed nor missed a file, and the output didn't fail
+pub record NothingFails (m : Moved) : Type 0 where
+  pub host : ¬ Rises m.host.faults_old m.host.faults_new
+  pub files : ¬ Rises m.host.absences_old m.host.absences_new
+  pub output : ¬ Rises m.failed_old m.failed_new
+
+-- ---- what a fault leaves
 
 -- the output is as before, but for a fault of the output itself
 abbrev pub WritesNothing : Option (List ℕ) → Option (List ℕ) → Fault → Type 0

@@ -1,19 +1,20 @@
 //! The top call.
 ghost use Rattle.std.specs.Prelude.{◌≡◌, ◌≤◌, ◌⊎◌, ◌∷◌, [], ℕ, List, map, string_bytes, IfOk, IfErr, IsErrOf, None, Err};
+ghost use Rattle.bd_base.specs.declared.device.DevRow.{DevRow};
+ghost use Rattle.bd_machine.specs.Run.{IsCompleteRun};
+ghost use Rattle.bd_alone.specs.Laws.{lines_done, number_of};
+ghost use Rattle.bd_player.specs.Solo.{setup_of, no_rates, no_injections, IsMalloc, ArePlayable};
 ghost use Rattle.bd_outside.specs.Count.{Rises};
 ghost use Rattle.bd_outside.specs.File.{IsAbsent};
-ghost use Rattle.bd_base.specs.declared.device.DevRow.{DevRow};
+ghost use Rattle.bd_report.specs.Report.{report_of};
 ghost use Rattle.bd_top.specs.Files.{IsRead};
 ghost use Rattle.bd_top.specs.Config.{IsConfig};
-ghost use Rattle.bd_report.specs.Report.{report_of};
-ghost use Rattle.bd_top.specs.Log.{IsLogOf};
 ghost use Rattle.bd_top.specs.Words.{files_of};
-ghost use Rattle.bd_top.specs.Run.{setup_of, no_rates, no_injections, IsDevice, IsScript, IsOutside, IsNoText, FileCause, moved, IsRun, Cause, WritesNothing};
+ghost use Rattle.bd_top.specs.Run.{AreCompletedOnce, AreDestructedOnce, AreAfterLastClose, IsDevice, IsScript, IsOutside, IsNoText, FileCause, moved, IsRun, Cause, AreInForm, NothingFails, WritesNothing};
 
 use crate::config::{ConfigNo, read_config};
 use crate::fault::Fault;
 use crate::files::{ReadNo, read_file, write_all};
-use crate::player::play;
 use crate::script::{ScriptNo, read_script};
 use crate::words::files;
 use bd_base::{
@@ -21,6 +22,7 @@ use bd_base::{
     Setup,
 };
 use bd_outside::{Clock, Failed, Gate, Host, Sink};
+use bd_player::play;
 use bd_report::report::report;
 use std::alloc::Global;
 
@@ -172,7 +174,13 @@ struct Played {
 
 // Plays a script on a device, and makes the report.
 fn play_and_report(alloc: Global, row: DevRow, lines: Rows<Line>) -> Result<Played, OutOfMemory>
-    ensures log { IfOk result (λ p. IsLogOf lines p.trace.items) }
+    requires malloc { IsMalloc row }
+    requires playable { ArePlayable lines }
+    ensures complete { IfOk result (λ p. IsCompleteRun (setup_of row lines) [] p.trace.items) }
+    ensures scripts { IfOk result (λ p. lines_done 0 p.trace.items ≡ map number_of lines) }
+    ensures once { IfOk result (λ p. AreCompletedOnce p.trace.items) }
+    ensures destructed { IfOk result (λ p. AreDestructedOnce (setup_of row lines) p.trace.items) }
+    ensures last_close { IfOk result (λ p. AreAfterLastClose (setup_of row lines) p.trace.items) }
     ensures report { IfOk result (λ p. p.report.items ≡ report_of (setup_of row lines) p.trace.items) }
 {
     let trace = play(alloc, &row, lines.as_slice())?;
@@ -232,6 +240,7 @@ pub fn run<H: Host, K: Sink, C: Clock, G: Gate>(
     ensures status { IfOk result (λ r. r.status ≡ 0) }
     ensures usage { files_of (map string_bytes words.now) ≡ None → result ≡ Err Fault.Usage }
     ensures cause { IfErr result (Cause (map string_bytes words.now) (H.told host.old) (moved (H.faults host.old) (H.faults host.new) (H.absences host.old) (H.absences host.new) (K.faults out.old) (K.faults out.new) (K.written out.old) (K.written out.new))) }
+    ensures complete { AreInForm (map string_bytes words.now) (H.told host.old) → NothingFails (moved (H.faults host.old) (H.faults host.new) (H.absences host.old) (H.absences host.new) (K.faults out.old) (K.faults out.new) (K.written out.old) (K.written out.new)) → IfErr result (λ fault. fault ≡ Fault.OutOfMemory) }
     ensures nothing { IfErr result (WritesNothing (K.written out.old) (K.written out.new)) }
 {
     let Some((config, jobs)) = files(words) else {
