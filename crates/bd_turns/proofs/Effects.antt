@@ -1,5 +1,5 @@
 -- Act by act: a Put sends its token, a Took takes its token in, and every other act leaves queues and counts.
-use Rattle.std.proofs.Common.{◌≡◌, ℕ, zero, suc, ◌+◌, Bool, true, false, ◌&&◌, ◌==◌, List, [], ◌∷◌, Option, Some, None, is_some, refl, sym, ◌∙◌, ap, subst}
+use Rattle.std.proofs.Common.{◌≡◌, ℕ, ◌+◌, true, false, List, [], ◌∷◌, Option, Some, None, is_some, refl}
 use Rattle.std.specs.List.{AllByRecursion}
 use Rattle.bd_base.specs.declared.act.Act.{Act}
 use Rattle.bd_base.specs.declared.act.Act.TheVariants as acts
@@ -12,7 +12,7 @@ use Rattle.bd_base.specs.declared.setup.Setup.{Setup}
 use Rattle.bd_machine.specs.declared.state.Base.{Base}
 use Rattle.bd_machine.specs.declared.state.Extent.{Extent}
 use Rattle.bd_machine.specs.declared.state.Id.{Id}
-use Rattle.bd_machine.specs.declared.state.Id.TheVariants.{Request, Piece, Notice}
+use Rattle.bd_machine.specs.declared.state.Id.TheVariants.{Piece}
 use Rattle.bd_machine.specs.declared.state.Kept.{Kept}
 use Rattle.bd_machine.specs.declared.state.Kept.TheVariants as keeps
 use Rattle.bd_machine.specs.declared.state.News.TheVariants.{Mark}
@@ -25,7 +25,6 @@ use Rattle.bd_machine.specs.Guards.{guards, change}
 use Rattle.bd_machine.specs.Homes.{base_here, change_applied}
 use Rattle.bd_machine.specs.Messages.{part_took, moves_took, moves_put, piece_put, sent, brings, is_token_here, may_go}
 use Rattle.bd_machine.specs.Requests.{cut_into, pieces_made, extents_of, closed_with, pieces_closed, pieces_of}
-use Rattle.bd_machine.specs.Table.{write}
 use Rattle.bd_machine.specs.View.{View, Came, Change, Move, Going, Here, To, Closed, took, id_of}
 use Rattle.bd_machine.proofs.Acts.{Passes, passed, TakesFrom}
 use Rattle.bd_turns.specs.declared.queue.Message.{Message}

@@ -1,5 +1,5 @@
 -- The facts of ids in a tied state are those that the machine's own laws speak of.
-use Rattle.std.proofs.Common.{◌≡◌, Bool, true, false, List, [], ◌∷◌, Option, Some, None, refl, sym, ◌∙◌}
+use Rattle.std.proofs.Common.{◌≡◌, List, [], ◌∷◌, Option, Some, None, refl, sym, ◌∙◌}
 use Rattle.bd_machine.specs.declared.state.Id.{Id}
 use Rattle.bd_machine.specs.declared.state.Id.TheVariants.{Request}
 use Rattle.bd_machine.specs.declared.state.Kept.{Kept}

@@ -6,3 +6,5 @@ pub mod Rings
 pub mod PutRings
 pub mod TookRings
 pub mod Turns
+pub mod Rest
+pub mod Going

@@ -1,35 +1,30 @@
 -- The queues stay the rings, whatever entry is made: by a Put, by a Took, and by every other act.
-use Rattle.std.proofs.Common.{◌≡◌, ℕ, zero, suc, ◌+◌, ◌<◌, ◌≤◌, Bool, true, false, cond, ◌&&◌, ◌==◌, ◌⊎◌, inl, inr, List, [], ◌∷◌, ◌++◌, length, drop, Option, Some, None, is_some, refl, sym, ◌∙◌, ap, ap₂, subst, eqb-true, eq-eqb, ne_eqb, arith, le_refl}
+use Rattle.std.proofs.Common.{◌≡◌, ℕ, ◌+◌, ◌<◌, ◌≤◌, ◌⊎◌, inl, inr, List, [], ◌∷◌, Some, None, refl, sym, ◌∙◌, ap, subst}
 use Rattle.std.specs.List.{AllByRecursion}
-use Rattle.std.proofs.lemmas.Bool.{and_parts, and_from, cases_eq}
+use Rattle.std.proofs.lemmas.Bool.{cases_eq}
 use mathlib.Core.Path.{fun_ext}
-use Rattle.bd_base.specs.declared.act.Act.{Act}
-use Rattle.bd_base.specs.declared.act.Act.TheVariants as acts
 use Rattle.bd_base.specs.declared.act.Entry.{Entry}
-use Rattle.bd_base.specs.declared.act.Token.{Token}
 use Rattle.bd_base.specs.declared.setup.Setup.{Setup}
 use Rattle.bd_machine.specs.declared.state.Id.{Id}
-use Rattle.bd_machine.specs.declared.state.Kept.{Kept}
 use Rattle.bd_machine.specs.declared.state.Part.{Part}
 use Rattle.bd_machine.specs.declared.state.Place.{Place}
 use Rattle.bd_machine.specs.declared.state.Place.TheVariants.{At, Ring, Nowhere}
 use Rattle.bd_machine.specs.declared.state.State.{State}
 use Rattle.bd_machine.specs.declared.state.Tracked.{Tracked}
-use Rattle.bd_machine.specs.Messages.{count_at, brings, moves_put, moves_took, part_took}
+use Rattle.bd_machine.specs.Messages.{count_at}
 use Rattle.bd_machine.specs.Placement.{place, place_of}
 use Rattle.bd_machine.specs.Same.{same_id}
-use Rattle.bd_machine.specs.Step.{guards_in, change_in, refusal, moved, place_after, after}
-use Rattle.bd_machine.specs.Table.{look_up, write}
-use Rattle.bd_machine.specs.View.{Change, Move, Going, Here, To, Closed, Taking, took, view, part_of, message_of, came_for, id_of}
-use Rattle.bd_machine.proofs.Acts.{Passes, passed, TakesFrom, IsFresh}
-use Rattle.bd_machine.proofs.Laws.{all_weaker, tracked, found-moved}
-use Rattle.bd_machine.proofs.Steps.{allowed_passes, message_stays, part_is, part_stays}
-use Rattle.bd_machine.proofs.Tables.{id_same}
+use Rattle.bd_machine.specs.Step.{change_in, refusal, moved, place_after, after}
+use Rattle.bd_machine.specs.Table.{look_up}
+use Rattle.bd_machine.specs.View.{Change, Move, Going, Here, To, Closed, took, view, part_of}
+use Rattle.bd_machine.proofs.Acts.{TakesFrom, IsFresh}
+use Rattle.bd_machine.proofs.Laws.{tracked}
+use Rattle.bd_machine.proofs.Steps.{message_stays, part_is, part_stays}
 use Rattle.bd_turns.specs.declared.queue.Message.{Message}
-use Rattle.bd_turns.specs.Local.{first_of, sent_by, queue_after}
-use Rattle.bd_turns.specs.Tied.{id_next, one_more, Stand, IsQueued, IsPlaced, count_from}
-use Rattle.bd_turns.proofs.Effects.{Sends, sends, put_move, Takes, takes, IsHome, AreHome, brings_some, took_taken, took_put, IsQuiet}
-use Rattle.bd_turns.proofs.Queues.{one, write_count, count_push, stand_changed, id_at, IsMessage, stand_push, queued_push, queued_last, First, first_is, moved_keeps}
+use Rattle.bd_turns.specs.Local.{queue_after}
+use Rattle.bd_turns.specs.Tied.{Stand, IsQueued, IsPlaced, count_from}
+use Rattle.bd_turns.proofs.Effects.{IsHome, AreHome, IsQuiet}
+use Rattle.bd_turns.proofs.Queues.{stand_changed, moved_keeps}
 
 -- the queues are the rings
 pub record AreRings (setup : Setup) (s : State) (queues : ℕ → List Message) : Type 0 where

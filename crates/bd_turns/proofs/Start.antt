@@ -1,14 +1,14 @@
 -- The start of any setup is tied to what each thread sees there, with empty queues.
-use Rattle.std.proofs.Common.{◌≡◌, ℕ, zero, suc, ◌+◌, ◌<◌, List, [], ◌∷◌, map, get_or, refl, sym, ◌∙◌, ap, zero-add}
+use Rattle.std.proofs.Common.{◌≡◌, ℕ, zero, suc, ◌+◌, List, [], ◌∷◌, map, get_or, refl, sym, ◌∙◌, ap, zero-add}
 use Rattle.std.specs.List.{range_with_len}
 use Rattle.std.proofs.lemmas.List.FromFn.{get_or-map-range_with_len, length-map-range_with_len}
 use Rattle.bd_base.specs.declared.setup.Setup.{Setup}
 use Rattle.bd_machine.specs.Content.{Told}
 use Rattle.bd_machine.specs.Messages.{count_at}
 use Rattle.bd_machine.specs.Start.{start, part_at_start}
-use Rattle.bd_machine.specs.View.{view, part_of, blank_part}
+use Rattle.bd_machine.specs.View.{view, blank_part}
 use Rattle.bd_machine.proofs.Laws.{view_eq}
-use Rattle.bd_turns.specs.Laws.{StartIsTied, view_at_start, shared_at_start}
+use Rattle.bd_turns.specs.Laws.{StartIsTied, view_at_start}
 
 none_put : (setup : Setup) (told : Told) (us : List ℕ) (i : ℕ) → (get_or (map (part_at_start setup told) us) i blank_part).put ≡ []
 none_put setup told [] i = refl

@@ -1,9 +1,6 @@
 -- **Took**: its message was the first of the queue, and the ring has it no more.
-use Rattle.std.proofs.Common.{◌≡◌, ℕ, zero, suc, ◌+◌, ◌<◌, ◌≤◌, Bool, true, false, cond, ◌&&◌, ◌==◌, ◌⊎◌, inl, inr, List, [], ◌∷◌, ◌++◌, length, drop, Option, Some, None, is_some, refl, sym, ◌∙◌, ap, ap₂, subst, eqb-true, eq-eqb, ne_eqb, arith, le_refl}
-use Rattle.std.specs.List.{AllByRecursion}
-use Rattle.std.proofs.lemmas.Bool.{and_parts, and_from, cases_eq}
-use mathlib.Core.Path.{fun_ext}
-use Rattle.bd_base.specs.declared.act.Act.{Act}
+use Rattle.std.proofs.Common.{◌≡◌, ℕ, ◌+◌, ◌<◌, ◌≤◌, Bool, true, false, cond, ◌==◌, ◌⊎◌, inl, inr, List, [], ◌∷◌, drop, Option, Some, None, refl, sym, ◌∙◌, ap, ap₂, subst, eqb-true, eq-eqb, ne_eqb, arith}
+use Rattle.std.proofs.lemmas.Bool.{and_parts, cases_eq}
 use Rattle.bd_base.specs.declared.act.Act.TheVariants as acts
 use Rattle.bd_base.specs.declared.act.Entry.{Entry}
 use Rattle.bd_base.specs.declared.act.Token.{Token}
@@ -15,21 +12,21 @@ use Rattle.bd_machine.specs.declared.state.Place.{Place}
 use Rattle.bd_machine.specs.declared.state.Place.TheVariants.{At, Ring, Nowhere}
 use Rattle.bd_machine.specs.declared.state.State.{State}
 use Rattle.bd_machine.specs.declared.state.Tracked.{Tracked}
-use Rattle.bd_machine.specs.Messages.{count_at, brings, moves_put, moves_took, part_took}
+use Rattle.bd_machine.specs.Messages.{count_at, brings, moves_took}
 use Rattle.bd_machine.specs.Placement.{place, place_of}
 use Rattle.bd_machine.specs.Same.{same_id}
-use Rattle.bd_machine.specs.Step.{guards_in, change_in, refusal, moved, place_after, after}
+use Rattle.bd_machine.specs.Step.{guards_in, change_in, refusal, moved, after}
 use Rattle.bd_machine.specs.Table.{look_up, write}
-use Rattle.bd_machine.specs.View.{Change, Move, Going, Here, To, Closed, Taking, took, view, part_of, message_of, came_for, id_of}
-use Rattle.bd_machine.proofs.Acts.{Passes, passed, TakesFrom, IsFresh}
-use Rattle.bd_machine.proofs.Laws.{all_weaker, tracked, found-moved}
-use Rattle.bd_machine.proofs.Steps.{allowed_passes, message_stays, part_is, part_stays}
+use Rattle.bd_machine.specs.View.{Move, Taking, part_of, message_of, id_of}
+use Rattle.bd_machine.proofs.Acts.{Passes, passed, IsFresh}
+use Rattle.bd_machine.proofs.Laws.{tracked, found-moved}
+use Rattle.bd_machine.proofs.Steps.{allowed_passes, part_is, part_stays}
 use Rattle.bd_machine.proofs.Tables.{id_same}
 use Rattle.bd_turns.specs.declared.queue.Message.{Message}
-use Rattle.bd_turns.specs.Local.{first_of, sent_by, queue_after}
-use Rattle.bd_turns.specs.Tied.{id_next, one_more, Stand, IsQueued, IsPlaced, count_from}
-use Rattle.bd_turns.proofs.Effects.{Sends, sends, put_move, Takes, takes, IsHome, AreHome, brings_some, took_taken, took_put, IsQuiet}
-use Rattle.bd_turns.proofs.Queues.{one, write_count, count_push, stand_changed, id_at, IsMessage, stand_push, queued_push, queued_last, First, taken_first, stand_rest, queued_rest}
+use Rattle.bd_turns.specs.Local.{queue_after}
+use Rattle.bd_turns.specs.Tied.{Stand, IsQueued, IsPlaced, count_from}
+use Rattle.bd_turns.proofs.Effects.{Takes, takes, took_taken, took_put}
+use Rattle.bd_turns.proofs.Queues.{one, write_count, First, taken_first, stand_rest, queued_rest}
 use Rattle.bd_turns.proofs.Rings.{AreRings, tokens_are, same_for_each, stand_on, home_placed}
 
 module _ (setup : Setup) (s : State) (stamp t source number : ℕ) (what : Token) (fresh : IsFresh s) (allowed : refusal setup s (record { stamp = stamp; thread = t; act = acts.Took source number what }) ≡ None) (queues : ℕ → List Message) (rings : AreRings setup s queues)

@@ -1,5 +1,5 @@
 -- **The law of turns.** An entry that a thread may make by what it sees and what is shared is allowed in the state, and the state after it is tied again.
-use Rattle.std.proofs.Common.{◌≡◌, ℕ, ◌<◌, Bool, true, false, cond, ◌&&◌, ◌==◌, ◌⊎◌, inl, inr, nat_lt, List, [], ◌∷◌, ◌++◌, length, Option, Some, None, is_some, refl, sym, ◌∙◌, ap, subst, eqb-true, eq-eqb, ne_eqb}
+use Rattle.std.proofs.Common.{◌≡◌, ℕ, ◌<◌, Bool, true, false, cond, ◌==◌, ◌⊎◌, inl, inr, nat_lt, List, [], ◌∷◌, ◌++◌, length, Some, None, refl, sym, ◌∙◌, ap, subst, eqb-true, eq-eqb, ne_eqb}
 use Rattle.std.proofs.lemmas.Bool.{and_parts, cases_eq}
 use mathlib.Core.Path.{fun_ext}
 use Rattle.bd_base.specs.declared.act.Act.{Act}
@@ -14,7 +14,7 @@ use Rattle.bd_machine.specs.Guards.{guards, change, is_built}
 use Rattle.bd_machine.specs.Messages.{count_at, brings}
 use Rattle.bd_machine.specs.Run.{after_all}
 use Rattle.bd_machine.specs.Step.{IsAllowed, first_failing, guards_in, guards_shutdown, is_in_order, is_shutdown, change_in, after}
-use Rattle.bd_machine.specs.View.{View, Came, Change, Move, Taking, view, part_of, came_for, asked}
+use Rattle.bd_machine.specs.View.{View, Came, Change, Taking, view, part_of, came_for, asked}
 use Rattle.bd_machine.proofs.Acts.{Passes, passed, IsFresh}
 use Rattle.bd_machine.proofs.Steps.{own, frame, fresh_after}
 use Rattle.bd_alone.proofs.Keys.{after_keyed}
@@ -23,7 +23,7 @@ use Rattle.bd_turns.specs.declared.queue.Message.{Message}
 use Rattle.bd_turns.specs.Laws.{TurnIsRun, IsTurn, with_view}
 use Rattle.bd_turns.specs.Local.{Shared, Local, first_of, came_local, refusal_local, change_local, queue_after, carried_local, local_after, Leads}
 use Rattle.bd_turns.specs.Tied.{Stand, IsTied}
-use Rattle.bd_turns.proofs.Effects.{IsQuiet, Kind, Puts, Tooks, Quiet, kind_of, brings_some}
+use Rattle.bd_turns.proofs.Effects.{Kind, Puts, Tooks, Quiet, kind_of, brings_some}
 use Rattle.bd_turns.proofs.Ids.{keyed_to, keyed_from, fresh_to, fresh_from}
 use Rattle.bd_turns.proofs.PutRings.{put_rings}
 use Rattle.bd_turns.proofs.Queues.{First, first_is, taken_first}
