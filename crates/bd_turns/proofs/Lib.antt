@@ -8,3 +8,4 @@ pub mod TookRings
 pub mod Turns
 pub mod Rest
 pub mod Going
+pub mod Example
