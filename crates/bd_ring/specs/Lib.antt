@@ -1,0 +1,6 @@
+pub mod Notes
+pub mod RingRule
+pub mod Rings
+pub mod SlotRule
+pub mod Slots
+pub mod Counting

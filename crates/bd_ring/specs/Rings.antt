@@ -1,0 +1,94 @@
+-- What contracts see of a ring and of its passes.
+use Rattle.std.specs.Prelude.{◌≡◌, ℕ, ◌<◌, ◌≤◌, List, [], ◌∷◌, ◌++◌, map, length, drop, Some, slice_get, slice_index_or}
+use Prim.Native.Nat.{zero, suc}
+use Rattle.atomic_table.specs.Seated.{TableId}
+use Rattle.bd_msg.specs.declared.message.Msg.{Msg}
+use Rattle.bd_ring.specs.declared.note.Note.{Note}
+use Rattle.bd_ring.specs.Notes.{sent_by, note_of}
+
+-- a ring: which one it is, and how many messages it has room for
+pub record Place : Type 0 where
+  pub ring : TableId
+  pub capacity : ℕ
+
+-- a sender's pass: its ring, how many senders that is for, its number, and what it put
+pub record Sender : Type 0 where
+  pub ring : TableId
+  pub senders : ℕ
+  pub number : ℕ
+  pub put : List Note
+
+-- the receiver's pass: its ring, how many senders there are, and what was taken
+pub record Receiver : Type 0 where
+  pub ring : TableId
+  pub senders : ℕ
+  pub taken : List Note
+
+abbrev pub after_put : Sender → Msg → Sender
+after_put s m = record s { put = s.put ++ note_of m ∷ [] }
+
+abbrev pub after_take : Receiver → Msg → Receiver
+after_take r m = record r { taken = r.taken ++ note_of m ∷ [] }
+
+-- some full content of the ring, of messages of its senders alone, of which this one's are the last that it put
+abbrev pub WasFull : Place → Sender → Type 0
+WasFull place s =
+    (items : List Msg) × (length items ≡ place.capacity) × ((before : List Note) × (s.put ≡ before ++ sent_by s.number (map note_of items)))
+    × ((k : ℕ) → s.senders ≤ k → sent_by k (map note_of items) ≡ [])
+
+-- some empty content of the ring; what was taken up to then came from its senders alone
+abbrev pub WasEmpty : Receiver → Type 0
+WasEmpty r = (items : List Msg) × (length items ≡ 0) × ((k : ℕ) → r.senders ≤ k → sent_by k (r.taken ++ map note_of items) ≡ [])
+
+-- the receiver took this message, which is of one of the senders
+abbrev pub Took : Receiver → Msg → Receiver → Type 0
+Took r m t = (t ≡ after_take r m) × (m.from.0 < r.senders)
+
+-- the first n of so many senders, by number, which have put nothing
+abbrev pub first_senders : TableId → ℕ → ℕ → List Sender
+first_senders ring senders zero = []
+first_senders ring senders (suc n) = first_senders ring senders n ++ record { ring = ring; senders = senders; number = n; put = [] } ∷ []
+
+-- all senders of a new ring
+abbrev pub new_senders : TableId → ℕ → List Sender
+new_senders ring senders = first_senders ring senders senders
+
+-- senders of this ring, by number
+abbrev pub AreSendersOf : TableId → List Sender → Type 0
+AreSendersOf ring sends = (k : ℕ) (s : Sender) → slice_get sends k ≡ Some s → (s.ring ≡ ring) × (s.number ≡ k)
+
+-- a ring that is being settled: which one it is, how many senders there are, what the ended ones put, and what was taken
+pub record Closing : Type 0 where
+  pub ring : TableId
+  pub senders : ℕ
+  pub puts : List (List Note)
+  pub taken : List Note
+
+-- a settled ring: what each sender put, and what was taken of all of them, in order
+pub record Account : Type 0 where
+  pub puts : List (List Note)
+  pub taken : List Note
+
+-- what a sender put
+abbrev pub put_by : Account → ℕ → List Note
+put_by a k = slice_index_or a.puts k []
+
+-- how many messages of a sender were taken
+abbrev pub taken_of : Account → ℕ → ℕ
+taken_of a k = length (sent_by k a.taken)
+
+-- what a sender put and nobody took
+abbrev pub left_of : Account → ℕ → List Note
+left_of a k = drop (taken_of a k) (put_by a k)
+
+-- of each sender, what was taken and then what is left is what it put
+abbrev pub IsSettled : Account → Type 0
+IsSettled a = (k : ℕ) → k < length a.puts → sent_by k a.taken ++ left_of a k ≡ put_by a k
+
+-- of each sender, all that it put was taken
+abbrev pub IsSpent : Account → Type 0
+IsSpent a = (k : ℕ) → k < length a.puts → sent_by k a.taken ≡ put_by a k
+
+-- this message was the first that was left of its sender
+abbrev pub HandsOut : Account → Msg → Account → Type 0
+HandsOut a m b = (b ≡ record a { taken = a.taken ++ note_of m ∷ [] }) × (m.from.0 < length a.puts) × (left_of a m.from.0 ≡ note_of m ∷ left_of b m.from.0) × IsSettled b

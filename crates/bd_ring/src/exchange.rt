@@ -1,0 +1,126 @@
+//! A ring at work: senders in threads of their own, and a receiver in another one.
+ghost use Rattle.std.specs.Prelude.{◌≡◌, ◌<◌, ℕ, [], map, vec_len, IfOk};
+ghost use Rattle.bd_ring.specs.Counting.{message as counted, first_messages, after_messages, HavePut, AreNew};
+ghost use Rattle.bd_ring.specs.Notes.{sent_by, note_of};
+
+use crate::ring::{Ring, SendPass, TakePass};
+use bd_base::{DevId, OutOfMemory, ThreadId};
+use bd_msg::{Body, Msg};
+use std::alloc::Global;
+use std::sync::Wait;
+use std::thread;
+use std::thread::Threads;
+
+// The message with this number.
+pub(crate) fn message(from: u32, number: u32) -> Msg
+    ensures { result ≡ counted from number }
+{
+    Msg {
+        from: ThreadId(from),
+        stamp: u128::from(number),
+        number: u128::from(number),
+        body: Body::DropChannel { dev: DevId(number) },
+    }
+}
+
+// Puts so many messages. One that finds the ring full is tried again.
+fn put_all<R: Wait>(rt: &R, ring: &Ring, pass: &mut SendPass, count: u32)
+    requires { (pass.old.ring ≡ ring.now.ring) × (pass.old.put ≡ []) }
+    ensures { pass.new ≡ after_messages pass.old count }
+{
+    let from = pass.number();
+    let mut next = 0;
+    for _ in rt.forever() {
+        if next >= count {
+            break;
+        }
+        match ring.put(rt, pass, message(from, next)) {
+            Ok(()) => next += 1,
+            Err(_) => thread::yield_now(),
+        }
+    }
+}
+
+// Each sender puts so many, in a thread of its own.
+fn put_each<R: Threads + Wait + Sync>(
+    rt: &R,
+    ring: &Ring,
+    mut sends: Vec<SendPass>,
+    count: u32,
+) -> Vec<SendPass>
+    requires { AreNew ring.now.ring sends.items }
+    ensures len { vec_len result ≡ vec_len sends }
+    ensures each { HavePut count sends.items result.items }
+{
+    let threads = sends.len().max(1);
+    thread::for_each_mut(
+        rt,
+        sends.as_mut_slice(),
+        threads,
+        &|_, pass: &mut SendPass| { put_all(rt, ring, pass, count) },
+    );
+    sends
+}
+
+// Takes so many messages, or fewer where memory runs out. An empty ring is tried again.
+fn take_all<R: Wait>(
+    rt: &R,
+    alloc: Global,
+    ring: &Ring,
+    mut pass: TakePass,
+    count: u32,
+) -> (TakePass, Vec<Msg>)
+    requires { (pass.ring ≡ ring.now.ring) × (pass.taken ≡ []) }
+    ensures { result.0 ≡ record { ring = ring.now.ring; senders = pass.senders; taken = map note_of result.1.items } }
+{
+    let mut taken = Vec::new(alloc);
+    let mut left = count;
+    for _ in rt.forever() {
+        if left == 0 || taken.reserve(1).is_err() {
+            break;
+        }
+        match ring.take(rt, &mut pass) {
+            Some(msg) => {
+                taken.push_reserved(msg);
+                left -= 1;
+            }
+            None => thread::yield_now(),
+        }
+    }
+    (pass, taken)
+}
+
+/// All that so many senders put, each `count` messages and in a thread of its own, as another thread
+/// took it meanwhile. What comes of each sender is what it put, in its order.
+pub fn exchange<R: Threads + Wait + Sync>(
+    rt: &R,
+    alloc: Global,
+    capacity: u32,
+    senders: u32,
+    count: u32,
+) -> Result<Vec<Msg>, OutOfMemory>
+    requires { 0 < capacity }
+    ensures { IfOk result (λ v. (k : ℕ) → k < senders → sent_by k (map note_of v.items) ≡ first_messages k count) }
+{
+    let (ring, sends, take) = Ring::new(alloc, capacity, senders)?;
+    let line = &ring;
+    let (sends, (take, mut taken)) = thread::join(
+        rt,
+        move || -> Vec<SendPass>
+            requires { AreNew line.now.ring sends.items }
+            ensures { (vec_len result ≡ vec_len sends) × HavePut count sends.items result.items }
+        { put_each(rt, line, sends, count) },
+        move || -> (TakePass, Vec<Msg>)
+            requires { (take.ring ≡ line.now.ring) × (take.taken ≡ []) }
+            ensures { result.0 ≡ record { ring = line.entry.now.ring; senders = take.senders; taken = map note_of result.1.items } }
+        { take_all(rt, alloc, line, take, count.saturating_mul(senders)) },
+    );
+    let mut settled = ring.settle(take, sends);
+    for _ in rt.forever() {
+        match settled.next(rt) {
+            Some(msg) => taken.push(msg)?,
+            None => return Ok(taken),
+        }
+    }
+    unreachable!()
+}

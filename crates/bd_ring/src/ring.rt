@@ -1,0 +1,254 @@
+//! A ring of messages, from many senders to one receiver.
+ghost use Rattle.std.specs.Prelude.{◌≡◌, ◌+◌, ◌<◌, [], ◌∷◌, ◌++◌, length, map, true, IfOk, MatchResult, MatchOption, vec_len};
+ghost use Rattle.crossbeam_queue.specs.Passes.{view as known, IsPassOf};
+ghost use Rattle.bd_ring.specs.RingRule.{receiver};
+
+use crate::ring_rule::{AddsSender, CountsSender, EndsSender, KeepsOrder, Puts, Takes, TakesRest, View};
+use bd_base::OutOfMemory;
+use bd_msg::Msg;
+use crossbeam_queue::{Pass, RuledArrayQueue};
+use std::alloc::Global;
+use std::marker::Model;
+use std::sync::Wait;
+
+type Queue = RuledArrayQueue<Msg, View, KeepsOrder>;
+
+/// A bounded ring of messages, seen as which one it is and its capacity.
+#[derive(Drop)]
+pub struct Ring {
+    queue: RuledArrayQueue<Msg, View, KeepsOrder>,
+}
+
+impl Model for Ring {
+    ghost use Rattle.bd_ring.specs.Rings.{Place};
+
+    ghost Value = { Place };
+
+    ghost view = { λ r. record { ring = r.queue.table.shared.table_id; capacity = r.queue.cap } };
+}
+
+/// The right to put messages as one sender, seen as its ring, how many senders
+/// that is for, its number, and what it put.
+#[derive(Drop)]
+pub struct SendPass {
+    pass: Pass<Msg, View>,
+    number: u32,
+}
+
+impl Model for SendPass {
+    ghost use Rattle.std.specs.Prelude.{◌≡◌, true, []};
+    ghost use Rattle.crossbeam_queue.specs.Passes.{view as known};
+    ghost use Rattle.bd_ring.specs.Rings.{Sender};
+
+    ghost Value = { Sender };
+
+    ghost view = { λ s. record { ring = s.pass.table_id; senders = (known s.pass).senders; number = s.number; put = (known s.pass).put } };
+
+    ghost invariant = { λ s. (s.pass.me.1 ≡ []) × ((known s.pass).sends ≡ true) × ((known s.pass).from ≡ s.number) };
+}
+
+/// The right to take messages, seen as its ring, how many senders there are, and what was taken.
+#[derive(Drop)]
+pub struct TakePass {
+    pass: Pass<Msg, View>,
+}
+
+impl Model for TakePass {
+    ghost use Rattle.std.specs.Prelude.{◌≡◌, true, []};
+    ghost use Rattle.crossbeam_queue.specs.Passes.{view as known};
+    ghost use Rattle.bd_ring.specs.Rings.{Receiver};
+
+    ghost Value = { Receiver };
+
+    ghost view = { λ s. record { ring = s.pass.table_id; senders = (known s.pass).made; taken = (known s.pass).taken } };
+
+    ghost invariant = { λ s. (s.pass.me.1 ≡ []) × ((known s.pass).receives ≡ true) × ((known s.pass).ended ≡ []) };
+}
+
+/// A ring whose senders are being ended one by one, seen as which ring it is, how many senders
+/// there are, what the ended ones put, and what was taken.
+#[derive(Drop)]
+pub struct Settling {
+    queue: RuledArrayQueue<Msg, View, KeepsOrder>,
+    pass: Pass<Msg, View>,
+}
+
+impl Model for Settling {
+    ghost use Rattle.std.specs.Prelude.{◌≡◌, true};
+    ghost use Rattle.crossbeam_queue.specs.Passes.{view as known, IsPassOf};
+    ghost use Rattle.bd_ring.specs.Rings.{Closing};
+
+    ghost Value = { Closing };
+
+    ghost view = { λ s. record { ring = s.queue.table.shared.table_id; senders = (known s.pass).made; puts = (known s.pass).ended; taken = (known s.pass).taken } };
+
+    ghost invariant = { λ s. IsPassOf s.queue s.pass × ((known s.pass).receives ≡ true) };
+}
+
+/// A ring whose senders have all ended, seen as what each put, and what was taken.
+#[derive(Drop)]
+pub struct Settled {
+    queue: RuledArrayQueue<Msg, View, KeepsOrder>,
+    pass: Pass<Msg, View>,
+}
+
+impl Model for Settled {
+    ghost use Rattle.std.specs.Prelude.{◌≡◌, true, length};
+    ghost use Rattle.crossbeam_queue.specs.Passes.{view as known, IsPassOf};
+    ghost use Rattle.bd_ring.specs.Rings.{Account};
+
+    ghost Value = { Account };
+
+    ghost view = { λ s. record { puts = (known s.pass).ended; taken = (known s.pass).taken } };
+
+    ghost invariant = { λ s. IsPassOf s.queue s.pass × ((known s.pass).receives ≡ true) × ((known s.pass).made ≡ length (known s.pass).ended) };
+}
+
+/// A message that found the ring full.
+#[derive(Debug, Drop)]
+pub struct Full {
+    pub msg: Msg,
+}
+
+impl SendPass {
+    /// The sender's number.
+    pub fn number(&self) -> u32
+        ensures { result ≡ self.now.number }
+    {
+        self.number
+    }
+}
+
+// The ring is for one sender more.
+fn count_sender(queue: &Queue, pass: &mut Pass<Msg, View>)
+    requires queue { IsPassOf queue.now pass.old }
+    requires receiver { ((known pass.old).receives ≡ true) × ((known pass.old).made ≡ 0) }
+    ensures queue { IsPassOf queue.now pass.new }
+    ensures receiver { known pass.new ≡ receiver ((known pass.old).senders + 1) (known pass.old).made (known pass.old).ended (known pass.old).taken }
+{
+    queue.another::<CountsSender>(pass);
+}
+
+// The pass of the next sender.
+fn next_sender(queue: &Queue, pass: &mut Pass<Msg, View>, number: u32) -> SendPass
+    requires queue { IsPassOf queue.now pass.old }
+    requires receiver { ((known pass.old).receives ≡ true) × ((known pass.old).ended ≡ []) × ((known pass.old).made ≡ number) × (number < (known pass.old).senders) }
+    ensures queue { IsPassOf queue.now pass.new }
+    ensures receiver { known pass.new ≡ receiver (known pass.old).senders ((known pass.old).made + 1) (known pass.old).ended (known pass.old).taken }
+    ensures sender { result ≡ record { ring = queue.now.table.shared.table_id; senders = (known pass.old).senders; number = number; put = [] } }
+{
+    let pass = queue.another::<AddsSender>(pass);
+    SendPass { pass, number }
+}
+
+impl Ring {
+    ghost use Rattle.bd_ring.specs.Rings.{after_put, Took, WasFull, WasEmpty, new_senders, AreSendersOf, IsSettled};
+
+    /// A ring with room for so many messages, a pass for each sender, and the receiver's pass.
+    pub fn new(
+        alloc: Global,
+        capacity: u32,
+        senders: u32,
+    ) -> Result<(Ring, Vec<SendPass>, TakePass), OutOfMemory>
+        requires { 0 < capacity }
+        ensures ring { IfOk result (λ r. r.0.capacity ≡ capacity) }
+        ensures sends { IfOk result (λ r. r.1.items ≡ new_senders r.0.ring senders) }
+        ensures take { IfOk result (λ r. r.2 ≡ record { ring = r.0.ring; senders = senders; taken = [] }) }
+    {
+        let (queue, mut pass) = RuledArrayQueue::ruled(alloc, capacity as usize)?;
+        for _counted in 0..senders {
+            count_sender(&queue, &mut pass);
+        }
+        let mut sends = Vec::new(alloc);
+        for number in 0..senders {
+            sends.push(next_sender(&queue, &mut pass, number))?;
+        }
+        Ok((Ring { queue }, sends, TakePass { pass }))
+    }
+
+    /// Puts a message behind all that the ring holds. A full ring gives it back, and then the pass
+    /// is as before. It takes no memory.
+    pub fn put<R: Wait>(&self, rt: &R, pass: &mut SendPass, msg: Msg) -> Result<(), Full>
+        requires ring { pass.old.ring ≡ self.now.ring }
+        requires sender { msg.from.0 ≡ pass.old.number }
+        ensures { MatchResult result (λ _. pass.new ≡ after_put pass.old msg) (λ full. (full.msg ≡ msg) × (pass.new ≡ pass.old) × WasFull self.now pass.old) }
+    {
+        match self.queue.push_as::<Puts, R>(rt, &mut pass.pass, msg) {
+            Ok(()) => Ok(()),
+            Err(msg) => Err(Full { msg }),
+        }
+    }
+
+    /// Takes the message that stands first. An empty ring gives none, and then the pass is as
+    /// before. It takes no memory.
+    pub fn take<R: Wait>(&self, rt: &R, pass: &mut TakePass) -> Option<Msg>
+        requires ring { pass.old.ring ≡ self.now.ring }
+        ensures { MatchOption result ((pass.new ≡ pass.old) × WasEmpty pass.old) (λ msg. Took pass.old msg pass.new) }
+    {
+        self.queue.pop_as::<Takes, R>(rt, &mut pass.pass)
+    }
+
+    /// Ends all senders at once. What they put and nobody took is still there to be handed out. It
+    /// takes no memory.
+    pub fn settle(self, take: TakePass, sends: Vec<SendPass>) -> Settled
+        requires take { take.ring ≡ self.ring }
+        requires all { vec_len sends ≡ take.senders }
+        requires each { AreSendersOf self.ring sends.items }
+        ensures puts { result.puts ≡ map (λ s. s.put) sends.items }
+        ensures taken { result.taken ≡ take.taken }
+        ensures settled { IsSettled result }
+    {
+        let mut settling = self.close(take);
+        for send in sends {
+            settling.absorb(send);
+        }
+        settling.finish()
+    }
+
+    /// Begins to end the senders one by one. It takes no memory.
+    pub fn close(self, take: TakePass) -> Settling
+        requires { take.ring ≡ self.ring }
+        ensures { result ≡ record { ring = self.ring; senders = take.senders; puts = []; taken = take.taken } }
+    {
+        let Ring { queue } = self;
+        let TakePass { pass } = take;
+        Settling { queue, pass }
+    }
+}
+
+impl Settling {
+    ghost use Rattle.bd_ring.specs.Rings.{IsSettled};
+
+    /// Ends the next sender. It takes no memory.
+    pub fn absorb(&mut self, send: SendPass)
+        requires ring { send.ring ≡ self.old.ring }
+        requires next { send.number ≡ length self.old.puts }
+        ensures { self.new ≡ record self.old { puts = self.old.puts ++ send.put ∷ [] } }
+    {
+        let SendPass { pass, number: _ } = send;
+        self.queue.absorb::<EndsSender>(&mut self.pass, pass);
+    }
+
+    /// The settled ring, once all senders have ended. It takes no memory.
+    pub fn finish(self) -> Settled
+        requires { length self.puts ≡ self.senders }
+        ensures account { result ≡ record { puts = self.puts; taken = self.taken } }
+        ensures settled { IsSettled result }
+    {
+        let Settling { queue, mut pass } = self;
+        queue.learn_as::<TakesRest>(&mut pass);
+        Settled { queue, pass }
+    }
+}
+
+impl Settled {
+    ghost use Rattle.bd_ring.specs.Rings.{HandsOut, IsSpent};
+
+    /// Hands out the first message that was put and not taken. None exactly where nothing is left.
+    /// It takes no memory.
+    pub fn next<R: Wait>(&mut self, rt: &R) -> Option<Msg>
+        ensures { MatchOption result ((self.new ≡ self.old) × IsSpent self.old) (λ msg. HandsOut self.old msg self.new) }
+    {
+        self.queue.pop_as::<TakesRest, R>(rt, &mut self.pass)
+    }
+}
