@@ -1,15 +1,14 @@
 -- What the receiver knows once it has taken in all senders.
-use Rattle.std.proofs.Common.{◌≡◌, ℕ, ◌+◌, ◌<◌, ◌≤◌, ◌⊎◌, List, [], ◌∷◌, ◌++◌, Option, Some, None, MatchOption, length, map, get_or, sym, refl, ap, ◌∙◌, subst, ⊎_elim, arith}
+use Rattle.std.proofs.Common.{◌≡◌, ℕ, ◌<◌, List, [], ◌∷◌, ◌++◌, Option, Some, None, MatchOption, length, map, get_or, sym, refl, ap, ◌∙◌, subst, arith}
 use Rattle.std.proofs.lemmas.List.{append-nil, nil_from_length}
 use Rattle.crossbeam_queue.specs.Fifo.{Held}
 use Rattle.bd_msg.specs.declared.message.Msg.{Msg}
-use Rattle.bd_ring.specs.declared.note.Note.{Note}
 use Rattle.bd_ring.specs.declared.ring_rule.View.{View}
 use Rattle.bd_ring.specs.Notes.{sent_by, note_of}
 use Rattle.bd_ring.specs.RingRule.{after_take, Delivers, IsTaken, IsNext}
 use Rattle.atomic_table.specs.Seated.{TableId}
 use Rattle.bd_ring.specs.Rings.{Receiver, WasEmpty, Took, Account, left_of, IsSettled, IsSpent, HandsOut}
-use Rattle.bd_ring.proofs.Notes.{sent_by-append, sent_one_own, sent_one_other, all_pop, left_after, front, is_made}
+use Rattle.bd_ring.proofs.Notes.{sent_by-append, all_pop, left_after, front, is_made}
 
 abbrev pub account : View → Account
 account v = record { puts = v.ended; taken = v.taken }

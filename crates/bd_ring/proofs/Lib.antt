@@ -6,3 +6,4 @@ pub mod SlotSteps
 pub mod Holders
 pub mod NewSenders
 pub mod Rows
+pub mod Causes

@@ -52,12 +52,12 @@ puts n pass v x sends from items views _ h at =
           (λ k le. sent_push_other k taken items x (λ e. absurd (let p = here.0 in omega arith)) ∙ h.3.1 k le),
           h.3.2,
           (all_set (Fits (length views) senders ended taken (items ++ x ∷ [])) views pass w
-          ((λ _. (here.0, here.1, ap (λ l. l ++ note_of x ∷ []) here.2 ∙ sym (sent_push_own v.from taken items x from), here.3)), mine.1)
-          (λ j u other e.
-          let theirs = h.3.3 j u e in (
-            (λ s. let f = theirs.0 s in (f.0, f.1, f.2 ∙ sym (sent_push_other u.from taken items x (λ same. absurd (other (f.0 ∙ let p = here.0 in omega arith)))), f.3)),
-            theirs.1,
-          ))),
+              ((λ _. (here.0, here.1, ap (λ l. l ++ note_of x ∷ []) here.2 ∙ sym (sent_push_own v.from taken items x from), here.3)), mine.1)
+              (λ j u other e.
+              let theirs = h.3.3 j u e in (
+                (λ s. let f = theirs.0 s in (f.0, f.1, f.2 ∙ sym (sent_push_other u.from taken items x (λ same. absurd (other (f.0 ∙ let p = here.0 in omega arith)))), f.3)),
+                theirs.1,
+              ))),
         ),
       ),
       refl,
@@ -82,12 +82,12 @@ takes pass v may x items views h at =
           (λ k le. ap (sent_by k) (sym same) ∙ h.3.1 k le),
           h.3.2,
           (all_set (Fits (length views) senders ended taken items) views pass w
-          ((λ s. let f = mine.0 s in (f.0, f.1, f.2 ∙ ap (sent_by v.from) same, f.3)), (λ _. (here.0, here.1, here.2, ap (λ l. l ++ note_of x ∷ []) here.3, here.4)))
-          (λ j u other e.
-          let theirs = h.3.3 j u e in (
-            (λ s. let f = theirs.0 s in (f.0, f.1, f.2 ∙ ap (sent_by u.from) same, f.3)),
-            (λ t. absurd (other ((theirs.1 t).0 ∙ sym here.0))),
-          ))),
+              ((λ s. let f = mine.0 s in (f.0, f.1, f.2 ∙ ap (sent_by v.from) same, f.3)), (λ _. (here.0, here.1, here.2, ap (λ l. l ++ note_of x ∷ []) here.3, here.4)))
+              (λ j u other e.
+              let theirs = h.3.3 j u e in (
+                (λ s. let f = theirs.0 s in (f.0, f.1, f.2 ∙ ap (sent_by u.from) same, f.3)),
+                (λ t. absurd (other ((theirs.1 t).0 ∙ sym here.0))),
+              ))),
         ),
       ),
       (refl, is_made v.made h.2 x items (λ le. h.3.1 x.from.0 (let m = here.1 in omega arith))),

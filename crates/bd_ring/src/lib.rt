@@ -13,3 +13,6 @@ pub mod writers;
 pub use note::Note;
 pub use ring::{Full, Ring, SendPass, Settled, Settling, TakePass};
 pub use slot::{Slot, SlotPass, SlotSettling};
+
+#[cfg(test)]
+mod tests;

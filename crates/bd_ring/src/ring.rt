@@ -1,9 +1,11 @@
 //! A ring of messages, from many senders to one receiver.
-ghost use Rattle.std.specs.Prelude.{◌≡◌, ◌+◌, ◌<◌, [], ◌∷◌, ◌++◌, length, map, true, IfOk, MatchResult, MatchOption, vec_len};
+ghost use Rattle.std.specs.Prelude.{◌≡◌, ◌+◌, ◌<◌, ◌≤◌, [], ◌∷◌, ◌++◌, length, map, true, IfOk, IfErr, MatchResult, MatchOption, vec_len};
 ghost use Rattle.crossbeam_queue.specs.Passes.{view as known, IsPassOf};
 ghost use Rattle.bd_ring.specs.RingRule.{receiver};
 
-use crate::ring_rule::{AddsSender, CountsSender, EndsSender, KeepsOrder, Puts, Takes, TakesRest, View};
+use crate::ring_rule::{
+    AddsSender, CountsSender, EndsSender, KeepsOrder, Puts, Takes, TakesRest, View,
+};
 use bd_base::OutOfMemory;
 use bd_msg::Msg;
 use crossbeam_queue::{Pass, RuledArrayQueue};
@@ -171,7 +173,8 @@ impl Ring {
     pub fn put<R: Wait>(&self, rt: &R, pass: &mut SendPass, msg: Msg) -> Result<(), Full>
         requires ring { pass.old.ring ≡ self.now.ring }
         requires sender { msg.from.0 ≡ pass.old.number }
-        ensures { MatchResult result (λ _. pass.new ≡ after_put pass.old msg) (λ full. (full.msg ≡ msg) × (pass.new ≡ pass.old) × WasFull self.now pass.old) }
+        ensures put { MatchResult result (λ _. pass.new ≡ after_put pass.old msg) (λ full. (full.msg ≡ msg) × (pass.new ≡ pass.old) × WasFull self.now pass.old) }
+        ensures alone { IfErr result (λ full. (pass.old.senders ≡ 1) × (pass.old.number ≡ 0) → self.now.capacity ≤ length pass.old.put) }
     {
         match self.queue.push_as::<Puts, R>(rt, &mut pass.pass, msg) {
             Ok(()) => Ok(()),

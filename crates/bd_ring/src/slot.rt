@@ -1,5 +1,5 @@
 //! A slot that lends one value to one thread at a time.
-ghost use Rattle.std.specs.Prelude.{◌≡◌, ◌+◌, ◌<◌, ◌≤◌, [], ◌∷◌, ◌++◌, true, false, length, IfOk, MatchOption, vec_len, slice_get, slice_index_or, Some, ℕ};
+ghost use Rattle.std.specs.Prelude.{◌≡◌, ◌+◌, ◌<◌, ◌≤◌, [], ◌∷◌, ◌++◌, true, false, length, IfOk, IfNone, MatchOption, vec_len, slice_get, slice_index_or, Some, ℕ};
 ghost use Rattle.crossbeam_queue.specs.Passes.{view as known, IsPassOf};
 ghost use Rattle.bd_ring.specs.SlotRule.{AddsOwn, one_more, rows_of};
 ghost use Rattle.bd_ring.specs.Slots.{Holder, holder, new_holders, AreHoldersOf, after_give, IsTakenBy, WasAway};
@@ -124,7 +124,8 @@ impl<R: Drop + Journaled> Slot<R> {
     pub fn try_take<W: Wait>(&self, rt: &W, pass: &mut SlotPass<R>) -> Option<R>
         requires slot { pass.old.slot ≡ self.now }
         requires free { pass.old.holds ≡ false }
-        ensures { MatchOption result ((pass.new ≡ pass.old) × WasAway pass.old) (λ value. IsTakenBy pass.old (R.journal value) (R.start value) pass.new) }
+        ensures take { MatchOption result ((pass.new ≡ pass.old) × WasAway pass.old) (λ value. IsTakenBy pass.old (R.journal value) (R.start value) pass.new) }
+        ensures alone { IfNone result (pass.old.thread ≡ 0 → 1 < pass.old.passes) }
     {
         self.queue.pop_as::<TakesValue, W>(rt, &mut pass.pass)
     }
@@ -138,7 +139,8 @@ impl<R: Drop + Journaled> Slot<R> {
         requires own { AddsOwn pass.old.thread pass.old.seen (R.journal value) }
         ensures { pass.new ≡ after_give pass.old (R.journal value) }
     {
-        match self.queue.push_as::<GivesValue, W>(rt, &mut pass.pass, value) {
+        let Slot { queue } = self;
+        match queue.push_as::<GivesValue, W>(rt, &mut pass.pass, value) {
             Ok(()) => {}
             Err(_) => unreachable!(),
         }

@@ -7,13 +7,13 @@ use Rattle.bd_ring.proofs.writers.write_all.Goals as goal
 
 pub give-requires-clause-own : goal.give-requires-clause-own
 give-requires-clause-own g c =
-    let taken = c.in-Some-try_take.ensures.0 in
+    let taken = c.in-Some-try_take.ensures.take.0 in
     adds_one _ _ _ c.row.result (ap (λ (b : Bare). b.rows) c.in-Ok.ensures.ok ∙ ap (λ l. l ++ c.row.result ∷ []) (sym (ap (λ (p : Holder). p.seen) taken)))
     (ap (λ (r : Entry). r.thread) c.row.ensures ∙ sym (ap (λ (p : Holder). p.thread) taken ∙ c.loop.invariant.thread))
 
 pub loop-preserved-in-Ok : goal.loop-preserved-in-Ok
 loop-preserved-in-Ok g c =
-    let taken = c.in-Some-try_take.ensures.0 in
+    let taken = c.in-Some-try_take.ensures.take.0 in
     let given = c.give.ensures in
     record {
       slot = ap (λ (p : Holder). p.slot) given ∙ ap (λ (p : Holder). p.slot) taken ∙ c.loop.invariant.slot;

@@ -10,5 +10,5 @@ pop_as-requires-clause-rule g c = (
   away g.R.Journaled.journal g.R.Journaled.start _ _ c.pass.invariant.1.0 (ap (λ (p : Holder). p.holds) c.pass.view_is ∙ c.requires.free),
 )
 
-pub returns : goal.returns
-returns g c = try_returns g.R.Journaled.journal g.R.Journaled.start _ _ _ _ _ _ c.pop_as.ensures.queue.0 c.pass.view_is c.pass.invariant.1 c.pop_as.ensures.rule
+pub returns-clause-take : goal.returns-clause-take
+returns-clause-take g c = try_returns g.R.Journaled.journal g.R.Journaled.start _ _ _ _ _ _ c.pop_as.ensures.queue.0 c.pass.view_is c.pass.invariant.1 c.pop_as.ensures.rule

@@ -1,0 +1,128 @@
+use crate::exchange::{exchange, message};
+use crate::ring::Ring;
+use crate::slot::Slot;
+use crate::writers::{Journal, two_writers};
+use bd_base::{DevId, Entry};
+use bd_msg::{Body, Msg};
+use std::test::Fail;
+
+fn device_of(msg: &Msg) -> Option<DevId> {
+    match &msg.body {
+        Body::DropChannel { dev } => Some(*dev),
+        _ => None,
+    }
+}
+
+// How many messages came of each of 16 senders, or none where one came out of its order.
+fn count_in_order(taken: &[Msg]) -> Option<[u32; 16]> {
+    let mut next = [0u32; 16];
+    for msg in taken {
+        let from = msg.from.0 as usize;
+        if from >= 16 || device_of(msg) != Some(DevId(next[from])) {
+            return None;
+        }
+        next[from] = next[from].wrapping_add(1);
+    }
+    Some(next)
+}
+
+#[test]
+fn two_senders_and_one_receiver(rt: HostRuntime) -> Result<(), Fail> {
+    let taken = exchange(&rt, rt.alloc(), 4, 2, 1000)?;
+    let mut expected = [0; 16];
+    expected[0] = 1000;
+    expected[1] = 1000;
+    assert!(rt; count_in_order(taken.as_slice()) == Some(expected));
+    Ok(())
+}
+
+#[test]
+fn sixteen_senders(rt: HostRuntime) -> Result<(), Fail> {
+    let taken = exchange(&rt, rt.alloc(), 4, 16, 250)?;
+    assert!(rt; count_in_order(taken.as_slice()) == Some([250; 16]));
+    Ok(())
+}
+
+// Whether the first rows of this thread are numbered from 0, so many of them.
+fn counts_rows(rows: &[Entry], thread: u32) -> Option<u32> {
+    let mut next = 0u32;
+    for row in rows {
+        if row.thread == thread {
+            if row.stamp != u128::from(next) {
+                return None;
+            }
+            next = next.wrapping_add(1);
+        }
+    }
+    Some(next)
+}
+
+#[test]
+fn two_threads_write_in_turn(rt: HostRuntime) -> Result<(), Fail> {
+    let (journal, first, second) = two_writers(&rt, rt.alloc(), 1000)?;
+    assert_eq!(rt; (first, second, journal.len()), (1000, 1000, 2000));
+    let rows = journal.into_rows();
+    assert_eq!(rt; counts_rows(rows.as_slice(), 0), Some(1000));
+    assert_eq!(rt; counts_rows(rows.as_slice(), 1), Some(1000));
+    Ok(())
+}
+
+#[test]
+fn capacity_of_one(rt: HostRuntime) -> Result<(), Fail> {
+    let (ring, mut sends, mut take) = Ring::new(rt.alloc(), 1, 1)?;
+    let Some(mut send) = sends.pop() else {
+        unreachable!()
+    };
+    assert!(rt; ring.take(&rt, &mut take).is_none());
+    assert!(rt; ring.put(&rt, &mut send, message(0, 0)).is_ok());
+    let refused = match ring.put(&rt, &mut send, message(0, 1)) {
+        Ok(()) => None,
+        Err(full) => device_of(&full.msg),
+    };
+    assert_eq!(rt; refused, Some(DevId(1)));
+    let taken = ring.take(&rt, &mut take);
+    assert_eq!(rt; taken.as_ref().and_then(device_of), Some(DevId(0)));
+    assert!(rt; ring.take(&rt, &mut take).is_none());
+    assert!(rt; ring.put(&rt, &mut send, message(0, 2)).is_ok());
+    Ok(())
+}
+
+#[test]
+fn what_is_left_is_handed_out(rt: HostRuntime) -> Result<(), Fail> {
+    let (ring, mut sends, mut take) = Ring::new(rt.alloc(), 4, 2)?;
+    let (Some(mut second), Some(mut first)) = (sends.pop(), sends.pop()) else {
+        unreachable!()
+    };
+    assert!(rt; ring.put(&rt, &mut second, message(1, 0)).is_ok());
+    assert!(rt; ring.put(&rt, &mut first, message(0, 1)).is_ok());
+    assert!(rt; ring.put(&rt, &mut second, message(1, 2)).is_ok());
+    assert!(rt; ring.take(&rt, &mut take).is_some());
+
+    let mut settling = ring.close(take);
+    settling.absorb(first);
+    settling.absorb(second);
+    let mut settled = settling.finish();
+    for expected in [Some(DevId(1)), Some(DevId(2)), None] {
+        let left = settled.next(&rt);
+        assert_eq!(rt; left.as_ref().and_then(device_of), expected);
+    }
+    Ok(())
+}
+
+#[test]
+fn one_pass_at_a_time_has_the_value(rt: HostRuntime) -> Result<(), Fail> {
+    let (slot, mut passes) = Slot::new(&rt, rt.alloc(), Journal::new(rt.alloc(), 2), 2)?;
+    let (Some(mut second), Some(mut first)) = (passes.pop(), passes.pop()) else {
+        unreachable!()
+    };
+    let Some(journal) = slot.try_take(&rt, &mut second) else {
+        return Err(Fail::from("the value is there"));
+    };
+    assert!(rt; slot.try_take(&rt, &mut first).is_none());
+    slot.give(&rt, &mut second, journal);
+
+    let mut settling = slot.close(first);
+    settling.absorb(second);
+    assert_eq!(rt; settling.finish(&rt).len(), 0);
+    Ok(())
+}
