@@ -1,4 +1,4 @@
--- What the receiver knows once it has taken in all senders.
+-- From what the receiver's pass knows to what contracts say of takes and of a settled ring.
 use Rattle.std.proofs.Common.{◌≡◌, ℕ, ◌<◌, List, [], ◌∷◌, ◌++◌, Option, Some, None, MatchOption, length, map, get_or, sym, refl, ap, ◌∙◌, subst, arith}
 use Rattle.std.proofs.lemmas.List.{append-nil, nil_from_length}
 use Rattle.crossbeam_queue.specs.Fifo.{Held}

@@ -38,7 +38,7 @@ full_alone place s full alone =
     let room = full.1 in
     omega arith
 
--- the same, of what a sender's pass knows
+-- the same, from what the queue tells a sender's pass
 pub refused_alone : (capacity number : ℕ) (ring : TableId) (v : View) (place : Place) (s : Sender) → capacity ≡ place.capacity → v.from ≡ number → record { ring = ring; senders = v.senders; number = number; put = v.put } ≡ s
     → Held capacity (HoldsLast v) → (s.senders ≡ 1) × (s.number ≡ 0) → place.capacity ≤ length s.put
 refused_alone capacity number ring v place s cap from is h =

@@ -1,4 +1,4 @@
--- New senders, one by one.
+-- The senders of a new ring, and the same after each put its messages.
 use Rattle.std.proofs.Common.{◌≡◌, ℕ, zero, suc, ◌+◌, ◌<◌, ◌⊎◌, Some, List, [], ◌∷◌, length, map, get_or, sym, refl, ap, ◌∙◌, ⊎_elim, arith}
 use Rattle.std.specs.Prelude.{slice_get}
 use Rattle.std.proofs.lemmas.List.{length-append, get_or_append_left, get_or_push}
@@ -30,7 +30,7 @@ are_new ring senders n sends is k d lt =
     let e : get_or sends k d ≡ new_sender ring senders k = ap (λ l. get_or l k d) is ∙ first_senders-at ring senders n k d lt' in
     (ap (λ (s : Sender). s.ring) e, ap (λ (s : Sender). s.put) e)
 
--- what each was after it put
+-- a sender after its messages
 after : (ring : TableId) (senders n count : ℕ) (before now : List Sender) → before ≡ first_senders ring senders n → HavePut count before now → (k : ℕ) (d : Sender) → k < n → get_or now k d ≡ after_messages (new_sender ring senders k) count
 after ring senders n count before now is put k d lt =
     put k d (omega (arith, ap length is, length-first_senders ring senders n)) ∙ ap (λ s. after_messages s count) (ap (λ l. get_or l k d) is ∙ first_senders-at ring senders n k d lt)

@@ -1,4 +1,4 @@
--- Notes of one sender, in a list that grows.
+-- The notes of one sender, as messages are put and taken.
 use Rattle.std.proofs.Common.{◌≡◌, ◌≢◌, ℕ, ◌<◌, ◌≤◌, ◌⊎◌, ⊎_elim, arith, List, [], ◌∷◌, ◌++◌, map, length, drop, sym, refl, ap, ◌∙◌, append_assoc, eqb, eq-eqb, ne_eqb}
 use Rattle.std.proofs.lemmas.List.{map-append, append-nil, drop_at}
 use Rattle.std.proofs.lemmas.List.Elements.{filter-append}
@@ -16,11 +16,11 @@ sent_one_other p n other = rw (ne_eqb n.from p other)
 pub sent_one_own : (p : ℕ) (n : Note) → n.from ≡ p → sent_by p (n ∷ []) ≡ n ∷ []
 sent_one_own p n own = rw (eq-eqb n.from p own)
 
--- a message joins at the back
+-- all that was put, after one message more
 all_push : (got : List Note) (items : List Msg) (x : Msg) → all_put got (items ++ x ∷ []) ≡ all_put got items ++ note_of x ∷ []
 all_push got items x = ap (λ l. got ++ l) (map-append note_of items (x ∷ [])) ∙ sym (append_assoc got (map note_of items) (note_of x ∷ []))
 
--- the message at the front is taken
+-- all that was put is the same after a take
 pub all_pop : (got : List Note) (x : Msg) (items : List Msg) → all_put (got ++ note_of x ∷ []) items ≡ all_put got (x ∷ items)
 all_pop got x items = append_assoc got (note_of x ∷ []) (map note_of items)
 
@@ -32,11 +32,11 @@ pub sent_push_own : (p : ℕ) (got : List Note) (items : List Msg) (x : Msg) →
 sent_push_own p got items x own =
     ap (sent_by p) (all_push got items x) ∙ sent_by-append p (all_put got items) (note_of x ∷ []) ∙ ap (λ l. sent_by p (all_put got items) ++ l) (sent_one_own p (note_of x) own)
 
--- what is left of a sender, once what it put is ended
+-- what a sender put, without what was taken of it, is what the ring holds of it
 pub left_after : (p : ℕ) (put taken : List Note) (items : List Msg) → put ≡ sent_by p (all_put taken items) → drop (length (sent_by p taken)) put ≡ sent_by p (map note_of items)
 left_after p put taken items e = ap (drop (length (sent_by p taken))) (e ∙ sent_by-append p taken (map note_of items)) ∙ drop_at (sent_by p taken) (sent_by p (map note_of items)) (length (sent_by p taken)) refl
 
--- of its sender, a message at the front comes before the others
+-- the first message is the first of its sender
 pub front : (x : Msg) (items : List Msg) → sent_by x.from.0 (map note_of (x ∷ items)) ≡ note_of x ∷ sent_by x.from.0 (map note_of items)
 front x items = sent_by-append x.from.0 (note_of x ∷ []) (map note_of items) ∙ ap (λ l. l ++ sent_by x.from.0 (map note_of items)) (sent_one_own x.from.0 (note_of x) refl)
 

@@ -12,7 +12,7 @@ use Rattle.bd_ring.specs.RingRule.{receiver, sender, nobody, after_put, after_ta
 use Rattle.bd_ring.proofs.Views.{below, All, all_set, all_snoc, was_there}
 use Rattle.bd_ring.proofs.Notes.{sent_by-append, all_pop, sent_push_other, sent_push_own, is_made}
 
--- the rule, where the number of passes is known by another name
+-- the rule, with the number of passes as a number of its own
 abbrev RulesAt : ℕ → ℕ → List (List Note) → List Note → List Msg → List View → Type 0
 RulesAt passes senders ended taken items views =
     ((k : ℕ) → k < length ended → get_or ended k [] ≡ sent_by k (all_put taken items))
@@ -93,14 +93,14 @@ takes pass v may x items views h at =
       (refl, is_made v.made h.2 x items (λ le. h.3.1 x.from.0 (let m = here.1 in omega arith))),
     )
 
--- the receiver learns that of each ended sender, what was taken and then what the ring holds is what it put
+-- what the receiver learns at any moment
 pub delivers : (pass : ℕ) (v : View) → v.receives ≡ true → Learns RingRule pass v (Delivers v)
 delivers pass v may items views h at =
     let here = (h.3.3 pass v at).1 may in
     let P : List (List Note) × List Note → Type 0 = λ y. ((k : ℕ) → k < length y.0 → get_or y.0 k [] ≡ sent_by k (all_put y.1 items)) × ((k : ℕ) → v.made ≤ k → sent_by k (all_put y.1 items) ≡ []) in
     subst P (λ i. (sym here.2 i, sym here.3 i)) (h.3.0, (λ k le. h.3.1 k (let m = here.1 in omega arith)))
 
--- a sender learns that the ring holds messages of its senders alone, and of this one the last that it put
+-- what a sender learns at any moment
 pub holds_last : (pass : ℕ) (v : View) → v.sends ≡ true → Learns RingRule pass v (HoldsLast v)
 holds_last pass v sends items views h at =
     let here = (h.3.3 pass v at).0 sends in (
@@ -112,7 +112,7 @@ holds_last pass v sends items views h at =
     second_nil [] ys e = e
     second_nil (x ∷ xs) ys e = absurd (cc)
 
--- the ring is for one sender more
+-- a split that counts a sender
 pub counts : (pass : ℕ) (v : View) → v.receives ≡ true → v.made ≡ 0 → Forks RingRule pass v (receiver (v.senders + 1) v.made v.ended v.taken) nobody
 counts pass v may none items views h at =
     let left : View = receiver (v.senders + 1) v.made v.ended v.taken in
@@ -140,7 +140,7 @@ counts pass v may none items views h at =
       ),
     )
 
--- the receiver makes the next sender
+-- a split that makes a sender
 pub forks : (pass : ℕ) (v : View) → v.receives ≡ true → v.ended ≡ [] → v.made < v.senders → Forks RingRule pass v (receiver v.senders (v.made + 1) v.ended v.taken) (sender v.senders v.made [])
 forks pass v may none room items views h at =
     let left : View = receiver v.senders (v.made + 1) v.ended v.taken in
@@ -173,7 +173,7 @@ forks pass v may none room items views h at =
       ),
     )
 
--- the receiver ends the next sender
+-- a join
 pub merges : (pass : ℕ) (v : View) (other : ℕ) (u : View) → v.receives ≡ true → u.sends ≡ true → u.from ≡ length v.ended
     → Merges RingRule pass v other u (receiver v.senders v.made (v.ended ++ u.put ∷ []) v.taken) nobody
 merges pass v other u may sends next items views h at apart at' =
@@ -219,6 +219,6 @@ merges pass v other u may sends next items views h at apart at' =
         below_or_at : (k n : ℕ) → k < n + 1 → (k < n) ⊎ (k ≡ n)
         below_or_at k n h = grind arith
 
--- a take after all senders have ended
+-- a take once all senders have ended
 pub takes_rest : (pass : ℕ) (v : View) → v.receives ≡ true → Pops RingRule pass v (IsNext v)
 takes_rest pass v may x items views h at = let t = takes pass v may x items views h at in (t.0, t.1, (t.2.0, (items, delivers pass v may (x ∷ items) views h at)))

@@ -1,4 +1,4 @@
--- Each kind of step leads the slot rule.
+-- Each kind of step keeps the rule of a slot.
 use Rattle.std.proofs.Common.{◌≡◌, ◌≢◌, ℕ, zero, suc, ◌+◌, ◌<◌, ◌≤◌, ◌⊎◌, Bool, true, false, true≢false, Option, Some, None, List, [], ◌∷◌, ◌++◌, length, set, drop, get_or, eqb, eq-eqb, ne_eqb, sym, refl, ap, ◌∙◌, subst, ⊎_elim, append_assoc, arith}
 use Rattle.std.specs.Prelude.{All as Each}
 use Rattle.std.proofs.lemmas.List.{length-set, length-append, get_or_append_left, get_or_push, append-nil, drop_at as drop-append}
@@ -31,7 +31,7 @@ rows_of_other j k [] apart own = refl
 rows_of_other j k (r ∷ rs) apart own =
     rw (ne_eqb r.thread j (λ e. apart (sym e ∙ All-head (λ (x : Entry). x.thread ≡ k) r rs own))) (rows_of_other j k rs apart (All-tail (λ (x : Entry). x.thread ≡ k) r rs own))
 
--- rows of thread k join the journal
+-- what a journal has of thread j, after rows of thread k alone
 unmoved : (j k : ℕ) (now rows : List Entry) → j ≢ k → Each (λ r. r.thread ≡ k) rows → rows_of j (now ++ rows) ≡ rows_of j now
 unmoved j k now rows apart own = rows_of-append j now rows ∙ ap (λ l. rows_of j now ++ l) (rows_of_other j k rows apart own) ∙ append-nil (rows_of j now)
 
@@ -58,7 +58,7 @@ module _ {R : Type 0} (journal : R → List Entry) (begins : R → Start) where
   abbrev Where : Start → List Entry → Option ℕ → List R → List SlotView → Type 0
   Where = Whereabouts journal begins
 
-  -- the rule, at the number of passes
+  -- the rule, with the number of passes as a number of its own
   rules_at : (passes : ℕ) (start : Start) (now : List Entry) (ended : List (List Entry)) (holder : Option ℕ) (items : List R) (views : List SlotView) → passes ≡ length views
       → Where start now holder items views
       → ((k : ℕ) → k < length ended → get_or ended k [] ≡ rows_of (k + 1) now)
@@ -68,12 +68,12 @@ module _ {R : Type 0} (journal : R → List Entry) (begins : R → Start) where
   rules_at passes start now ended holder items views e a b c d =
       (start, now, ended, holder, subst (λ n. Where start now holder items views × ((k : ℕ) → k < length ended → get_or ended k [] ≡ rows_of (k + 1) now) × ((k : ℕ) → n ≤ k → rows_of k now ≡ []) × All (Fits n start now ended holder) views) e (a, b, c, d))
 
-  -- where one pass has the value, the slot is empty
+  -- with a holder, there is nothing in the slot
   is_out : (start : Start) (now : List Entry) (holder : Option ℕ) (items : List R) (views : List SlotView) (h : ℕ) → holder ≡ Some h → Where start now holder items views → items ≡ []
   is_out start now None items views h e w = cc
   is_out start now (Some g) items views h e w = w.0
 
-  -- where the slot isn't empty, no pass has the value
+  -- with something in the slot, there is no holder
   is_in : (start : Start) (now : List Entry) (holder : Option ℕ) (x : R) (items : List R) (views : List SlotView) → Where start now holder (x ∷ items) views
       → (holder ≡ None) × (items ≡ []) × (journal x ≡ now) × (begins x ≡ start)
   is_in start now None x items views w = let e : x ≡ w.0 = cc in (refl, cc, ap journal e ∙ w.2, ap begins e ∙ w.3)
@@ -90,7 +90,7 @@ module _ {R : Type 0} (journal : R → List Entry) (begins : R → Start) where
       )
       one (suc pass) v e = absurd (some-ne-none v (sym e))
 
-  -- the value comes into the slot
+  -- the first give
   pub opens : (n pass : ℕ) (x : R) → journal x ≡ [] → Pushes Rule n pass newcomer x (λ w. w ≡ opened_at (begins x))
   opens n pass x none items views _ h at =
       let w : SlotView = opened_at (begins x) in
@@ -114,7 +114,7 @@ module _ {R : Type 0} (journal : R → List Entry) (begins : R → Start) where
         refl,
       )
 
-  -- a pass gives the value back
+  -- a give
   pub gives : (n pass : ℕ) (v : SlotView) (x : R) → v.holds ≡ true → v.opened ≡ true → begins x ≡ v.start → AddsOwn v.thread v.seen (journal x) → Pushes Rule n pass v x (λ w. w ≡ after_give v (journal x))
   gives n pass v x holds opened start own items views _ h at =
       let w : SlotView = after_give v (journal x) in
@@ -162,7 +162,7 @@ module _ {R : Type 0} (journal : R → List Entry) (begins : R → Start) where
       same_some : (a b : ℕ) → Some a ≡ Some b → a ≡ b
       same_some a b e = cc
 
-  -- a pass takes the value
+  -- a take
   pub takes : (pass : ℕ) (v : SlotView) → v.serves ≡ true → v.opened ≡ true → Pops Rule pass v (λ x w. IsTaken v (journal x) (begins x) w)
   takes pass v serves opened x items views h at =
       let w : SlotView = after_take v (journal x) in
@@ -186,7 +186,7 @@ module _ {R : Type 0} (journal : R → List Entry) (begins : R → Start) where
       none_some : (a : ℕ) → None ≡ Some a → ⊥
       none_some a e = cc
 
-  -- where the value is doesn't change when a pass that hasn't it changes its view
+  -- what another pass learns moves the value nowhere
   stays : (start : Start) (now : List Entry) (holder : Option ℕ) (items : List R) (views : List SlotView) (pass : ℕ) (v w : SlotView)
       → get_elem? views pass ≡ some v → v.holds ≡ false → Where start now holder items views → Where start now holder items (set views pass w)
   stays start now None items views pass v w at free h = h
@@ -198,7 +198,7 @@ module _ {R : Type 0} (journal : R → List Entry) (begins : R → Start) where
   stays_longer start now None items views w h = h
   stays_longer start now (Some g) items views w h = (h.0, (h.1.0, at_longer views (w ∷ []) g h.1.0 h.1.1, h.1.2))
 
-  -- the first pass makes the next one
+  -- a split
   pub forks : (pass : ℕ) (v : SlotView) → v.leads ≡ true → v.opened ≡ true → v.holds ≡ false → v.ended ≡ [] → Forks Rule pass v (one_more v) (server v.made v.start)
   forks pass v leads opened free none items views h at =
       let left : SlotView = one_more v in
@@ -226,7 +226,7 @@ module _ {R : Type 0} (journal : R → List Entry) (begins : R → Start) where
       positive : (a b : ℕ) → a ≢ 0 → b ≡ 0 → b < a
       positive a b n e = omega arith
 
-  -- the first pass takes in the rows of the next one
+  -- a join
   pub merges : (pass : ℕ) (v : SlotView) (other : ℕ) (u : SlotView) → v.leads ≡ true → v.holds ≡ false → u.serves ≡ true → u.holds ≡ false → u.thread ≡ length v.ended + 1
       → Merges Rule pass v other u (with_ended v u) nobody
   merges pass v other u leads free serves free' next items views h at apart at' =
@@ -261,7 +261,7 @@ module _ {R : Type 0} (journal : R → List Entry) (begins : R → Start) where
       above_next : (a b thread thread' j other : ℕ) → b ≡ a + 1 → thread ≡ a + 1 → other ≡ thread → j ≡ thread' → j ≢ other → a < thread' → b < thread'
       above_next a b thread thread' j other p q r s ne lt = omega arith
 
-  -- where the slot is empty, the pass of another thread has the value
+  -- what a pass without the value learns of an empty slot
   pub away : (pass : ℕ) (v : SlotView) → v.serves ≡ true → v.holds ≡ false → Learns Rule pass v (λ items. length items ≡ 0 → IsAway v)
   away pass v serves free items views h at empty = by_holder h.0 h.1 h.3 items h.4.0 h.4.3 empty
     where
@@ -279,11 +279,11 @@ module _ {R : Type 0} (journal : R → List Entry) (begins : R → Start) where
             (now, here.2, here.3),
           )
 
-  -- who has the value finds the slot empty
+  -- what the holder learns: it can give
   pub empty : (pass : ℕ) (v : SlotView) → v.holds ≡ true → Learns Rule pass v (λ items. items ≡ [])
   empty pass v holds items views h at = is_out h.0 h.1 h.3 items views pass ((h.4.3 pass v at).2 holds).0 h.4.0
 
-  -- where all passes were taken in, the value is in the slot
+  -- what the leading pass learns once all others have ended
   pub there : (pass : ℕ) (v : SlotView) → v.leads ≡ true → v.holds ≡ false → v.made ≡ length v.ended + 1 → Learns Rule pass v (λ items. length items ≡ 1)
   there pass v leads free all items views h at = by_holder h.0 h.1 h.3 items h.4.0 h.4.3
     where
@@ -301,7 +301,7 @@ module _ {R : Type 0} (journal : R → List Entry) (begins : R → Start) where
           let not_first : g ≢ pass = λ same. on_off w.1.0.holds w.1.2 (ap (λ (y : SlotView). y.holds) (same_view views pass w.1.0 v (subst (λ j. get_elem? views j ≡ some w.1.0) same w.1.1) at) ∙ free) in
           absurd (not_first (first_only g pass w.1.0.thread (length h.2) (length v.ended) v.made (length views) its.0 its.1 inside known_is all here.2 here.0))
 
-  -- the last take
+  -- the take at the end
   pub closes : (pass : ℕ) (v : SlotView) → v.leads ≡ true → v.opened ≡ true → v.thread ≡ 0 → Pops Rule pass v (λ x w. IsLast v (journal x) (begins x))
   closes pass v leads opened first x items views h at =
       let here = (h.4.3 pass v at).1 leads in
