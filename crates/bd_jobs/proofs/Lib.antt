@@ -1,0 +1,3 @@
+pub mod HeldLemmas
+pub mod ReadLemmas
+pub mod WordLemmas

@@ -1,0 +1,9 @@
+//! Scripts: the lines of a text as the commands of each thread.
+#![tactic(auto)]
+
+mod command;
+mod read;
+mod word;
+
+pub use command::Command;
+pub use read::{JobNo, read_jobs};
