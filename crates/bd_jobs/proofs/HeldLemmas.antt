@@ -1,10 +1,10 @@
 -- What a reader holds, against the commands that it has read.
-use Rattle.std.proofs.Common.{◌≡◌, ℕ, zero, suc, ◌+◌, ◌<◌, ◌≤◌, ◌==◌, Bool, true, false, cond, nat_lt, nat_eq, add-one, List, [], ◌∷◌, ◌++◌, length, get_or, slice_set, slice_index_or, Option, Some, None, refl, ap, sym, ◌∙◌, arith, subst, filter, length-append}
+use Rattle.std.proofs.Common.{◌≡◌, ℕ, zero, suc, ◌+◌, ◌<◌, ◌≤◌, ◌==◌, Bool, true, false, cond, nat_lt, add-one, List, [], ◌∷◌, ◌++◌, length, slice_set, slice_index_or, Some, refl, ap, sym, ◌∙◌, arith, subst, filter, length-append}
 use Rattle.std.specs.List.{slice_get}
 use Rattle.std.proofs.Math.ListN.{set}
-use Rattle.std.proofs.Math.Seq.{set-append_seam, get_or-append_seam}
+use Rattle.std.proofs.Math.Seq.{set-append_seam}
 use Rattle.std.proofs.lemmas.Bool.Decides.{nat_tests}
-use Rattle.std.proofs.lemmas.List.{set-append_left, get_or_append_left, append-nil}
+use Rattle.std.proofs.lemmas.List.{set-append_left}
 use Rattle.std.proofs.lemmas.List.Elements.{filter-append}
 use Rattle.std.proofs.lemmas.Option.{get_or_from_slice_get}
 use Rattle.bd_base.specs.declared.job.Line.{Line}
@@ -139,10 +139,10 @@ pub adds : (scripts : List Script) (command : Command) (script : Script) (lines 
 adds scripts command script lines commands threads within is more held =
     let below : command.thread < threads = omega (arith, ap length held, length-all commands threads) in
     let own : script ≡ script_for commands command.thread =
-        is ∙ ap (λ xs. slice_index_or xs command.thread script) held
-        ∙ get_or_from_slice_get (all_scripts commands threads) command.thread (script_for commands command.thread) script (get-all commands threads command.thread below) in
+    is ∙ ap (λ xs. slice_index_or xs command.thread script) held
+    ∙ get_or_from_slice_get (all_scripts commands threads) command.thread (script_for commands command.thread) script (get-all commands threads command.thread below) in
     let new : record { thread = script.thread; lines = lines } ≡ one_more commands command =
-        ap (λ ls. record { thread = script.thread; lines = ls }) more ∙ ap (λ s. record { thread = s.thread; lines = s.lines ++ command.line ∷ [] }) own in
+    ap (λ ls. record { thread = script.thread; lines = ls }) more ∙ ap (λ s. record { thread = s.thread; lines = s.lines ++ command.line ∷ [] }) own in
     ap (λ xs. set xs command.thread (record { thread = script.thread; lines = lines })) held
     ∙ ap (set (all_scripts commands threads) command.thread) new
     ∙ set-all commands command threads below

@@ -1,5 +1,5 @@
 -- Reading a script line by line.
-use Rattle.std.proofs.Common.{◌≡◌, ℕ, zero, suc, ◌+◌, ◌-◌, ◌<◌, ◌≤◌, Bool, true, false, cond, nat_lt, Bor, map, List, [], ◌∷◌, ◌++◌, length, take, Option, None, Some, if◌then◌else◌, Result, Err, subst, refl, ap, arith, sym, ◌∙◌, append_assoc, length-append, filter}
+use Rattle.std.proofs.Common.{◌≡◌, ℕ, ◌+◌, ◌-◌, ◌<◌, ◌≤◌, Bool, true, false, nat_lt, Bor, map, List, [], ◌∷◌, ◌++◌, length, take, Option, None, Some, if◌then◌else◌, Result, Err, subst, refl, ap, arith, sym, ◌∙◌, append_assoc, length-append, filter}
 use Rattle.std.specs.Prelude.{option_map}
 use Rattle.std.specs.Option.{option_and_then}
 use Rattle.std.proofs.lemmas.Bool.Decides.{nat_tests}
@@ -14,7 +14,7 @@ use Rattle.bd_jobs.specs.declared.read.JobNo.TheVariants as nos
 use Rattle.bd_jobs.specs.Words.{words_of, number_of}
 use Rattle.bd_jobs.specs.Commands.{command_job}
 use Rattle.bd_jobs.specs.Held.{all_scripts, lines_at, has_line}
-use Rattle.bd_jobs.specs.ScriptGrammar.{lines_for, command_on, command_at, words_command, is_bare, with_command, after_line, commands_from, commands_of, text_lines, scripts_below, scripts_of, IsFirstOutside}
+use Rattle.bd_jobs.specs.ScriptGrammar.{lines_for, command_on, command_at, words_command, is_bare, after_line, commands_from, commands_of, text_lines, scripts_below, scripts_of, IsFirstOutside}
 use Rattle.bd_jobs.proofs.HeldLemmas.{length-all, lines_at-all, filter-all}
 
 -- ---- the words of a line
@@ -150,12 +150,12 @@ refuses threads bytes scripts number left rest line known e after =
     let before : number - 1 ≡ length known.front = omega (arith, known.place) in
     let upto : number ≡ length known.front + 1 = omega (arith, known.place) in
     let inside : take (number - 1) (text_lines bytes) ≡ known.front =
-        ap (λ n. take n (text_lines bytes)) before ∙ ap (take (length known.front)) all ∙ take-append_seam known.front (line ∷ rest) in
+    ap (λ n. take n (text_lines bytes)) before ∙ ap (take (length known.front)) all ∙ take-append_seam known.front (line ∷ rest) in
     let outside : take number (text_lines bytes) ≡ known.front ++ line ∷ [] =
-        ap (λ n. take n (text_lines bytes)) upto ∙ ap (take (length known.front + 1)) all ∙ take-append-add known.front (line ∷ rest) 1 in
+    ap (λ n. take n (text_lines bytes)) upto ∙ ap (take (length known.front + 1)) all ∙ take-append-add known.front (line ∷ rest) 1 in
     let none : commands_of threads (text_lines bytes) ≡ None =
-        ap (commands_of threads) all ∙ from-next threads known.front known.commands line rest known.reads
-        ∙ ap (λ s. commands_from threads s ((1 + length known.front) + 1) rest) here ∙ from-none threads ((1 + length known.front) + 1) rest in
+    ap (commands_of threads) all ∙ from-next threads known.front known.commands line rest known.reads
+    ∙ ap (λ s. commands_from threads s ((1 + length known.front) + 1) rest) here ∙ from-none threads ((1 + length known.front) + 1) rest in
     record {
       first = record {
         before = (known.commands, ap (commands_of threads) inside ∙ known.reads);

@@ -1,5 +1,5 @@
 -- What a reader holds: the script of each thread, also of one without a line.
-use Rattle.std.specs.Prelude.{ℕ, zero, suc, Bool, nat_lt, List, [], ◌∷◌, ◌++◌, length, slice_set, Option, None, Some}
+use Rattle.std.specs.Prelude.{ℕ, zero, suc, Bool, nat_lt, List, [], ◌∷◌, ◌++◌, length, Option, None, Some}
 use Rattle.std.specs.List.{slice_get}
 use Rattle.bd_base.specs.declared.job.Line.{Line}
 use Rattle.bd_base.specs.declared.job.Script.{Script}
@@ -21,7 +21,3 @@ lines_at scripts thread = lines_if_any (slice_get scripts thread)
 
 abbrev pub has_line : Script → Bool
 has_line script = nat_lt 0 (length script.lines)
-
--- the scripts with one more command
-abbrev pub with_one_more : List Script → Command → List Script
-with_one_more scripts command = slice_set scripts command.thread (record { thread = command.thread; lines = lines_at scripts command.thread ++ command.line ∷ [] })

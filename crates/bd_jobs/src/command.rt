@@ -187,17 +187,11 @@ fn submits(job: &Job) -> bool
 fn has_submission(lines: &[Line], number: u64) -> bool
     ensures { result ≡ list_any (submits_at number) lines.now }
 {
-    lines
-        .iter()
-        .any(|line| u64::from(line.number) == number && submits(&line.job))
+    lines.iter().any(|line| u64::from(line.number) == number && submits(&line.job))
 }
 
 // abort HANDLE LINE
-fn abort_job(
-    alloc: Global,
-    earlier: &[Line],
-    args: &[&[u8]],
-) -> Result<Option<Job>, OutOfMemory>
+fn abort_job(alloc: Global, earlier: &[Line], args: &[&[u8]]) -> Result<Option<Job>, OutOfMemory>
     ensures { IfOk result (λ job. job ≡ abort_job earlier.now (map (λ w. w.now) args.now)) }
 {
     let [handle, line] = args else {

@@ -3,6 +3,8 @@
 
 mod command;
 mod read;
+#[cfg(test)]
+mod tests;
 mod word;
 
 pub use command::Command;

@@ -3,7 +3,7 @@ ghost use Rattle.std.specs.Prelude.{◌≡◌, ℕ, ◌<◌, map, filter, length
 ghost use Rattle.bd_jobs.specs.declared.command.Command.{Command};
 ghost use Rattle.bd_jobs.specs.Words.{words_of};
 ghost use Rattle.bd_jobs.specs.ScriptGrammar.{is_bare, command_at, words_command, scripts_of, IsFirstOutside};
-ghost use Rattle.bd_jobs.specs.Held.{all_scripts, lines_at, has_line, with_one_more};
+ghost use Rattle.bd_jobs.specs.Held.{all_scripts, lines_at, has_line};
 
 use crate::command::{Command, command_job};
 use crate::word::{is_all_blank, number, words};

@@ -1,4 +1,4 @@
-use Rattle.std.proofs.Common.{◌≡◌, ◌∙◌, sym, ap, [], ◌∷◌, ◌++◌}
+use Rattle.std.proofs.Common.{◌∙◌, sym, ap, [], ◌∷◌, ◌++◌}
 use Rattle.bd_jobs.specs.Held.{all_scripts}
 use Rattle.bd_jobs.proofs.HeldLemmas.{all_scripts-none, all_scripts-more}
 use Rattle.bd_jobs.proofs.read.empty_scripts.Goals as goal

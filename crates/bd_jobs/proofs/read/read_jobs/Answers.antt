@@ -3,7 +3,7 @@ use Rattle.bd_base.specs.declared.job.Script.{Script}
 use Rattle.bd_jobs.specs.Words.{words_of}
 use Rattle.bd_jobs.specs.Held.{lines_at}
 use Rattle.bd_jobs.specs.ScriptGrammar.{words_command}
-use Rattle.bd_jobs.proofs.ReadLemmas.{HasRead, Refuses, begins, reads_bare, reads_command, holds_all, thread_below, is_too_long, is_no_command, names_first, ends}
+use Rattle.bd_jobs.proofs.ReadLemmas.{HasRead, begins, reads_bare, reads_command, holds_all, thread_below, is_too_long, is_no_command, names_first, ends}
 use Rattle.bd_jobs.proofs.read.read_jobs.Goals as goal
 use Rattle.bd_jobs.proofs.read.read_jobs.Goals.{then-not-is_bare+in_ok-command+in-Some-2+in_ok-add, else-not-is_bare}
 

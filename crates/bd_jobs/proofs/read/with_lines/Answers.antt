@@ -1,4 +1,4 @@
-use Rattle.std.proofs.Common.{◌≡◌, ◌∙◌, rules}
+use Rattle.std.proofs.Common.{◌∙◌, rules}
 use Rattle.std.proofs.lemmas.Fn.{filter_same}
 use Rattle.bd_jobs.specs.Held.{has_line}
 use Rattle.bd_jobs.proofs.read.with_lines.Goals as goal
