@@ -1,3 +1,6 @@
+pub mod GeneratedLemmas
+pub mod GeneratedReads
 pub mod HeldLemmas
 pub mod ReadLemmas
 pub mod WordLemmas
+pub mod WrittenLemmas

@@ -2,10 +2,12 @@
 #![tactic(auto)]
 
 mod command;
+mod generator;
 mod read;
 #[cfg(test)]
 mod tests;
 mod word;
 
 pub use command::Command;
+pub use generator::generate;
 pub use read::{JobNo, read_jobs};

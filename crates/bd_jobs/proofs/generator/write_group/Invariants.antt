@@ -1,0 +1,11 @@
+use Rattle.std.proofs.Common.{◌++◌, ◌∷◌, []}
+use Rattle.bd_jobs.specs.declared.generator.Step.TheVariants.{Waits}
+use Rattle.bd_jobs.specs.Generated.{writes, reads}
+use Rattle.bd_jobs.proofs.GeneratedLemmas.{HasWritten}
+use Rattle.bd_jobs.proofs.generator.write_group.Given as goal
+
+abbrev pub invariant-loop-i : goal.invariant-loop-i
+invariant-loop-i l = HasWritten l.thread l.fn.out.items l.out.items (writes l.first l.i)
+
+abbrev pub invariant-loop-i-2 : goal.invariant-loop-i-2
+invariant-loop-i-2 l = HasWritten l.thread l.fn.out.items l.out.items ((writes l.first l.count ++ Waits ∷ []) ++ reads l.first l.i)
