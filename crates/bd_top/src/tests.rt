@@ -86,6 +86,21 @@ fn first_path(rt: HostRuntime) -> Result<(), Fail> {
     Ok(())
 }
 
+// With ample memory this is the first path. Where one allocation fails (`rt try --test --fail-alloc
+// N`), the run still ends with its whole report, or says that memory is missing and wrote nothing. A
+// test that has no memory for its own files fails by `AllocFailed`, which says nothing of the run.
+#[test]
+fn want_of_memory_is_no_wrong_answer(rt: HostRuntime) -> Result<(), Fail> {
+    let end = played(rt.alloc(), CONFIG, SCRIPT)?;
+    if end.fault.is_empty() {
+        assert!(rt; end.text.as_slice() == REPORT.as_bytes());
+    } else {
+        assert!(rt; end.fault.as_bytes() == "out of memory, status 4".as_bytes());
+        assert!(rt; end.text.is_empty());
+    }
+    Ok(())
+}
+
 // The report of a run that ends well.
 fn report_of(alloc: Global, config: &str, script: &str) -> Result<Vec<u8>, Fail> {
     let end = played(alloc, config, script)?;
