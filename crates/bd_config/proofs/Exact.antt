@@ -4,7 +4,6 @@ use Rattle.std.specs.Prelude.{ℤ, ◌&&◌, if◌then◌else◌, map, Result, O
 use Rattle.std.specs.List.{list_all}
 use Rattle.std.proofs.lemmas.Option.{none-some}
 use Rattle.serde_json.specs.Data.{Data}
-use Rattle.serde_json.specs.Read.{read}
 use Rattle.bd_config.specs.Shape.{subsystems_of, is_subsystem}
 use Rattle.bd_config.specs.Config.{IsJson, HasShape, first_outside, shape_fault, IsShapeNo, answers_of, AsksFor, IsConfig, first_refused, Refuses, IsMethodNo}
 use Rattle.bd_config.specs.declared.command.Command.{Command}

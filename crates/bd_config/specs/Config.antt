@@ -1,5 +1,5 @@
 -- What a configuration's bytes mean, or the first place that is outside the form.
-use Rattle.std.specs.Prelude.{◌≡◌, ℕ, ◌+◌, ℤ, Bool, true, List, [], ◌∷◌, ◌++◌, map, length, Option, None, Some, if◌then◌else◌, Result, Ok, Err, IsUtf8}
+use Rattle.std.specs.Prelude.{◌≡◌, ℕ, ◌+◌, ℤ, true, List, [], ◌∷◌, ◌++◌, map, length, Option, None, Some, if◌then◌else◌, Result, Ok, Err, IsUtf8}
 use Rattle.std.specs.List.{list_all}
 use Rattle.serde_json.specs.Data.{Data}
 use Rattle.serde_json.specs.Read.{read}

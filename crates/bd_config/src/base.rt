@@ -84,7 +84,8 @@ fn is_zero_or_absent(call: &Value, key: &str) -> bool
 }
 
 fn is_read_only(call: &Value) -> bool
-    ensures { result ≡ is_true (option_and_then as_bool (param (codes "readonly") (view call.now))) }
+    ensures { result
+        ≡ is_true (option_and_then as_bool (param (codes "readonly") (view call.now))) }
 {
     match param(call, "readonly") {
         Some(value) => value.as_bool() == Some(true),

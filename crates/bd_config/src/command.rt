@@ -35,8 +35,8 @@ pub enum Command {
         base: Name,
         name: Name,
     },
-    /// Makes 1 to 64 parts of a base, each of so many megabytes (1,048,576 bytes), at most 1,048,576;
-    /// at 0 they share it out equally.
+    /// Makes 1 to 64 parts of a base, each of so many megabytes (1,048,576 bytes), at most
+    /// 1,048,576; at 0 they share it out equally.
     Split {
         base: Name,
         count: u32,

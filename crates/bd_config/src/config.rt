@@ -19,7 +19,7 @@ pub enum ConfigNo {
     OutOfMemory,
     /// They are no JSON text.
     Text,
-    /// The first subsystem of the wrong shape, counted from 1; 0 where there is no array of subsystems.
+    /// The first subsystem of the wrong shape, counted from 1; 0 where there is no array of them.
     Shape(u32),
     /// The first call that is refused, counted from 0, and its code.
     Method { index: u32, code: i32 },
@@ -69,7 +69,8 @@ fn read_calls(
     ensures all { result ≡ Ok None
         → commands_from commands.old.items (map view calls.now) ≡ Ok commands.new.items }
     ensures refused { (code : ℤ) → result ≡ Ok (Some code)
-        → commands_from commands.old.items (map view calls.now) ≡ Err (vec_len commands.new, code) }
+        → commands_from commands.old.items (map view calls.now)
+        ≡ Err (vec_len commands.new, code) }
 {
     for call in calls {
         match answer(alloc, call)? {
@@ -87,7 +88,8 @@ fn read_subsystems(
     commands: &mut Vec<Command>,
 ) -> Result<Option<i32>, OutOfMemory>
     ensures all { result ≡ Ok None
-        → commands_from commands.old.items (calls_of (map view subsystems.now)) ≡ Ok commands.new.items }
+        → commands_from commands.old.items (calls_of (map view subsystems.now))
+        ≡ Ok commands.new.items }
     ensures refused { (code : ℤ) → result ≡ Ok (Some code)
         → commands_from commands.old.items (calls_of (map view subsystems.now))
         ≡ Err (vec_len commands.new, code) }
@@ -136,9 +138,9 @@ fn read_value(alloc: Global, value: &Value) -> Result<Vec<Command>, ConfigNo>
     read_commands(alloc, subsystems)
 }
 
-/// Reads a configuration: the commands of all calls of its subsystems `bdev`, in order. A refusal names the
-/// first cause: bytes that are no JSON text; then the first place of the wrong shape; then the first call
-/// that is refused, with its code.
+/// Reads a configuration: the commands of all calls of its subsystems `bdev`, in order. A refusal
+/// names the first cause: bytes that are no JSON text; then the first place of the wrong shape; then
+/// the first call that is refused, with its code.
 pub fn read_config(alloc: Global, bytes: &[u8]) -> Result<Vec<Command>, ConfigNo>
     ensures ok { IfOk result (λ commands. IsConfig bytes.now commands.items) }
     ensures text { IsErrOf result ConfigNo.Text → (value : Data) → ¬ IsJson bytes.now value }

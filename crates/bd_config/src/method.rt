@@ -47,14 +47,16 @@ fn or_invalid(command: Option<Command>) -> Result<Command, i32>
     }
 }
 
-// The same of a device with blocks of its own, which is refused unless it is plain.
+// The same of a device with blocks of its own, which is refused unless it is plain. Its parameters
+// are looked at first.
 fn base_or_invalid(plain: bool, command: Option<Command>) -> Result<Command, i32>
     ensures { result ≡ base_or_invalid plain command }
 {
-    match command {
-        Some(command) if plain => Ok(command),
-        Some(_) => Err(NOT_SUPPORTED),
-        None => Err(INVALID_PARAMS),
+    let command = or_invalid(command)?;
+    if plain {
+        Ok(command)
+    } else {
+        Err(NOT_SUPPORTED)
     }
 }
 

@@ -85,7 +85,8 @@ fn types_named(needs_data: bool, word: &str) -> Option<IoSet>
 }
 
 fn kind(call: &Value) -> Option<ErrKind>
-    ensures { result ≡ option_and_then kind_named (text_from (param (codes "error_type") (view call.now))) }
+    ensures { result
+        ≡ option_and_then kind_named (text_from (param (codes "error_type") (view call.now))) }
 {
     kind_named(text(call, "error_type")?)
 }

@@ -45,7 +45,8 @@ fn are_calls(items: &[Value]) -> bool
 
 // The elements of `config`, which is an array, null or absent.
 fn config(v: &Value) -> Option<&[Value]>
-    ensures { option_map (λ items. map view items.now) result ≡ config_from (get (codes "config") (view v.now)) }
+    ensures { option_map (λ items. map view items.now) result
+        ≡ config_from (get (codes "config") (view v.now)) }
 {
     let Some(config) = v.get("config") else {
         return Some(&[]);
@@ -57,8 +58,8 @@ fn config(v: &Value) -> Option<&[Value]>
     }
 }
 
-/// The calls of a subsystem; none where the value is no subsystem. Only the subsystem `bdev` has calls that
-/// are read.
+/// The calls of a subsystem; none where the value is no subsystem. Only the subsystem `bdev` has
+/// calls that are read.
 pub(crate) fn calls_in(v: &Value) -> Option<&[Value]>
     ensures { option_map (λ calls. map view calls.now) result ≡ calls_in (view v.now) }
 {

@@ -1,5 +1,5 @@
 use Rattle.std.proofs.Common.{rules, ◌≡◌, ℕ, w32, to_z, of_z, map, List, [], Some, ap, sym, subst, ◌∙◌}
-use Rattle.std.specs.Prelude.{ℤ, Ok, Err, Result, vec_len}
+use Rattle.std.specs.Prelude.{Ok, Err, vec_len}
 use Rattle.serde_json.specs.View.{view}
 use Rattle.bd_config.specs.Shape.{calls_of}
 use Rattle.bd_config.specs.Config.{commands_from}

@@ -1,5 +1,5 @@
 use Rattle.std.proofs.Common.{◌≡◌, ◌+◌, drop, map, ap, sym, subst, ◌∙◌, List}
-use Rattle.std.specs.Prelude.{Ok, Err, Some, vec_len}
+use Rattle.std.specs.Prelude.{Ok, Err, vec_len}
 use Rattle.serde_json.specs.Data.{Data}
 use Rattle.serde_json.specs.View.{view}
 use Rattle.bd_config.specs.Shape.{calls_in, calls_or_empty, calls_of}

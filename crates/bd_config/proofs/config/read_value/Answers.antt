@@ -1,4 +1,4 @@
-use Rattle.std.proofs.Common.{rules, ◌≡◌, map, None, Some, sym, ◌∙◌}
+use Rattle.std.proofs.Common.{rules, ◌≡◌, map, None, sym}
 use Rattle.serde_json.specs.View.{view}
 use Rattle.bd_config.specs.Config.{HasShape, first_outside}
 use Rattle.bd_config.proofs.Exact.{asks_if_read, each_inside}
