@@ -1,0 +1,10 @@
+//! One thread of the layer: what it holds, and its turn.
+#![tactic(auto)]
+
+mod held;
+mod links;
+mod table;
+mod thread;
+
+pub use links::{Links, Queue};
+pub use thread::Thread;

@@ -1,0 +1,107 @@
+//! What the threads share: a queue of messages to each, the registry, and the list of entries.
+ghost use Rattle.std.specs.Prelude.{◌≡◌, ◌<◌, ◌∷◌, [], ◌++◌, OnOk, length, IfSome, IfNone, vec_len};
+ghost use Rattle.bd_thread.specs.Seen.{longer, IsFirst, Pushed, Popped};
+
+use bd_base::{Act, Entry, OutOfMemory, Rows};
+use bd_machine::Registry;
+use bd_turns::Message;
+use std::alloc::Global;
+use std::collections::VecDeque;
+use std::marker::Model;
+
+/// The most messages on their way to one thread.
+pub(crate) const MOST_MESSAGES: usize = 1024;
+
+/// The messages on their way to a thread, seen as their list, the first to be taken first.
+#[derive(Drop)]
+pub struct Queue {
+    messages: VecDeque<Message>,
+}
+
+impl Model for Queue {
+    ghost use Rattle.std.specs.Prelude.{List};
+    ghost use Rattle.bd_turns.specs.declared.queue.Message.{Message};
+
+    ghost Value = { List Message };
+
+    ghost view = { λ q. q.messages.items };
+}
+
+impl Queue {
+    /// No message. It takes no memory.
+    pub fn new(alloc: Global) -> Self
+        ensures { result ≡ [] }
+    {
+        Queue {
+            messages: VecDeque::new(alloc),
+        }
+    }
+
+    /// How many messages it has.
+    pub fn len(&self) -> usize
+        ensures { result ≡ length self.now }
+    {
+        self.messages.len()
+    }
+
+    fn push(&mut self, message: Message) -> Result<(), OutOfMemory>
+        ensures { OnOk result (self.new ≡ self.old ++ message ∷ []) }
+    {
+        self.messages.push_back(message)?;
+        Ok(())
+    }
+
+    fn pop(&mut self) -> Option<Message>
+        ensures some { IfSome result (λ m. self.old ≡ m ∷ self.new) }
+        ensures none { IfNone result (self.new ≡ self.old) }
+    {
+        self.messages.pop_front()
+    }
+
+    /// The first message.
+    pub fn first(&self) -> Option<&Message>
+        ensures some { IfSome result (λ m. IsFirst m.now self.now) }
+        ensures none { IfNone result (self.now ≡ []) }
+    {
+        self.messages.front()
+    }
+}
+
+/// What the threads share.
+#[derive(Drop)]
+pub struct Links {
+    pub queues: Vec<Queue>,
+    pub registry: Registry,
+    pub entries: Rows<Entry>,
+    /// Whether a Shutdown stands.
+    pub shut: bool,
+}
+
+/// The first message to the thread.
+pub(crate) fn pop(queues: &mut Vec<Queue>, me: usize) -> Option<Message>
+    requires { me < vec_len queues.old }
+    ensures some { IfSome result (λ m. Popped queues.old.items queues.new.items me m) }
+    ensures none { IfNone result (queues.new.items ≡ queues.old.items) }
+    ensures len { vec_len queues.new ≡ vec_len queues.old }
+{
+    let queue = &mut queues[me];
+    queue.pop()
+}
+
+/// Puts a message to the thread.
+pub(crate) fn push(queues: &mut Vec<Queue>, to: usize, message: Message) -> Result<(), OutOfMemory>
+    requires { to < vec_len queues.old }
+    ensures ok { OnOk result (Pushed queues.old.items queues.new.items to message) }
+    ensures len { vec_len queues.new ≡ vec_len queues.old }
+{
+    let queue = &mut queues[to];
+    queue.push(message)
+}
+
+/// Adds what a thread did to the list, with the next stamp.
+pub(crate) fn add(entries: &mut Rows<Entry>, thread: u32, act: Act) -> Result<(), OutOfMemory>
+    ensures { OnOk result (entries.new ≡ longer thread entries.old act) }
+{
+    let stamp = entries.len() as u128 + 1;
+    entries.push(Entry { stamp, thread, act })
+}
