@@ -7,7 +7,6 @@ use std::alloc::Global;
 use std::collections::VecDeque;
 
 /// A thread, by what it holds.
-#[derive(Drop)]
 pub struct Thread<'a> {
     pub(crate) alloc: Global,
     pub(crate) me: u32,
