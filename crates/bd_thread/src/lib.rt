@@ -3,6 +3,7 @@
 
 mod held;
 mod links;
+mod rules;
 mod table;
 mod thread;
 
