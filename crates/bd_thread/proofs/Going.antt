@@ -1,0 +1,155 @@
+-- How a thread goes on: not at all, by one act, and one way behind the other.
+use Rattle.std.proofs.Common.{◌≡◌, ℕ, ◌+◌, Bool, true, false, not, cond, ◌||◌, nat_lt, List, [], ◌∷◌, ◌++◌, length, vec_len, Some, None, refl, sym, ◌∙◌, ap, subst, append_assoc, append-nil, eq-eqb, lt-ltb, arith}
+use Rattle.std.specs.List.{AllByRecursion, filter}
+use Rattle.std.proofs.lemmas.List.Elements.{filter-append}
+use Rattle.bd_base.specs.declared.act.Act.{Act}
+use Rattle.bd_base.specs.declared.act.Entry.{Entry}
+use Rattle.bd_base.specs.declared.event.Answer.{Answer}
+use Rattle.bd_base.specs.declared.event.Answer.TheVariants as answers
+use Rattle.bd_base.specs.declared.event.RegEvent.{RegEvent}
+use Rattle.bd_base.specs.declared.event.RegEvent.TheVariants as events
+use Rattle.bd_base.specs.declared.setup.Setup.{Setup}
+use Rattle.bd_machine.specs.declared.guard.TheConstants.{UNBUILT, IN_ORDER}
+use Rattle.bd_machine.specs.declared.state.Handle.{Handle}
+use Rattle.bd_machine.specs.Guards.{guards, is_built}
+use Rattle.bd_machine.specs.Registry.{handles_after, is_own}
+use Rattle.bd_machine.specs.Step.{first_failing, is_shutdown}
+use Rattle.bd_machine.specs.View.{is_of}
+use Rattle.bd_turns.specs.Local.{Local, Leads, came_local, change_local, refusal_local, carried_local, local_after}
+use Rattle.bd_turns.proofs.Going.{leads_on}
+use Rattle.bd_thread.specs.declared.links.Links.{Links}
+use Rattle.bd_thread.specs.declared.thread.Thread.{Thread}
+use Rattle.bd_thread.specs.Acted.{Acted}
+use Rattle.bd_thread.specs.Seen.{local, entry_at, longer}
+
+-- ---- what a thread sees and what is shared, by its parts
+
+pub local_eq : (k l : Local) → k.view.part ≡ l.view.part → k.view.here ≡ l.view.here → k.view.handles ≡ l.view.handles
+    → k.shared.stamp ≡ l.shared.stamp → k.shared.shut ≡ l.shared.shut → k.shared.registry ≡ l.shared.registry → k.shared.queues ≡ l.shared.queues
+    → k ≡ l
+local_eq k l part here handles stamp shut registry queues = λ i. record {
+  view = record { part = part i; here = here i; handles = handles i };
+  shared = record { stamp = stamp i; shut = shut i; registry = registry i; queues = queues i };
+}
+
+-- an act that isn't a Shutdown leaves it as it was, whether one stands
+pub still_shut : (shut : Bool) → (shut || false) ≡ shut
+still_shut true = refl
+still_shut false = refl
+
+-- ---- a thread's handles after an event of its own
+
+filter_step : {X : Type 0} (is : X → Bool) (x : X) (b : Bool) (xs : List X) → is x ≡ b → filter is (x ∷ xs) ≡ cond b (x ∷ filter is xs) (filter is xs)
+filter_step is x b xs e = ap (λ c. cond c (x ∷ filter is xs) (filter is xs)) e
+
+filter_twice : {X : Type 0} (p q : X → Bool) (xs : List X) → filter p (filter q xs) ≡ filter q (filter p xs)
+filter_twice p q [] = refl
+filter_twice p q (x ∷ xs) = go (p x) (q x) refl refl (filter_twice p q xs)
+  where
+    go : (a b : Bool) → p x ≡ a → q x ≡ b → filter p (filter q xs) ≡ filter q (filter p xs) → filter p (cond b (x ∷ filter q xs) (filter q xs)) ≡ filter q (cond a (x ∷ filter p xs) (filter p xs))
+    go true true e f ih = filter_step p x true (filter q xs) e ∙ ap (λ zs. x ∷ zs) ih ∙ sym (filter_step q x true (filter p xs) f)
+    go true false e f ih = ih ∙ sym (filter_step q x false (filter p xs) f)
+    go false true e f ih = filter_step p x false (filter q xs) e ∙ ih
+    go false false e f ih = ih
+
+-- the registry's handles that are the thread's, after the event, are the thread's handles after it
+pub handles_own : (t : ℕ) (hs : List Handle) (event : RegEvent) (answer : Answer) → filter (is_of t) (handles_after t hs event answer) ≡ handles_after t (filter (is_of t) hs) event answer
+handles_own t hs (events.Open name write) (answers.Opened id dev) =
+    let h : Handle = record { id = id; dev = dev; thread = record { 0 = t }; write = write } in
+    filter-append (is_of t) hs (h ∷ []) ∙ ap (λ b. filter (is_of t) hs ++ cond b (h ∷ []) []) (eq-eqb t t refl)
+handles_own t hs (events.Close id) (answers.Closed destruct) = filter_twice (is_of t) (λ h. not (is_own t id h)) hs
+handles_own t hs _ _ = refl
+
+-- ---- one act
+
+-- each guard holds
+abbrev pub Hold : List (ℕ × Bool) → Type 0
+Hold gs = AllByRecursion (λ g. g.1 ≡ true) gs
+
+pub all_pass : (gs : List (ℕ × Bool)) → Hold gs → first_failing gs ≡ None
+all_pass [] h = refl
+all_pass (g ∷ gs) h = ap (λ b. cond b (first_failing gs) (Some g.0)) h.0 ∙ all_pass gs h.1
+
+-- the thread may do the act, and it leads there
+pub record Steps (setup : Setup) (t : ℕ) (l : Local) (act : Act) (l' : Local) : Type 0 where
+  pub still : is_shutdown act ≡ false
+  pub allowed : refusal_local setup t l (entry_at t (l.shared.stamp + 1) act) ≡ None
+  pub leads : local_after setup t l (entry_at t (l.shared.stamp + 1) act) ≡ l'
+
+-- an act that is built, of which each guard holds, and what it changes
+pub steps : (setup : Setup) (t : ℕ) (l l' : Local) (act : Act)
+    → is_shutdown act ≡ false
+    → is_built act ≡ true
+    → Hold (guards setup t l.view act (came_local setup t l act))
+    → carried_local t l (entry_at t (l.shared.stamp + 1) act) (change_local setup t l act) ≡ l'
+    → Steps setup t l act l'
+unfolding local_after
+steps setup t l l' act still built hold change =
+    let later : nat_lt l.shared.stamp (l.shared.stamp + 1) ≡ true = lt-ltb l.shared.stamp (l.shared.stamp + 1) (omega arith) in
+    record {
+      still = still;
+      allowed = all_pass ((UNBUILT, is_built act) ∷ (IN_ORDER, nat_lt l.shared.stamp (l.shared.stamp + 1)) ∷ guards setup t l.view act (came_local setup t l act)) (built, (later, hold));
+      leads = change;
+    }
+
+-- ---- how the thread goes on
+
+pub acted_still : (old : Thread) (before : Links) (new : Thread) (after : Links)
+    → new.me ≡ old.me
+    → new.setup ≡ old.setup
+    → vec_len after.queues ≡ vec_len before.queues
+    → after.entries ≡ before.entries
+    → local old before ≡ local new after
+    → Acted old before new after
+acted_still old before new after me setup queues added same = record {
+  me = me;
+  setup = setup;
+  queues = queues;
+  entries = [];
+  added = added ∙ sym (append-nil before.entries);
+  leads = same;
+}
+
+pub acted_none : (t : Thread) (links : Links) → Acted t links t links
+acted_none t links = acted_still t links t links refl refl refl refl refl
+
+pub acted_then : (o : Thread) (a : Links) (m : Thread) (b : Links) (n : Thread) (c : Links) → Acted o a m b → Acted m b n c → Acted o a n c
+acted_then o a m b n c g h =
+    let setup-is : m.setup.now ≡ o.setup.now = ap (λ s. s.now) g.setup in
+    record {
+      me = h.me ∙ g.me;
+      setup = h.setup ∙ g.setup;
+      queues = h.queues ∙ g.queues;
+      entries = g.entries ++ h.entries;
+      added = h.added ∙ ap (λ (es : List Entry). es ++ h.entries) g.added ∙ append_assoc a.entries g.entries h.entries;
+      leads = leads_on o.setup.now o.me (local o a) (local m b) (local n c) g.entries h.entries g.leads
+          (subst (λ (t : ℕ). Leads o.setup.now t (local m b) h.entries (local n c)) g.me
+          (subst (λ (s : Setup). Leads s m.me (local m b) h.entries (local n c)) setup-is h.leads));
+    }
+
+pub acted_one : (old : Thread) (before : Links) (new : Thread) (after : Links) (act : Act)
+    → new.me ≡ old.me
+    → new.setup ≡ old.setup
+    → vec_len after.queues ≡ vec_len before.queues
+    → after.entries ≡ longer old.me before.entries act
+    → is_shutdown act ≡ false
+    → refusal_local old.setup.now old.me (local old before) (entry_at old.me (length before.entries + 1) act) ≡ None
+    → local_after old.setup.now old.me (local old before) (entry_at old.me (length before.entries + 1) act) ≡ local new after
+    → Acted old before new after
+acted_one old before new after act me setup queues added still allowed leads = record {
+  me = me;
+  setup = setup;
+  queues = queues;
+  entries = entry_at old.me (length before.entries + 1) act ∷ [];
+  added = added;
+  leads = (refl, still, allowed, leads);
+}
+
+pub acted_step : (old : Thread) (before : Links) (new : Thread) (after : Links) (act : Act)
+    → new.me ≡ old.me
+    → new.setup ≡ old.setup
+    → vec_len after.queues ≡ vec_len before.queues
+    → after.entries ≡ longer old.me before.entries act
+    → Steps old.setup.now old.me (local old before) act (local new after)
+    → Acted old before new after
+acted_step old before new after act me setup queues added h = acted_one old before new after act me setup queues added h.still h.allowed h.leads
