@@ -1,1 +1,4 @@
 pub mod Going
+pub mod Left
+pub mod Moving
+pub mod Ends

@@ -2,6 +2,7 @@
 #![tactic(auto)]
 
 mod held;
+mod lines;
 mod links;
 mod rules;
 mod table;

@@ -1,0 +1,35 @@
+-- What a line's end changes, and when it comes.
+use Rattle.std.specs.Prelude.{◌≡◌, ℕ, ◌+◌, Bool, true, false, cond, not, ◌&&◌, List, ◌++◌, Option, Some, None, is_some}
+use Rattle.bd_base.specs.declared.act.Act.TheVariants as acts
+use Rattle.bd_base.specs.declared.act.Outcome.{Outcome}
+use Rattle.bd_base.specs.declared.job.Job.{Job}
+use Rattle.bd_base.specs.declared.job.Line.{Line}
+use Rattle.bd_base.specs.declared.setup.Setup.{Setup}
+use Rattle.bd_machine.specs.declared.state.Part.{Part}
+use Rattle.bd_machine.specs.Asked.{next_line, outcome_due}
+use Rattle.bd_machine.specs.Scripts.{bound_after, posted}
+use Rattle.bd_thread.specs.declared.links.Links.{Links}
+use Rattle.bd_thread.specs.declared.thread.Thread.{Thread}
+use Rattle.bd_thread.specs.Seen.{longer}
+
+-- the line that asks for this is done: the next one is to come, undecided
+abbrev pub IsDone : Setup → Job → Part → Part → Type 0
+IsDone setup job old new = new ≡ record old {
+  next = old.next + 1;
+  decided = None;
+  bound = bound_after (Some job) old.decided old.bound;
+  due = old.due ++ posted setup (Some job);
+}
+
+abbrev pub number_if : Option Line → ℕ
+number_if None = 0
+number_if (Some line) = line.number
+
+-- one Script entry exactly where the next line has an outcome and no Shutdown stands, else none
+abbrev pub ScriptAdded : Thread → Links → Links → Bool → Option Outcome → Type 0
+ScriptAdded t before after ended None = (ended ≡ false) × (after.entries ≡ before.entries)
+ScriptAdded t before after ended (Some outcome) =
+    (ended ≡ not before.shut) × (after.entries ≡ cond before.shut before.entries (longer t.me before.entries (acts.Script (number_if (next_line t.setup.now t.me t.part)) outcome)))
+
+abbrev pub EndsLine : Thread → Links → Links → Bool → Type 0
+EndsLine t before after ended = ScriptAdded t before after ended (outcome_due t.setup.now t.me t.part)

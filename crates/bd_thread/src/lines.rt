@@ -1,0 +1,120 @@
+//! The lines of a thread's script: opens, closes, and each line's end.
+ghost use Rattle.std.specs.Prelude.{◌≡◌, ◌+◌, ◌<◌, ◌^◌, ◌++◌, Some, filter, length, map, not, vec_len, IfOk, OnOk};
+ghost use Rattle.std.specs.List.{range_with_len};
+ghost use Rattle.bd_base.specs.Name.{same_name};
+ghost use Rattle.bd_machine.specs.Scripts.{bound_after, mark_to, posted};
+ghost use Rattle.bd_thread.specs.Acted.{Acted};
+ghost use Rattle.bd_thread.specs.Lines.{EndsLine, IsDone};
+
+use crate::links::{Links, add};
+use crate::rules::{next_line, outcome_of};
+use crate::thread::Thread;
+use bd_base::{Act, Job, Name, OutOfMemory, Rows, Setup};
+use bd_machine::{Binding, Decided, Due, News, Part};
+use std::alloc::Global;
+use std::mem::replace;
+
+// The names without one.
+fn unbind(alloc: Global, bound: &mut Rows<Binding>, name: &Name)
+    ensures { bound.new ≡ filter (λ b. not (same_name b.name name.now)) bound.old }
+{
+    let mut names = replace(bound, Rows::new(alloc)).into_vec();
+    names.retain(|b| !b.name.is(name));
+    *bound = Rows::from_vec(names);
+}
+
+// An open that was granted binds its name, and a close frees it.
+fn rebind(alloc: Global, part: &mut Part, job: &Job) -> Result<(), OutOfMemory>
+    ensures { OnOk result (part.new ≡ record part.old { bound = bound_after (Some job.now) part.old.decided part.old.bound }) }
+{
+    match (job, part.decided) {
+        (Job::Open { handle, .. }, Some(Decided::Opened(id))) => {
+            let name = handle.copy()?;
+            part.bound.push(Binding { name, handle: id })
+        }
+        (Job::Close { handle }, Some(Decided::Closed)) => {
+            unbind(alloc, &mut part.bound, handle);
+            Ok(())
+        }
+        _ => Ok(()),
+    }
+}
+
+// A mark that is due to a thread.
+fn mark_to(receiver: u32, mark: &Name) -> Result<Due, OutOfMemory>
+    ensures { IfOk result (λ d. d ≡ mark_to mark.now receiver) }
+{
+    let name = mark.copy()?;
+    Ok(Due {
+        receiver,
+        news: News::Mark(name),
+    })
+}
+
+// A mark is due to each thread.
+#[tactic(auto, using(crate::proofs::Left::left_from))]
+fn post(due: &mut Rows<Due>, threads: u32, mark: &Name) -> Result<(), OutOfMemory>
+    ensures { OnOk result (due.new ≡ due.old ++ map (mark_to mark.now) (range_with_len 0 threads)) }
+{
+    for receiver in 0..threads {
+        let owed = mark_to(receiver, mark)?;
+        due.push(owed)?;
+    }
+    Ok(())
+}
+
+// A post owes its mark to every thread.
+fn owe(part: &mut Part, setup: &Setup, job: &Job) -> Result<(), OutOfMemory>
+    ensures { OnOk result (part.new ≡ record part.old { due = part.old.due ++ posted setup.now (Some job.now) }) }
+{
+    match job {
+        Job::Post(mark) => post(&mut part.due, setup.threads, mark),
+        _ => Ok(()),
+    }
+}
+
+// The line that asks for this is done.
+fn go_on(alloc: Global, part: &mut Part, setup: &Setup, job: &Job) -> Result<(), OutOfMemory>
+    ensures { OnOk result (IsDone setup.now job.now part.old part.new) }
+{
+    let Some(next) = part.next.checked_add(1) else {
+        return Err(OutOfMemory);
+    };
+    rebind(alloc, part, job)?;
+    owe(part, setup, job)?;
+    part.next = next;
+    part.decided = None;
+    Ok(())
+}
+
+impl<'a> Thread<'a> {
+    /// Ends the next line, where it goes on.
+    pub(crate) fn end_line(&mut self, links: &mut Links) -> Result<bool, OutOfMemory>
+        requires me { self.old.me < vec_len links.old.queues }
+        requires few { length self.old.part.requests < 2 ^ 32 }
+        ensures acted { OnOk result (Acted self.old links.old self.new links.new) }
+        ensures ended { IfOk result (EndsLine self.old links.old links.new) }
+    {
+        if links.shut {
+            return Ok(false);
+        }
+        let setup = self.setup;
+        let Some(line) = next_line(setup, self.me, &self.part) else {
+            return Ok(false);
+        };
+        let Some(outcome) = outcome_of(&self.part, &line.job) else {
+            return Ok(false);
+        };
+        go_on(self.alloc, &mut self.part, setup, &line.job)?;
+        let number = line.number;
+        add(
+            &mut links.entries,
+            self.me,
+            Act::Script {
+                line: number,
+                outcome,
+            },
+        )?;
+        Ok(true)
+    }
+}
