@@ -1,6 +1,7 @@
 //! One thread of the layer: what it holds, and its turn.
 #![tactic(auto)]
 
+mod admission;
 mod held;
 mod lines;
 mod links;
