@@ -1,3 +1,4 @@
 pub mod Seen
 pub mod Acted
 pub mod Lines
+pub mod Served

@@ -6,6 +6,7 @@ mod held;
 mod lines;
 mod links;
 mod rules;
+mod store;
 mod table;
 mod thread;
 
