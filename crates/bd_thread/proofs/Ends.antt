@@ -1,7 +1,10 @@
 -- The end of a line, by the local rules.
-use Rattle.std.proofs.Common.{◌≡◌, ℕ, ◌+◌, Bool, true, false, not, cond, ◌&&◌, ◌==◌, nat_lt, List, [], ◌∷◌, ◌++◌, Option, Some, None, refl, sym, ◌∙◌, ap, subst, eq-eqb, arith}
+use Rattle.std.proofs.Common.{◌≡◌, ℕ, ◌+◌, Bool, true, false, not, cond, ◌&&◌, ◌==◌, nat_lt, List, [], ◌∷◌, ◌++◌, length, Option, Some, None, refl, sym, ◌∙◌, ap, subst, eq-eqb, arith}
 use Rattle.std.specs.Option.{option_map, option_and_then}
 use Rattle.std.proofs.lemmas.Bool.{and_from}
+use Rattle.std.proofs.lemmas.List.{length-append}
+use Rattle.bd_base.specs.declared.act.Act.{Act}
+use Rattle.bd_base.specs.declared.act.Entry.{Entry}
 use Rattle.bd_base.specs.Errno.{number_of}
 use Rattle.bd_base.specs.declared.act.Act.TheVariants as acts
 use Rattle.bd_base.specs.declared.act.Outcome.{Outcome}
@@ -18,8 +21,9 @@ use Rattle.bd_machine.specs.Asked.{next_line, outcome_by, job_of}
 use Rattle.bd_machine.specs.Same.{same_outcome, is_the}
 use Rattle.bd_machine.specs.Scripts.{bound_after, posted, is_line}
 use Rattle.bd_turns.specs.declared.queue.Message.{Message}
-use Rattle.bd_turns.specs.Local.{refusal_local, local_after}
-use Rattle.bd_thread.specs.Seen.{local_at, entry_at}
+use Rattle.bd_turns.specs.Local.{Local, refusal_local, local_after}
+use Rattle.bd_thread.specs.Seen.{local_at, entry_at, longer}
+use Rattle.bd_thread.proofs.Going.{Steps}
 
 pub pass : {X : Type 0} (b : Bool) (x y z : X) → b ≡ true → x ≡ z → cond b x y ≡ z
 pass true x y z h e = e
@@ -48,3 +52,19 @@ module _ (setup : Setup) (me : ℕ) (part : Part) (here : Id → Option Kept) (r
   pub line_leads : local_after setup me (local_at me part here registry false stamp queues) (entry_at me (stamp + 1) (acts.Script number outcome)) ≡ local_at me (after_line (Some job)) here registry false (stamp + 1) queues
   unfolding local_after
   line_leads = ap (λ (o : Option Line). local_at me (after_line (option_map job_of o)) here registry false (stamp + 1) queues) line
+
+  abbrev old_local : Bool → Local
+  old_local shut = local_at me part here registry shut stamp queues
+
+  -- the act of a line's end, where no Shutdown stands
+  pub line_steps : (shut : Bool) → shut ≡ false → (new : Part) → new ≡ after_line (Some job) → Steps setup me (old_local shut) (acts.Script number outcome) (local_at me new here registry shut (stamp + 1) queues)
+  line_steps shut unshut new is = record {
+    still = refl;
+    allowed = subst (λ (s : Bool). refusal_local setup me (old_local s) (entry_at me (stamp + 1) (acts.Script number outcome)) ≡ None) (sym unshut) line_allowed;
+    leads =
+      subst (λ (s : Bool). local_after setup me (old_local s) (entry_at me (stamp + 1) (acts.Script number outcome)) ≡ local_at me (after_line (Some job)) here registry s (stamp + 1) queues) (sym unshut) line_leads
+      ∙ ap (λ (p : Part). local_at me p here registry shut (stamp + 1) queues) (sym is);
+  }
+
+pub length-longer : (n : ℕ) (es : List Entry) (act : Act) → length (longer n es act) ≡ length es + 1
+length-longer n es act = length-append es (entry_at n (length es + 1) act ∷ [])

@@ -1,0 +1,20 @@
+use Rattle.std.proofs.Common.{◌≡◌, ℕ, false, List, refl, sym, ◌∙◌, ap, subst, length}
+use Rattle.std.specs.Option.{option_copied}
+use Rattle.bd_base.specs.declared.act.Act.TheVariants as acts
+use Rattle.bd_turns.specs.Local.{Local}
+use Rattle.bd_thread.specs.Seen.{here_in, local_at, queues_of}
+use Rattle.bd_thread.proofs.Ends.{line_steps, length-longer}
+use Rattle.bd_thread.proofs.Going.{Steps, acted_step}
+use Rattle.bd_thread.proofs.thread.Thread.end_line.Goals as goal
+
+pub returns-clause-acted : goal.returns-clause-acted
+returns-clause-acted c =
+    let t = c.args.self.now in
+    let links = c.args.links.now in
+    let act = acts.Script c.in-Some.line.now.number c.in-Some-outcome_of.outcome in
+    let queues = queues_of links.queues.items in
+    let stepped = line_steps t.setup.now t.me t.part (here_in t.held.items) links.registry (length links.entries) queues c.in-Some.line.now.number c.in-Some.line.now.job c.in-Some-outcome_of.outcome
+      (sym c.next_line.ensures ∙ ap option_copied c.in-Some.is) (sym c.outcome_of.ensures ∙ c.in-Some-outcome_of.is) links.shut c.if-links.false c.go_on.new.part c.in_ok-go_on.ensures in
+    acted_step t links _ _ act refl refl refl c.in_ok-add.ensures
+    (subst (λ (n : ℕ). Steps t.setup.now t.me (local_at t.me t.part (here_in t.held.items) links.registry links.shut (length links.entries) queues) act (local_at t.me c.go_on.new.part (here_in t.held.items) links.registry links.shut n queues))
+    (sym (ap length c.in_ok-add.ensures ∙ length-longer t.me links.entries act)) stepped)
