@@ -1,3 +1,6 @@
+pub mod Here
+pub mod Firsts
+pub mod Written
 pub mod Going
 pub mod Left
 pub mod Moving
