@@ -2,6 +2,7 @@
 use Rattle.std.proofs.Common.{◌≡◌, ℕ, ◌+◌, Bool, true, false, not, cond, ◌||◌, nat_lt, List, [], ◌∷◌, ◌++◌, length, vec_len, Some, None, refl, sym, ◌∙◌, ap, subst, append_assoc, append-nil, eq-eqb, lt-ltb, arith}
 use Rattle.std.specs.List.{AllByRecursion, filter}
 use Rattle.std.proofs.lemmas.List.Elements.{filter-append}
+use Rattle.std.proofs.lemmas.List.{length-append}
 use Rattle.bd_base.specs.declared.act.Act.{Act}
 use Rattle.bd_base.specs.declared.act.Entry.{Entry}
 use Rattle.bd_base.specs.declared.event.Answer.{Answer}
@@ -20,7 +21,7 @@ use Rattle.bd_turns.proofs.Going.{leads_on}
 use Rattle.bd_thread.specs.declared.links.Links.{Links}
 use Rattle.bd_thread.specs.declared.thread.Thread.{Thread}
 use Rattle.bd_thread.specs.Acted.{Acted}
-use Rattle.bd_thread.specs.Seen.{local, entry_at, longer}
+use Rattle.bd_thread.specs.Seen.{here_in, queues_of, local_at, local, entry_at, longer}
 
 -- ---- what a thread sees and what is shared, by its parts
 
@@ -153,3 +154,19 @@ pub acted_step : (old : Thread) (before : Links) (new : Thread) (after : Links) 
     → Steps old.setup.now old.me (local old before) act (local new after)
     → Acted old before new after
 acted_step old before new after act me setup queues added h = acted_one old before new after act me setup queues added h.still h.allowed h.leads
+
+length-longer : (t : ℕ) (es : List Entry) (act : Act) → length (longer t es act) ≡ length es + 1
+length-longer t es act = length-append es (entry_at t (length es + 1) act ∷ [])
+
+-- by what the act leaves, part by part
+pub acted_by : (old : Thread) (before : Links) (new : Thread) (after : Links) (act : Act)
+    → new.me ≡ old.me
+    → new.setup ≡ old.setup
+    → vec_len after.queues ≡ vec_len before.queues
+    → after.entries ≡ longer old.me before.entries act
+    → Steps old.setup.now old.me (local old before) act (local_at old.me new.part (here_in new.held.items) after.registry after.shut (length before.entries + 1) (queues_of after.queues.items))
+    → Acted old before new after
+acted_by old before new after act me setup queues added h =
+    let at : ℕ → ℕ → Local = λ t n. local_at t new.part (here_in new.held.items) after.registry after.shut n (queues_of after.queues.items) in
+    let stamp : length before.entries + 1 ≡ length after.entries = sym (length-longer old.me before.entries act) ∙ sym (ap length added) in
+    acted_one old before new after act me setup queues added h.still h.allowed (h.leads ∙ ap (at old.me) stamp ∙ ap (λ t. at t (length after.entries)) (sym me))

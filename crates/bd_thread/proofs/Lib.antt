@@ -1,3 +1,4 @@
+pub mod Took
 pub mod Here
 pub mod Firsts
 pub mod Written

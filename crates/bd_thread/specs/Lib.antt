@@ -1,3 +1,4 @@
+pub mod Sent
 pub mod Seen
 pub mod Acted
 pub mod Lines

@@ -5,6 +5,7 @@ mod admission;
 mod held;
 mod lines;
 mod links;
+mod messages;
 mod rules;
 mod store;
 mod table;

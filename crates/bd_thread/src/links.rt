@@ -1,6 +1,6 @@
 //! What the threads share: a queue of messages to each, the registry, and the list of entries.
 ghost use Rattle.std.specs.Prelude.{◌≡◌, ◌<◌, ◌∷◌, [], ◌++◌, OnOk, length, IfSome, IfNone, vec_len};
-ghost use Rattle.bd_thread.specs.Seen.{longer, IsFirst, Pushed, Popped};
+ghost use Rattle.bd_thread.specs.Seen.{longer, queues_of, IsFirst, Pushed, Popped};
 
 use bd_base::{Act, Entry, OutOfMemory, Rows};
 use bd_machine::Registry;
@@ -54,6 +54,7 @@ impl Queue {
     fn pop(&mut self) -> Option<Message>
         ensures some { IfSome result (λ m. self.old ≡ m ∷ self.new) }
         ensures none { IfNone result (self.new ≡ self.old) }
+        ensures empty { IfNone result (self.old ≡ []) }
     {
         self.messages.pop_front()
     }
@@ -77,11 +78,12 @@ pub struct Links {
     pub shut: bool,
 }
 
-/// The first message to the thread.
+/// Takes the first message to the thread.
 pub(crate) fn pop(queues: &mut Vec<Queue>, me: usize) -> Option<Message>
     requires { me < vec_len queues.old }
     ensures some { IfSome result (λ m. Popped queues.old.items queues.new.items me m) }
     ensures none { IfNone result (queues.new.items ≡ queues.old.items) }
+    ensures empty { IfNone result (queues_of queues.old.items me ≡ []) }
     ensures len { vec_len queues.new ≡ vec_len queues.old }
 {
     let queue = &mut queues[me];

@@ -1,0 +1,37 @@
+-- What a thread takes from its queue and puts into others', and the entries that say so.
+use Rattle.std.specs.Prelude.{◌≡◌, ℕ, Bool, true, false, cond, ◌&&◌, nat_lt, vec_len, List, [], ◌∷◌, Option, Some, None}
+use Rattle.bd_base.specs.declared.act.Act.TheVariants as acts
+use Rattle.bd_base.specs.declared.act.Token.{Token}
+use Rattle.bd_machine.specs.declared.state.Id.{Id}
+use Rattle.bd_machine.specs.Messages.{brings, count_at, may_go}
+use Rattle.bd_turns.specs.declared.queue.Message.{Message}
+use Rattle.bd_turns.specs.Tied.{id_next}
+use Rattle.bd_thread.specs.declared.links.Links.{Links}
+use Rattle.bd_thread.specs.declared.thread.Thread.{Thread}
+use Rattle.bd_thread.specs.Seen.{local, longer, queues_of}
+
+-- the first message, where it brings the token that it names
+abbrev pub first_brought : List Message → Option Message
+first_brought [] = None
+first_brought (m ∷ ms) = cond (brings m.what (Some m.kept)) (Some m) None
+
+-- one Took of this message, whose token is given; without a message nothing changes
+abbrev pub TakesBy : Thread → Links → Thread → Links → Option Id → Option Message → Type 0
+TakesBy old before new after id None = (id ≡ None) × (new ≡ old) × (after ≡ before)
+TakesBy old before new after id (Some m) =
+    (id ≡ Some (id_next old.me old.part.taken m)) × (after.entries ≡ longer old.me before.entries (acts.Took m.sender (count_at old.part.taken m.sender) m.what))
+
+abbrev pub Takes : Thread → Links → Thread → Links → Option Id → Type 0
+Takes old before new after id = TakesBy old before new after id (first_brought (queues_of before.queues.items old.me))
+
+-- there is a queue to this thread, and the token may go there
+abbrev pub may_put : Thread → Links → ℕ → Token → Bool
+may_put t links to what = nat_lt to (vec_len links.queues) && may_go t.setup.now t.me (local t links).view to what
+
+-- one Put of the token, where it may go there; else nothing changes
+abbrev pub PutsBy : Thread → Links → Thread → Links → ℕ → Token → Bool → Bool → Type 0
+PutsBy old before new after to what put true = (put ≡ true) × (after.entries ≡ longer old.me before.entries (acts.Put to (count_at old.part.put to) what))
+PutsBy old before new after to what put false = (put ≡ false) × (new ≡ old) × (after ≡ before)
+
+abbrev pub Puts : Thread → Links → Thread → Links → ℕ → Token → Bool → Type 0
+Puts old before new after to what put = PutsBy old before new after to what put (may_put old before to what)
