@@ -9,3 +9,5 @@ pub mod Ends
 mod Spliced
 mod Joined
 mod Turned
+mod Bases
+mod Applies

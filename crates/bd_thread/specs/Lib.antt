@@ -3,3 +3,4 @@ pub mod Seen
 pub mod Acted
 pub mod Lines
 pub mod Served
+pub mod Next

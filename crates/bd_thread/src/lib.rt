@@ -3,6 +3,7 @@
 
 mod admission;
 mod held;
+mod homes;
 mod lines;
 mod links;
 mod messages;

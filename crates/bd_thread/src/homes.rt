@@ -1,0 +1,190 @@
+//! What a home does: it applies pieces to its base devices.
+ghost use Rattle.std.specs.Prelude.{◌≡◌, ◌<◌, IfOk, IfSome, OnOk, Some, find, option_copied, vec_len, true};
+ghost use Rattle.std.specs.List.{position};
+ghost use Rattle.bd_base.specs.declared.act.ApplyEnd.TheVariants as ends;
+ghost use Rattle.bd_machine.specs.Homes.{applied, is_base, is_first, read_by};
+ghost use Rattle.bd_machine.specs.Table.{change_first};
+ghost use Rattle.bd_thread.specs.Acted.{Acted};
+ghost use Rattle.bd_thread.specs.Next.{IsNext};
+ghost use Rattle.bd_thread.specs.Seen.{here_in};
+ghost use Rattle.bd_thread.specs.Served.{Applies, Fits, FitsAt, IsHome, IsReady, read_at, unread};
+
+use crate::held::{held, hold};
+use crate::links::{Links, add};
+use crate::store::{bytes_read, change, fits};
+use crate::thread::Thread;
+use bd_base::{Act, ApplyEnd, Bytes, DevId, DevRow, OutOfMemory, ReqId, Rows, Setup};
+use bd_machine::{Base, Id, Kept, OpenPiece, Progress};
+use std::alloc::Global;
+
+// The row of a device whose home is this thread.
+fn row_at_home(setup: &Setup, thread: u32, dev: DevId) -> Option<&DevRow>
+    ensures { IfSome result (λ row. IsHome setup.now thread dev row.now) }
+{
+    let row = setup.devices.as_slice().get(dev.0 as usize)?;
+    if setup.threads == 0 || dev.0 % setup.threads != thread {
+        return None;
+    }
+    Some(row)
+}
+
+// The place of a base device.
+fn base_place(bases: &[Base], dev: DevId) -> Option<usize>
+    ensures { result ≡ position (is_base dev) bases.now }
+{
+    bases.iter().position(|b| b.dev.0 == dev.0)
+}
+
+// The first piece of a queue.
+fn first(queue: &[(ReqId, u32)]) -> Option<(ReqId, u32)>
+    ensures { IfSome result (λ q. is_first q.0 q.1 queue.now ≡ true) }
+{
+    queue.first().copied()
+}
+
+// A piece once it was served, without the bytes that it read.
+fn unread(p: &OpenPiece) -> OpenPiece
+    ensures { result ≡ unread p.now }
+{
+    OpenPiece {
+        base: p.base,
+        lba: p.lba,
+        count: p.count,
+        first: p.first,
+        op: p.op,
+        progress: Progress::Served,
+        end: Some(ApplyEnd::Done),
+        read: None,
+    }
+}
+
+// What becomes of a piece, where it is here and on this device.
+fn ready(tokens: &[(Id, Kept)], id: Id, dev: DevId) -> Option<OpenPiece>
+    ensures { IfSome result (IsReady dev (here_in tokens.now id)) }
+{
+    let Some(Kept::Piece(p)) = held(tokens, id) else {
+        return None;
+    };
+    if p.base.0 != dev.0 {
+        return None;
+    }
+    Some(unread(p))
+}
+
+// The piece that a base serves next: where the base stands, the piece's name, and what becomes of it.
+#[derive(Drop)]
+struct Next {
+    place: usize,
+    req: ReqId,
+    k: u32,
+    piece: OpenPiece,
+}
+
+// The first piece in the device's queue, where it is here and the content has its blocks.
+fn next_at(bases: &[Base], tokens: &[(Id, Kept)], size: u32, dev: DevId) -> Option<Next>
+    ensures { IfSome result (IsNext bases.now tokens.now size dev) }
+{
+    let place = base_place(bases, dev)?;
+    let base = &bases[place];
+    let (req, k) = first(base.queue.as_slice())?;
+    let piece = ready(tokens, Id::Piece(req, k), dev)?;
+    if !fits(&base.content, size, &piece) {
+        return None;
+    }
+    Some(Next {
+        place,
+        req,
+        k,
+        piece,
+    })
+}
+
+// A base serves its first piece; the bytes that it read.
+fn serve(
+    alloc: Global,
+    base: &mut Base,
+    size: u32,
+    p: &OpenPiece,
+) -> Result<Option<Bytes>, OutOfMemory>
+    requires { Fits size base.old.content p.now }
+    ensures base { OnOk result (base.new ≡ applied ends.Done p.now base.old) }
+    ensures read { IfOk result (λ bytes. bytes ≡ read_by ends.Done size base.old.content p.now) }
+{
+    let bytes = bytes_read(alloc, &base.content, size, p)?;
+    change(alloc, &mut base.content, size, p)?;
+    if base.queue.len() != 0 {
+        let _ = base.queue.remove(0);
+    }
+    Ok(bytes)
+}
+
+// The base at a place serves its first piece; the bytes that it read.
+fn serve_at(
+    alloc: Global,
+    bases: &mut Rows<Base>,
+    dev: DevId,
+    place: usize,
+    size: u32,
+    p: &OpenPiece,
+) -> Result<Option<Bytes>, OutOfMemory>
+    requires place { position (is_base dev) bases.old ≡ Some place }
+    requires fits { FitsAt size (find (is_base dev) bases.old) p.now }
+    ensures bases { OnOk result (bases.new ≡ change_first (is_base dev) (applied ends.Done p.now) bases.old) }
+    ensures read { IfOk result (λ bytes. bytes ≡ read_at size (find (is_base dev) bases.old) p.now) }
+{
+    let base = bases.at_mut(place);
+    let bytes = serve(alloc, base, size, p)?;
+    Ok(bytes)
+}
+
+// The piece with the bytes that it read.
+fn with_read(p: OpenPiece, read: Option<Bytes>) -> OpenPiece
+    ensures { result ≡ record p { read = read } }
+{
+    OpenPiece {
+        base: p.base,
+        lba: p.lba,
+        count: p.count,
+        first: p.first,
+        op: p.op,
+        progress: p.progress,
+        end: p.end,
+        read,
+    }
+}
+
+impl<'a> Thread<'a> {
+    /// Serves the first piece in the device's queue, and gives its id. None where this thread isn't
+    /// the device's home, no piece waits there, it isn't here or isn't on this device, the content
+    /// is untold, or the piece is past its blocks or past 64 bits.
+    pub(crate) fn apply(&mut self, links: &mut Links, dev: DevId) -> Result<Option<Id>, OutOfMemory>
+        requires { self.old.me < vec_len links.old.queues }
+        ensures acted { OnOk result (Acted self.old links.old self.new links.new) }
+        ensures applied { IfOk result (Applies self.old links.old self.new links.new dev) }
+    {
+        let Some(row) = row_at_home(self.setup, self.me, dev) else {
+            return Ok(None);
+        };
+        let size = row.size;
+        let Some(next) = next_at(self.part.bases.as_slice(), self.held.as_slice(), size, dev) else {
+            return Ok(None);
+        };
+        let bases = &mut self.part.bases;
+        let read = serve_at(self.alloc, bases, dev, next.place, size, &next.piece)?;
+        let req = next.req;
+        let k = next.k;
+        let kept = Kept::Piece(with_read(next.piece, read));
+        hold(&mut self.held, Id::Piece(req, k), kept)?;
+        add(
+            &mut links.entries,
+            self.me,
+            Act::Apply {
+                req,
+                k,
+                dev,
+                end: ApplyEnd::Done,
+            },
+        )?;
+        Ok(Some(Id::Piece(req, k)))
+    }
+}
