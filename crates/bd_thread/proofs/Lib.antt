@@ -6,8 +6,4 @@ pub mod Going
 pub mod Left
 pub mod Moving
 pub mod Ends
-mod Spliced
-mod Joined
-mod Turned
-mod Bases
-mod Applies
+pub mod Registering

@@ -1,16 +1,19 @@
 //! The lines of a thread's script: opens, closes, and each line's end.
-ghost use Rattle.std.specs.Prelude.{◌≡◌, ◌+◌, ◌<◌, ◌^◌, ◌++◌, Some, filter, length, map, not, vec_len, IfOk, OnOk};
+ghost use Rattle.std.specs.Prelude.{◌≡◌, ◌+◌, ◌<◌, ◌^◌, ◌++◌, ◌∷◌, [], Some, filter, length, map, not, vec_len, IfOk, OnOk};
 ghost use Rattle.std.specs.List.{range_with_len};
 ghost use Rattle.bd_base.specs.Name.{same_name};
 ghost use Rattle.bd_machine.specs.Scripts.{bound_after, mark_to, posted};
 ghost use Rattle.bd_thread.specs.Acted.{Acted};
 ghost use Rattle.bd_thread.specs.Lines.{EndsLine, IsDone};
+ghost use Rattle.bd_thread.specs.Seen.{longer};
 
 use crate::links::{Links, add};
-use crate::rules::{next_line, outcome_of};
+use crate::rules::{bound_to, device_named, next_line, outcome_of, undecided_job};
 use crate::thread::Thread;
-use bd_base::{Act, Job, Name, OutOfMemory, Rows, Setup};
-use bd_machine::{Binding, Decided, Due, News, Part};
+use bd_base::{
+    Act, Answer, DevId, Errno, HandleId, Job, Name, OutOfMemory, RegEvent, Rows, Setup, ThreadId,
+};
+use bd_machine::{Binding, Decided, Due, Handle, News, Part, Registry};
 use std::alloc::Global;
 use std::mem::replace;
 
@@ -117,4 +120,73 @@ impl<'a> Thread<'a> {
         )?;
         Ok(true)
     }
+
+    // Tells the registry's answer to what the next line asks.
+    fn decide(
+        &mut self,
+        links: &mut Links,
+        event: RegEvent,
+        answer: Answer,
+        decided: Decided,
+    ) -> Result<(), OutOfMemory>
+        ensures thread { OnOk result (self.new ≡ record self.old { part = record self.old.part { decided = Some decided } }) }
+        ensures links { OnOk result (links.new ≡ record links.old { entries = longer self.old.me links.old.entries (Act.Reg event answer) }) }
+    {
+        self.part.decided = Some(decided);
+        add(&mut links.entries, self.me, Act::Reg { event, answer })
+    }
+
+    /// Opens the device that the next line names, where it asks for that and the name is free.
+    pub(crate) fn open(&mut self, links: &mut Links) -> Result<bool, OutOfMemory>
+        requires me { self.old.me < vec_len links.old.queues }
+        ensures acted { OnOk result (Acted self.old links.old self.new links.new) }
+    {
+        if links.shut {
+            return Ok(false);
+        }
+        let setup = self.setup;
+        let Some(Job::Open { handle, dev, write }) = undecided_job(setup, self.me, &self.part)
+        else {
+            return Ok(false);
+        };
+        if bound_to(&self.part, handle).is_some() {
+            return Ok(false);
+        }
+        let write = *write;
+        let event = RegEvent::Open {
+            name: dev.copy()?,
+            write,
+        };
+        let Some(place) = device_named(setup, dev) else {
+            let answer = Answer::Refused(Errno::NoDev);
+            self.decide(links, event, answer, Decided::Refused(Errno::NoDev))?;
+            return Ok(true);
+        };
+        let Ok(place) = u32::try_from(place) else {
+            return Err(OutOfMemory);
+        };
+        let id = HandleId(links.registry.next);
+        let dev = DevId(place);
+        grant(&mut links.registry, self.me, dev, write)?;
+        let answer = Answer::Opened { handle: id, dev };
+        self.decide(links, event, answer, Decided::Opened(id))?;
+        Ok(true)
+    }
+}
+
+// A new handle of a thread.
+fn grant(registry: &mut Registry, thread: u32, dev: DevId, write: bool) -> Result<(), OutOfMemory>
+    ensures { OnOk result (registry.new ≡ record { handles = registry.old.handles ++ record { id = record { 0 = registry.old.next }; dev = dev; thread = record { 0 = thread }; write = write } ∷ []; next = registry.old.next + 1 }) }
+{
+    let id = HandleId(registry.next);
+    let Some(next) = registry.next.checked_add(1) else {
+        return Err(OutOfMemory);
+    };
+    registry.next = next;
+    registry.handles.push(Handle {
+        id,
+        dev,
+        thread: ThreadId(thread),
+        write,
+    })
 }

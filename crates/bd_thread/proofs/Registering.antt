@@ -1,0 +1,110 @@
+-- An event of the registry, by the local rules.
+use Rattle.std.proofs.Common.{◌≡◌, ℕ, ◌+◌, Bool, true, false, not, cond, ◌&&◌, ◌||◌, ◌==◌, nat_eq, List, [], ◌∷◌, ◌++◌, length, filter, Option, Some, None, is_none, is_some, refl, sym, ◌∙◌, ap, subst, eq-eqb}
+use Rattle.std.specs.Option.{option_map}
+use Rattle.std.specs.Bool.{beq}
+use Rattle.std.proofs.lemmas.Bool.{and_from}
+use Rattle.bd_base.specs.Errno.{number_of}
+use Rattle.bd_base.specs.Name.{same_name}
+use Rattle.bd_base.specs.declared.act.Act.TheVariants as acts
+use Rattle.bd_base.specs.declared.act.Act.{Act}
+use Rattle.bd_base.specs.declared.id.HandleId.{HandleId}
+use Rattle.bd_base.specs.declared.job.Job.{Job}
+use Rattle.bd_base.specs.declared.job.Job.TheVariants as jobs
+use Rattle.std.specs.Cmp.Lexicographic.{pointwise}
+use Rattle.bd_base.specs.declared.event.Answer.{Answer}
+use Rattle.bd_base.specs.declared.event.Answer.TheVariants as answers
+use Rattle.bd_base.specs.declared.event.RegEvent.{RegEvent}
+use Rattle.bd_base.specs.declared.event.RegEvent.TheVariants as events
+use Rattle.bd_base.specs.declared.setup.Setup.{Setup}
+use Rattle.bd_machine.specs.declared.guard.TheConstants.{REGISTRY_ANSWER, EVENT_ASKED, IN_ORDER}
+use Rattle.bd_machine.specs.declared.state.Decided.{Decided}
+use Rattle.bd_machine.specs.declared.state.Id.{Id}
+use Rattle.bd_machine.specs.declared.state.Kept.{Kept}
+use Rattle.bd_machine.specs.declared.state.Part.{Part}
+use Rattle.bd_machine.specs.declared.state.Registry.{Registry}
+use Rattle.bd_machine.specs.Asked.{asks_event, bound_to, is_job_open, is_job_close}
+use Rattle.bd_machine.specs.Events.{decision_of}
+use Rattle.bd_machine.specs.Guards.{is_built}
+use Rattle.bd_machine.specs.Registry.{answer_to, registry_after, handles_after}
+use Rattle.bd_machine.specs.Same.{same_answer, same_handle, is_the}
+use Rattle.bd_machine.specs.View.{is_of}
+use Rattle.bd_turns.specs.declared.queue.Message.{Message}
+use Rattle.bd_turns.specs.Local.{Local, came_local}
+use Rattle.bd_thread.specs.declared.links.Links.{Links}
+use Rattle.bd_thread.specs.declared.thread.Thread.{Thread}
+use Rattle.bd_thread.specs.Acted.{Acted}
+use Rattle.bd_thread.specs.Seen.{here_in, local, local_at, longer, queues_of}
+use Rattle.bd_thread.proofs.Ends.{length-longer}
+use Rattle.bd_thread.proofs.Going.{Steps, steps, handles_own, local_eq, acted_step}
+
+module _ (setup : Setup) (me : ℕ) (part : Part) (here : Id → Option Kept) (registry : Registry) (shut : Bool) (stamp : ℕ) (queues : ℕ → List Message) where
+  abbrev old : Local
+  old = local_at me part here registry shut stamp queues
+
+  -- an event with the registry's answer, where it is asked
+  pub event_steps : (event : RegEvent) (answer : Answer)
+      → is_built (acts.Reg event answer) ≡ true
+      → answer_to setup registry me event ≡ Some answer
+      → same_answer answer answer ≡ true
+      → asks_event setup me old.view (came_local setup me old (acts.Reg event answer)) event ≡ true
+      → Steps setup me old (acts.Reg event answer)
+      (local_at me (record part { decided = cond shut part.decided (decision_of answer) }) here (registry_after registry me (Some (record { event = event; answer = answer }))) shut (stamp + 1) queues)
+  event_steps event answer built given self asks =
+      steps setup me old (local_at me (record part { decided = cond shut part.decided (decision_of answer) }) here (registry_after registry me (Some (record { event = event; answer = answer }))) shut (stamp + 1) queues)
+      (acts.Reg event answer) refl built (ap (is_the same_answer answer) given ∙ self, (asks, tt))
+      (local_eq _ _ refl refl (sym (handles_own me registry.handles event answer)) refl (still shut) refl refl)
+    where
+      still : (b : Bool) → (b || false) ≡ b
+      still true = refl
+      still false = refl
+
+-- ---- what a thread asks of the registry
+
+name_self : (xs : List ℕ) → same_name xs xs ≡ true
+name_self [] = refl
+name_self (x ∷ xs) = and_from (nat_eq x x) (pointwise nat_eq xs xs) (eq-eqb x x refl) (name_self xs)
+
+flag_self : (b : Bool) → beq b b ≡ true
+flag_self true = refl
+flag_self false = refl
+
+-- the next line asks for this open
+pub asks_open : (part : Part) (handle dev : List ℕ) (write : Bool) (o : Option Job) → o ≡ Some (jobs.Open handle dev write) → bound_to part handle ≡ None → is_job_open part dev write o ≡ true
+asks_open part handle dev write o line free =
+    ap (is_job_open part dev write) line
+    ∙ and_from (same_name dev dev && beq write write) (is_none (bound_to part handle)) (and_from (same_name dev dev) (beq write write) (name_self dev) (flag_self write)) (ap is_none free)
+
+-- the next line asks for this close
+pub asks_close : (part : Part) (handle : List ℕ) (id : HandleId) (o : Option Job) → o ≡ Some (jobs.Close handle) → bound_to part handle ≡ Some id → is_job_close part id o ≡ true
+asks_close part handle id o line bound = ap (is_job_close part id) line ∙ ap (is_the same_handle id) bound ∙ eq-eqb id.0 id.0 refl
+
+pub event_acted : (t : Thread) (before : Links) (new : Thread) (after : Links) (event : RegEvent) (answer : Answer) (decided : Decided) (registry : Registry)
+    → new ≡ record t { part = record t.part { decided = Some decided } }
+    → after ≡ record before { registry = registry; entries = longer t.me before.entries (acts.Reg event answer) }
+    → registry ≡ registry_after before.registry t.me (Some (record { event = event; answer = answer }))
+    → before.shut ≡ false
+    → decision_of answer ≡ Some decided
+    → is_built (acts.Reg event answer) ≡ true
+    → answer_to t.setup.now before.registry t.me event ≡ Some answer
+    → same_answer answer answer ≡ true
+    → asks_event t.setup.now t.me (local t before).view (came_local t.setup.now t.me (local t before) (acts.Reg event answer)) event ≡ true
+    → Acted t before new after
+event_acted t before new after event answer decided registry new-is after-is registry-is unshut decision built given self asks =
+    let queues = queues_of before.queues.items in
+    let here = here_in t.held.items in
+    let act : Act = acts.Reg event answer in
+    let p : Thread = record t { part = record t.part { decided = Some decided } } in
+    let q : Links = record before { registry = registry; entries = longer t.me before.entries act } in
+    let stepped = event_steps t.setup.now t.me t.part here before.registry before.shut (length before.entries) queues event answer built given self asks in
+    let ends : local_at t.me (record t.part { decided = cond before.shut t.part.decided (decision_of answer) }) here (registry_after before.registry t.me (Some (record { event = event; answer = answer }))) before.shut (length before.entries + 1) queues ≡ local p q =
+      ap (λ (o : Option Decided). local_at t.me (record t.part { decided = o }) here (registry_after before.registry t.me (Some (record { event = event; answer = answer }))) before.shut (length before.entries + 1) queues)
+      (ap (λ b. cond b t.part.decided (decision_of answer)) unshut ∙ decision)
+      ∙ ap (λ (r : Registry). local_at t.me p.part here r before.shut (length before.entries + 1) queues) (sym registry-is)
+      ∙ ap (λ (n : ℕ). local_at t.me p.part here registry before.shut n queues) (sym (length-longer t.me before.entries act)) in
+    subst (λ (n : Thread). Acted t before n after) (sym new-is)
+    (subst (λ (l : Links). Acted t before p l) (sym after-is)
+    (acted_step t before p q act refl refl refl refl (subst (Steps t.setup.now t.me (local t before) act) ends stepped)))
+
+pub none_there : {X : Type 0} (o : Option X) → is_some o ≡ false → o ≡ None
+none_there None h = refl
+none_there (Some x) h = cc
