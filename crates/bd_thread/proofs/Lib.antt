@@ -1,3 +1,5 @@
+pub mod Submissions
+pub mod Tickets
 pub mod Took
 pub mod Here
 pub mod Firsts
@@ -7,3 +9,8 @@ pub mod Left
 pub mod Moving
 pub mod Ends
 pub mod Registering
+mod Spliced
+mod Joined
+mod Turned
+mod Bases
+mod Applies

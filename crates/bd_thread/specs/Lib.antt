@@ -4,3 +4,4 @@ pub mod Acted
 pub mod Lines
 pub mod Served
 pub mod Next
+pub mod Requests

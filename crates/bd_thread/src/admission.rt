@@ -12,10 +12,9 @@ use bd_machine::Handle;
 /// The most bytes of one request (this project's choice).
 const MAX_BYTES: u128 = 262_144;
 
-/// What a submission asks: blocks `lba` and on, `count` of them, through a handle.
+/// What a submission asks: blocks `lba` and on, `count` of them.
 #[derive(Clone, Copy)]
 pub(crate) struct Asked {
-    pub handle: HandleId,
     pub op: Op,
     pub lba: u64,
     pub count: u64,

@@ -7,10 +7,12 @@ mod homes;
 mod lines;
 mod links;
 mod messages;
+mod requests;
 mod rules;
 mod store;
 mod table;
 mod thread;
 
 pub use links::{Links, Queue};
+pub use requests::Refused;
 pub use thread::Thread;

@@ -1,0 +1,169 @@
+//! A thread's own requests: submitted, cut and completed.
+ghost use Rattle.std.specs.Prelude.{◌≡◌, ◌<◌, length, vec_len, Some, None, IfOk, IfErr, OnOk, true};
+ghost use Rattle.bd_machine.specs.Asked.{is_handle_on};
+ghost use Rattle.bd_machine.specs.Registry.{handle_of};
+ghost use Rattle.bd_thread.specs.Acted.{Acted};
+ghost use Rattle.bd_thread.specs.Requests.{refusal, view_of, IsAccepted, IsAsked, IsFresh, IsOpened, IsRefused, KeepsTickets, Refuses};
+
+use crate::admission::{Asked, admit, own_handle};
+use crate::held::hold;
+use crate::links::{Links, add};
+use crate::thread::Thread;
+use bd_base::{Act, DevId, Errno, HandleId, Op, OutOfMemory, ReqId};
+use bd_machine::{Decided, Id, Kept, Open, OpenRequest};
+use bd_msg::Ticket;
+
+/// The most open requests of a thread.
+const MOST_REQUESTS: usize = 1024;
+
+/// Why a submission isn't accepted.
+#[derive(Clone, Copy, Debug, PartialEq, Eq)]
+pub enum Refused {
+    /// It can't be done: `BadDesc` where the handle isn't open, or for a write, zeroes, unmap or
+    /// flush where it is open for reading; then `NotSup` for an unmap of an aio device; then `Inval`
+    /// for no block, more than 262,144 bytes, or a range past the device's end.
+    Errno(Errno),
+    /// As many requests are open as a thread may have. Nothing changed.
+    Full,
+    /// The run halts: nothing is said of the thread from then on.
+    OutOfMemory,
+}
+
+impl<'a> Thread<'a> {
+    /// Submits what the next line asks for, under the id of a ticket. A refusal gives the ticket back.
+    pub fn submit(
+        &mut self,
+        links: &mut Links,
+        handle: HandleId,
+        op: Op,
+        lba: u64,
+        count: u64,
+        ticket: Ticket,
+    ) -> Result<ReqId, (Refused, Ticket)>
+        requires me { self.old.me < vec_len links.old.queues }
+        requires asked { IsAsked self.old links.old (Some handle) (record { op = op; lba = lba; count = count }) }
+        requires fresh { IsFresh self.old ticket }
+        ensures acted { OnOk result (Acted self.old links.old self.new links.new) }
+        ensures accepted { IfOk result (λ req. (req ≡ ticket) × IsAccepted req handle (record { op = op; lba = lba; count = count }) self.old links.old self.new links.new) }
+        ensures refused { IfErr result (λ e. (e.1 ≡ ticket) × Refuses e.0 handle (record { op = op; lba = lba; count = count }) self.old links.old self.new links.new) }
+        ensures tickets { OnOk result (KeepsTickets self.old → KeepsTickets self.new) }
+    {
+        let asked = Asked { op, lba, count };
+        let found = own_handle(links.registry.handles.as_slice(), self.me, handle);
+        match admit(self.setup, found, asked) {
+            Ok(dev) => self.accept(links, dev, handle, asked, ticket),
+            Err(errno) => match self.refuse(links, Some(handle), asked, errno) {
+                Ok(()) => Err((Refused::Errno(errno), ticket)),
+                Err(OutOfMemory) => Err((Refused::OutOfMemory, ticket)),
+            },
+        }
+    }
+
+    /// Refuses what the next line asks for; a name that isn't bound gives no handle.
+    pub(crate) fn refuse(
+        &mut self,
+        links: &mut Links,
+        handle: Option<HandleId>,
+        asked: Asked,
+        errno: Errno,
+    ) -> Result<(), OutOfMemory>
+        requires me { self.old.me < vec_len links.old.queues }
+        requires asked { IsAsked self.old links.old handle asked }
+        requires due { refusal self.old links.old handle asked ≡ Some errno }
+        ensures { OnOk result (IsRefused errno handle asked self.old links.old self.new links.new) }
+    {
+        let Asked { op, lba, count } = asked;
+        add(
+            &mut links.entries,
+            self.me,
+            Act::Refuse {
+                handle,
+                op,
+                lba,
+                count,
+                errno,
+            },
+        )?;
+        self.part.decided = Some(Decided::Refused(errno));
+        Ok(())
+    }
+
+    // Accepts what the next line asks for, which nothing speaks against, where there is room.
+    fn accept(
+        &mut self,
+        links: &mut Links,
+        dev: DevId,
+        handle: HandleId,
+        asked: Asked,
+        ticket: Ticket,
+    ) -> Result<ReqId, (Refused, Ticket)>
+        requires me { self.old.me < vec_len links.old.queues }
+        requires asked { IsAsked self.old links.old (Some handle) asked }
+        requires fresh { IsFresh self.old ticket }
+        requires admitted { refusal self.old links.old (Some handle) asked ≡ None }
+        requires on { is_handle_on dev (handle_of (view_of self.old links.old).handles handle) ≡ true }
+        ensures acted { OnOk result (Acted self.old links.old self.new links.new) }
+        ensures accepted { IfOk result (λ req. (req ≡ ticket) × IsAccepted req handle asked self.old links.old self.new links.new) }
+        ensures refused { IfErr result (λ e. (e.1 ≡ ticket) × Refuses e.0 handle asked self.old links.old self.new links.new) }
+        ensures tickets { OnOk result (KeepsTickets self.old → KeepsTickets self.new) }
+    {
+        if MOST_REQUESTS <= self.part.requests.len() {
+            return Err((Refused::Full, ticket));
+        }
+        let req = ticket.id();
+        match self.open_request(links, req, dev, handle, asked) {
+            Ok(()) => {
+                self.purse.keep(ticket);
+                Ok(req)
+            }
+            Err(OutOfMemory) => Err((Refused::OutOfMemory, ticket)),
+        }
+    }
+
+    // Opens a request, with a place for its ticket.
+    fn open_request(
+        &mut self,
+        links: &mut Links,
+        req: ReqId,
+        dev: DevId,
+        handle: HandleId,
+        asked: Asked,
+    ) -> Result<(), OutOfMemory>
+        requires { req.seq < u64.MAX }
+        ensures opened { OnOk result (IsOpened req dev handle asked self.old links.old self.new links.new) }
+        ensures tickets { OnOk result (self.new.purse.ids ≡ self.old.purse.ids) }
+        ensures room { OnOk result (length self.old.purse.ids < self.new.purse.capacity) }
+    {
+        self.purse.reserve(1)?;
+        let Asked { op, lba, count } = asked;
+        let kept = Kept::Request(OpenRequest {
+            handle,
+            dev,
+            op,
+            lba,
+            count,
+            pieces: None,
+        });
+        hold(&mut self.held, Id::Request(req), kept)?;
+        self.part.requests.push(Open {
+            id: req,
+            handle,
+            dev,
+            op,
+        })?;
+        self.part.decided = Some(Decided::Accepted(req));
+        self.part.next_request = req.seq + 1;
+        add(
+            &mut links.entries,
+            self.me,
+            Act::Accept {
+                req,
+                dev,
+                handle,
+                op,
+                lba,
+                count,
+            },
+        )
+    }
+}
