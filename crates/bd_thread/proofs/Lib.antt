@@ -9,8 +9,8 @@ pub mod Left
 pub mod Moving
 pub mod Ends
 pub mod Registering
-mod Spliced
-mod Joined
-mod Turned
-mod Bases
-mod Applies
+pub mod Applies
+pub mod Bases
+pub mod Joined
+pub mod Spliced
+pub mod Turned

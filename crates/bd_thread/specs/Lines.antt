@@ -7,6 +7,11 @@ use Rattle.bd_base.specs.declared.job.Line.{Line}
 use Rattle.bd_base.specs.declared.setup.Setup.{Setup}
 use Rattle.bd_machine.specs.declared.state.Part.{Part}
 use Rattle.bd_machine.specs.Asked.{next_line, outcome_due}
+use Rattle.bd_base.specs.declared.event.Answer.{Answer}
+use Rattle.bd_base.specs.declared.event.Answer.TheVariants as answers
+use Rattle.bd_base.specs.declared.request.Errno.{Errno}
+use Rattle.bd_machine.specs.declared.state.Handle.{Handle}
+use Rattle.bd_machine.specs.Registry.{close_answer}
 use Rattle.bd_machine.specs.Scripts.{bound_after, posted}
 use Rattle.bd_thread.specs.declared.links.Links.{Links}
 use Rattle.bd_thread.specs.declared.thread.Thread.{Thread}
@@ -33,3 +38,11 @@ ScriptAdded t before after ended (Some outcome) =
 
 abbrev pub EndsLine : Thread → Links → Links → Bool → Type 0
 EndsLine t before after ended = ScriptAdded t before after ended (outcome_due t.setup.now t.me t.part)
+
+-- the registry's answer to a close: granted without an errno, refused with this one
+abbrev pub close_answer_by : Option Errno → Answer
+close_answer_by None = answers.Closed None
+close_answer_by (Some errno) = answers.Refused errno
+
+abbrev pub RefusesClose : ℕ → Option Handle → Option Errno → Type 0
+RefusesClose thread handle refusal = close_answer thread handle ≡ close_answer_by refusal

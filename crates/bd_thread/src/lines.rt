@@ -4,11 +4,14 @@ ghost use Rattle.std.specs.List.{range_with_len};
 ghost use Rattle.bd_base.specs.Name.{same_name};
 ghost use Rattle.bd_machine.specs.Scripts.{bound_after, mark_to, posted};
 ghost use Rattle.bd_thread.specs.Acted.{Acted};
-ghost use Rattle.bd_thread.specs.Lines.{EndsLine, IsDone};
+ghost use Rattle.bd_machine.specs.Registry.{handle_of, is_own};
+ghost use Rattle.bd_thread.specs.Lines.{EndsLine, IsDone, RefusesClose};
 ghost use Rattle.bd_thread.specs.Seen.{longer};
 
 use crate::links::{Links, add};
-use crate::rules::{bound_to, device_named, next_line, outcome_of, undecided_job};
+use crate::rules::{
+    bound_to, device_named, handle_of, next_line, open_on, outcome_of, undecided_job,
+};
 use crate::thread::Thread;
 use bd_base::{
     Act, Answer, DevId, Errno, HandleId, Job, Name, OutOfMemory, RegEvent, Rows, Setup, ThreadId,
@@ -172,6 +175,57 @@ impl<'a> Thread<'a> {
         self.decide(links, event, answer, Decided::Opened(id))?;
         Ok(true)
     }
+
+    /// Closes the handle that the next line names, where it asks for that and no request is open on it.
+    pub(crate) fn close(&mut self, links: &mut Links) -> Result<bool, OutOfMemory>
+        requires me { self.old.me < vec_len links.old.queues }
+        ensures acted { OnOk result (Acted self.old links.old self.new links.new) }
+    {
+        if links.shut {
+            return Ok(false);
+        }
+        let Some(Job::Close { handle }) = undecided_job(self.setup, self.me, &self.part) else {
+            return Ok(false);
+        };
+        let Some(id) = bound_to(&self.part, handle) else {
+            return Ok(false);
+        };
+        if open_on(&self.part, id) != 0 {
+            return Ok(false);
+        }
+        let event = RegEvent::Close { handle: id };
+        match close_refusal(links.registry.handles.as_slice(), self.me, id) {
+            Some(errno) => {
+                self.decide(links, event, Answer::Refused(errno), Decided::Refused(errno))?
+            }
+            None => {
+                release(self.alloc, &mut links.registry, self.me, id);
+                let answer = Answer::Closed { destruct: None };
+                self.decide(links, event, answer, Decided::Closed)?
+            }
+        }
+        Ok(true)
+    }
+}
+
+// Why the registry refuses a close, if it does.
+fn close_refusal(handles: &[Handle], thread: u32, id: HandleId) -> Option<Errno>
+    ensures { RefusesClose thread (handle_of handles.now id) result }
+{
+    match handle_of(handles, id) {
+        None => Some(Errno::NoDev),
+        Some(handle) if handle.thread.0 == thread => None,
+        Some(_) => Some(Errno::BadDesc),
+    }
+}
+
+// The handle of a thread is open no more.
+fn release(alloc: Global, registry: &mut Registry, thread: u32, id: HandleId)
+    ensures { registry.new ≡ record registry.old { handles = filter (λ h. not (is_own thread id h)) registry.old.handles } }
+{
+    let mut handles = replace(&mut registry.handles, Rows::new(alloc)).into_vec();
+    handles.retain(|h| !(h.id.0 == id.0 && h.thread.0 == thread));
+    registry.handles = Rows::from_vec(handles);
 }
 
 // A new handle of a thread.
