@@ -14,3 +14,9 @@ pub mod Bases
 pub mod Joined
 pub mod Spliced
 pub mod Turned
+mod Spliced
+mod Joined
+mod Turned
+mod Bases
+mod Applies
+mod Destructs

@@ -5,3 +5,4 @@ pub mod Lines
 pub mod Served
 pub mod Next
 pub mod Requests
+pub mod Destructs

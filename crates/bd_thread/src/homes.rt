@@ -1,28 +1,45 @@
-//! What a home does: it applies pieces to its base devices.
+//! What a home does: it applies pieces to its base devices, and destructs its devices.
 ghost use Rattle.std.specs.Prelude.{◌≡◌, ◌<◌, IfOk, IfSome, OnOk, Some, find, option_copied, vec_len, true};
-ghost use Rattle.std.specs.List.{position};
+ghost use Rattle.std.specs.List.{list_any, position};
 ghost use Rattle.bd_base.specs.declared.act.ApplyEnd.TheVariants as ends;
-ghost use Rattle.bd_machine.specs.Homes.{applied, is_base, is_first, read_by};
+ghost use Rattle.bd_machine.specs.BlockMap.{home, is_malloc};
+ghost use Rattle.bd_machine.specs.Homes.{applied, is_base, is_first, is_home, read_by};
+ghost use Rattle.bd_machine.specs.Registry.{is_unused};
+ghost use Rattle.bd_machine.specs.Same.{same_dev};
 ghost use Rattle.bd_machine.specs.Table.{change_first};
 ghost use Rattle.bd_thread.specs.Acted.{Acted};
+ghost use Rattle.bd_thread.specs.Destructs.{Destructs, digest_at, digest_due, may_go};
 ghost use Rattle.bd_thread.specs.Next.{IsNext};
 ghost use Rattle.bd_thread.specs.Seen.{here_in};
 ghost use Rattle.bd_thread.specs.Served.{Applies, Fits, FitsAt, IsHome, IsReady, read_at, unread};
 
 use crate::held::{held, hold};
 use crate::links::{Links, add};
-use crate::store::{bytes_read, change, fits};
+use crate::store::{bytes_read, change, digest_blocks, fits};
 use crate::thread::Thread;
-use bd_base::{Act, ApplyEnd, Bytes, DevId, DevRow, OutOfMemory, ReqId, Rows, Setup};
-use bd_machine::{Base, Id, Kept, OpenPiece, Progress};
+use bd_base::{Act, ApplyEnd, Bytes, DevId, DevRow, Kind, OutOfMemory, ReqId, Rows, Setup};
+use bd_machine::{Base, Content, Handle, Id, Kept, OpenPiece, Part, Progress, Registry};
 use std::alloc::Global;
+
+// The thread that alone touches the content of a device.
+fn home(setup: &Setup, dev: DevId) -> u32
+    ensures { result ≡ home setup.now dev }
+{
+    if setup.threads == 0 {
+        dev.0
+    } else {
+        dev.0 % setup.threads
+    }
+}
+
+// ---- Apply
 
 // The row of a device whose home is this thread.
 fn row_at_home(setup: &Setup, thread: u32, dev: DevId) -> Option<&DevRow>
     ensures { IfSome result (λ row. IsHome setup.now thread dev row.now) }
 {
     let row = setup.devices.as_slice().get(dev.0 as usize)?;
-    if setup.threads == 0 || dev.0 % setup.threads != thread {
+    if home(setup, dev) != thread {
         return None;
     }
     Some(row)
@@ -153,6 +170,86 @@ fn with_read(p: OpenPiece, read: Option<Bytes>) -> OpenPiece
     }
 }
 
+// ---- Destruct
+
+fn is_home(setup: &Setup, thread: u32, dev: DevId) -> bool
+    ensures { result ≡ is_home setup.now thread dev }
+{
+    setup.devices.as_slice().get(dev.0 as usize).is_some() && home(setup, dev) == thread
+}
+
+fn is_malloc(setup: &Setup, dev: DevId) -> bool
+    ensures { result ≡ is_malloc setup.now dev }
+{
+    match setup.devices.as_slice().get(dev.0 as usize) {
+        Some(row) => matches!(row.kind, Kind::Malloc),
+        None => false,
+    }
+}
+
+fn is_used(handles: &[Handle], dev: DevId) -> bool
+    ensures { result ≡ list_any (λ h. same_dev h.dev dev) handles.now }
+{
+    handles.iter().any(|h| h.dev.0 == dev.0)
+}
+
+// No handle of the device is open.
+fn is_unused(registry: &Registry, dev: DevId) -> bool
+    ensures { result ≡ is_unused registry.now dev }
+{
+    !is_used(registry.handles.as_slice(), dev)
+}
+
+fn has_destructed(destructed: &[DevId], dev: DevId) -> bool
+    ensures { result ≡ list_any (same_dev dev) destructed.now }
+{
+    destructed.iter().any(|d| dev.0 == d.0)
+}
+
+// Whether the device may be destructed, here and now.
+fn may_go(
+    setup: &Setup,
+    thread: u32,
+    part: &Part,
+    registry: &Registry,
+    shut: bool,
+    dev: DevId,
+) -> bool
+    ensures { result ≡ may_go setup.now thread part.now registry.now shut dev }
+{
+    is_home(setup, thread, dev)
+        && shut
+        && is_unused(registry, dev)
+        && !has_destructed(part.destructed.as_slice(), dev)
+}
+
+fn find_base(bases: &[Base], dev: DevId) -> Option<&Base>
+    ensures { option_copied result ≡ find (is_base dev) bases.now }
+{
+    bases.iter().find(|b| b.dev.0 == dev.0)
+}
+
+// The digest of a base's blocks.
+fn digest_at(base: Option<&Base>) -> Option<[u8; 32]>
+    ensures { result ≡ digest_at (option_copied base.entry) }
+{
+    match &base?.content {
+        Content::Blocks(rows) => Some(digest_blocks(rows.as_slice())),
+        Content::Zeros | Content::Untold => None,
+    }
+}
+
+// What the entry shows: for malloc the digest of its blocks, where they are here.
+fn digest_due(malloc: bool, base: Option<&Base>) -> Option<Option<[u8; 32]>>
+    ensures { result ≡ digest_due malloc (option_copied base.entry) }
+{
+    if !malloc {
+        return Some(None);
+    }
+    let digest = digest_at(base)?;
+    Some(Some(digest))
+}
+
 impl<'a> Thread<'a> {
     /// Serves the first piece in the device's queue, and gives its id. None where this thread isn't
     /// the device's home, no piece waits there, it isn't here or isn't on this device, the content
@@ -186,5 +283,26 @@ impl<'a> Thread<'a> {
             },
         )?;
         Ok(Some(Id::Piece(req, k)))
+    }
+
+    /// Destructs a device whose home this is, once, behind a Shutdown, when no handle of it is open:
+    /// the digest of its blocks for malloc, where they are here, and none for another. False where
+    /// that isn't so.
+    pub(crate) fn destruct(&mut self, links: &mut Links, dev: DevId) -> Result<bool, OutOfMemory>
+        requires { self.old.me < vec_len links.old.queues }
+        ensures acted { OnOk result (Acted self.old links.old self.new links.new) }
+        ensures destructed { IfOk result (Destructs self.old links.old self.new links.new dev) }
+    {
+        let setup = self.setup;
+        if !may_go(setup, self.me, &self.part, &links.registry, links.shut, dev) {
+            return Ok(false);
+        }
+        let base = find_base(self.part.bases.as_slice(), dev);
+        let Some(digest) = digest_due(is_malloc(setup, dev), base) else {
+            return Ok(false);
+        };
+        self.part.destructed.push(dev)?;
+        add(&mut links.entries, self.me, Act::Destruct { dev, digest })?;
+        Ok(true)
     }
 }
