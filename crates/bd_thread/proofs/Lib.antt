@@ -14,9 +14,4 @@ pub mod Bases
 pub mod Joined
 pub mod Spliced
 pub mod Turned
-mod Spliced
-mod Joined
-mod Turned
-mod Bases
-mod Applies
-mod Destructs
+pub mod Destructs
