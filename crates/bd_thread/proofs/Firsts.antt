@@ -86,6 +86,9 @@ module _ {X : Type 0} (is : X → Bool) where
   pub found_before : (xs : List X) (i : ℕ) → position is xs ≡ Some i → before xs < length xs
   found_before xs i e = let p = found i xs (nat_lt (position_or_len is xs) (length xs)) refl e in subst (λ (n : ℕ). n < length xs) (p.0 ∙ sym (before_is xs)) p.1
 
+  pub found_at : (xs : List X) (i : ℕ) → position is xs ≡ Some i → i ≡ before xs
+  found_at xs i e = let p = found i xs (nat_lt (position_or_len is xs) (length xs)) refl e in p.0 ∙ sym (before_is xs)
+
   pub missed_before : (xs : List X) → position is xs ≡ None → length xs ≤ before xs
   missed_before xs e = subst (λ (n : ℕ). length xs ≤ n) (sym (before_is xs)) (missed xs (nat_lt (position_or_len is xs) (length xs)) refl e)
 

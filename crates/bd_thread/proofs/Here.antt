@@ -1,10 +1,11 @@
 -- What is here of a token after it was let go, and after it was held.
-use Rattle.std.proofs.Common.{◌≡◌, Bool, true, false, not, cond, List, [], ◌∷◌, ◌++◌, Option, Some, None, refl, sym, ◌∙◌, ap, subst}
+use Rattle.std.proofs.Common.{◌≡◌, Bool, true, false, not, cond, List, [], ◌∷◌, ◌++◌, Option, Some, None, refl, sym, ◌∙◌, ap}
 use Rattle.std.specs.List.{filter}
 use mathlib.Core.Path.{fun_ext}
 use Rattle.bd_machine.specs.declared.state.Id.{Id}
 use Rattle.bd_machine.specs.declared.state.Kept.{Kept}
 use Rattle.bd_machine.specs.Same.{same_id}
+use Rattle.bd_machine.specs.Table.{without_first}
 use Rattle.bd_machine.proofs.Tables.{id_same}
 use Rattle.bd_thread.specs.Seen.{here_in, Sets}
 
@@ -74,3 +75,28 @@ sets_some old rest id kept gone = fun_ext (λ (j : Id).
     some_at rest id kept j (ap (λ (h : Id → Option Kept). h id) gone ∙ ap (λ b. cond b None (here_in old id)) (id_same.same_self id))
     ∙ ap (λ (h : Id → Option Kept). cond (same_id id j) (Some kept) (h j)) gone
     ∙ twice (same_id id j) (Some kept) None (here_in old j))
+
+-- one of the tokens of this id is taken out, and then the others
+gone_at : (ts : List (Id × Kept)) (id j : Id) → cond (same_id id j) None (here_in (without_first (λ t. same_id t.0 id) ts) j) ≡ cond (same_id id j) None (here_in ts j)
+gone_at [] id j = refl
+gone_at (t ∷ ts) id j = go (same_id t.0 id) refl (gone_at ts id j)
+  where
+    rest : List (Id × Kept)
+    rest = without_first (λ t. same_id t.0 id) ts
+
+    hidden : (b : Bool) (x y : Option Kept) → cond b None y ≡ cond b None (cond b x y)
+    hidden true x y = refl
+    hidden false x y = refl
+
+    under : (a b : Bool) (x y z : Option Kept) → cond b None y ≡ cond b None z → cond b None (cond a x y) ≡ cond b None (cond a x z)
+    under a true x y z h = refl
+    under true false x y z h = refl
+    under false false x y z h = h
+
+    go : (b : Bool) → same_id t.0 id ≡ b → cond (same_id id j) None (here_in rest j) ≡ cond (same_id id j) None (here_in ts j)
+        → cond (same_id id j) None (here_in (cond b ts (t ∷ rest)) j) ≡ cond (same_id id j) None (cond (same_id t.0 j) (Some t.1) (here_in ts j))
+    go true h ih = hidden (same_id id j) (Some t.1) (here_in ts j) ∙ ap (λ b. cond (same_id id j) None (cond b (Some t.1) (here_in ts j))) (sym (same_as t.0 id j h))
+    go false h ih = under (same_id t.0 j) (same_id id j) (Some t.1) (here_in rest j) (here_in ts j) ih
+
+pub sets_gone : (old less new : List (Id × Kept)) (id : Id) → less ≡ without_first (λ t. same_id t.0 id) old → Sets less new id None → Sets old new id None
+sets_gone old less new id out gone = gone ∙ fun_ext (λ (j : Id). ap (λ (ts : List (Id × Kept)). cond (same_id id j) None (here_in ts j)) out ∙ gone_at old id j)

@@ -1,5 +1,6 @@
 pub mod Submissions
 pub mod Tickets
+pub mod Put
 pub mod Took
 pub mod Here
 pub mod Firsts

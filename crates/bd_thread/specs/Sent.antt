@@ -1,9 +1,15 @@
 -- What a thread takes from its queue and puts into others', and the entries that say so.
 use Rattle.std.specs.Prelude.{◌≡◌, ℕ, Bool, true, false, cond, ◌&&◌, nat_lt, vec_len, List, [], ◌∷◌, Option, Some, None}
+use Rattle.std.specs.Option.{option_map}
 use Rattle.bd_base.specs.declared.act.Act.TheVariants as acts
 use Rattle.bd_base.specs.declared.act.Token.{Token}
+use Rattle.bd_base.specs.declared.act.Token.TheVariants as tokens
 use Rattle.bd_machine.specs.declared.state.Id.{Id}
-use Rattle.bd_machine.specs.Messages.{brings, count_at, may_go}
+use Rattle.bd_machine.specs.declared.state.Kept.{Kept}
+use Rattle.bd_machine.specs.declared.state.Kept.TheVariants as keeps
+use Rattle.bd_machine.specs.declared.state.News.TheVariants.{Mark}
+use Rattle.bd_machine.specs.Completion.{as_piece}
+use Rattle.bd_machine.specs.Messages.{brings, count_at, may_go, sent}
 use Rattle.bd_turns.specs.declared.queue.Message.{Message}
 use Rattle.bd_turns.specs.Tied.{id_next}
 use Rattle.bd_thread.specs.declared.links.Links.{Links}
@@ -23,6 +29,12 @@ TakesBy old before new after id (Some m) =
 
 abbrev pub Takes : Thread → Links → Thread → Links → Option Id → Type 0
 Takes old before new after id = TakesBy old before new after id (first_brought (queues_of before.queues.items old.me))
+
+-- what is kept of a token on its way, where this is kept of it here: a piece is out, or on its way back, and a mark is only sent
+abbrev pub kept_on_way : Token → Option Kept → Option Kept
+kept_on_way (tokens.Piece req k) here = option_map sent (as_piece here)
+kept_on_way (tokens.Mark mark) here = Some (keeps.Notice (Mark mark))
+kept_on_way _ here = None
 
 -- there is a queue to this thread, and the token may go there
 abbrev pub may_put : Thread → Links → ℕ → Token → Bool

@@ -1,5 +1,5 @@
 //! What a thread holds of the tokens that are on it.
-ghost use Rattle.std.specs.Prelude.{◌≡◌, OnOk, Some, None};
+ghost use Rattle.std.specs.Prelude.{◌≡◌, position, IfNone, IfSome, OnOk, Some, None};
 ghost use Rattle.std.specs.Option.{option_copied};
 ghost use Rattle.bd_machine.specs.Same.{same_id};
 ghost use Rattle.bd_thread.specs.Seen.{here_in, Sets};
@@ -39,6 +39,26 @@ pub(crate) fn held(tokens: &[(Id, Kept)], id: Id) -> Option<&Kept>
         }
     }
     None
+}
+
+fn place_of(tokens: &[(Id, Kept)], id: Id) -> Option<usize>
+    ensures { result ≡ position (λ token. same_id token.0 id) tokens.now }
+{
+    tokens.iter().position(|token| is_same(token.0, id))
+}
+
+/// Takes out what is held of the token, where it is here.
+pub(crate) fn take_out(tokens: &mut Vec<(Id, Kept)>, id: Id) -> Option<Kept>
+    ensures kept { result ≡ here_in tokens.old.items id }
+    ensures gone { IfSome result (λ _. Sets tokens.old.items tokens.new.items id None) }
+    ensures same { IfNone result (tokens.new.items ≡ tokens.old.items) }
+{
+    let Some(place) = place_of(tokens.as_slice(), id) else {
+        return None;
+    };
+    let token = tokens.remove(place);
+    let_go(tokens, id);
+    Some(token.1)
 }
 
 /// Lets the token go, where it is here.

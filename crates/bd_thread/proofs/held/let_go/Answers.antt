@@ -1,4 +1,4 @@
-use Rattle.std.proofs.Common.{◌≡◌, not, ◌∙◌, ap, rules}
+use Rattle.std.proofs.Common.{not, ◌∙◌, ap, rules}
 use Rattle.std.proofs.lemmas.Fn.{filter_same}
 use Rattle.bd_machine.specs.Same.{same_id}
 use Rattle.bd_thread.specs.Seen.{here_in}
