@@ -1,5 +1,5 @@
 -- **Took.** A thread takes the first message of its queue.
-use Rattle.std.proofs.Common.{◌≡◌, ℕ, ◌+◌, Bool, true, false, cond, ◌&&◌, ◌==◌, List, [], ◌∷◌, drop, Option, Some, None, is_some, refl, sym, ◌∙◌, ap, eq-eqb}
+use Rattle.std.proofs.Common.{◌≡◌, ℕ, ◌+◌, Bool, true, false, cond, ◌==◌, List, ◌∷◌, drop, Option, Some, None, is_some, refl, sym, ◌∙◌, ap, eq-eqb}
 use Rattle.std.proofs.lemmas.Bool.{and_from}
 use Rattle.bd_base.specs.declared.act.Act.TheVariants as acts
 use Rattle.bd_base.specs.declared.act.Token.{Token}
@@ -20,7 +20,7 @@ use Rattle.bd_machine.specs.Same.{same_id}
 use Rattle.bd_machine.specs.Table.{write}
 use Rattle.bd_machine.specs.View.{Taking, id_of}
 use Rattle.bd_turns.specs.declared.queue.Message.{Message}
-use Rattle.bd_turns.specs.Local.{Local, first_of}
+use Rattle.bd_turns.specs.Local.{first_of}
 use Rattle.bd_turns.proofs.Going.{first_comes}
 use Rattle.bd_thread.specs.Seen.{here_in, local_at, Sets}
 use Rattle.bd_thread.specs.Sent.{first_brought}

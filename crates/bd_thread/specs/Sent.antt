@@ -47,3 +47,10 @@ PutsBy old before new after to what put false = (put ≡ false) × (new ≡ old)
 
 abbrev pub Puts : Thread → Links → Thread → Links → ℕ → Token → Bool → Type 0
 Puts old before new after to what put = PutsBy old before new after to what put (may_put old before to what)
+
+-- only tokens and counts changed: the requests, their tickets and what is still to be put stayed, and so did the registry
+pub record KeepsRequests (old : Thread) (before : Links) (new : Thread) (after : Links) : Type 0 where
+  pub thread : new ≡ record old { part = new.part; held = new.held }
+  pub requests : new.part.requests ≡ old.part.requests
+  pub next_request : new.part.next_request ≡ old.part.next_request
+  pub links : after ≡ record before { queues = after.queues; entries = after.entries }

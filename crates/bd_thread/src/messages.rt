@@ -13,7 +13,7 @@ ghost use Rattle.bd_machine.specs.View.{id_of};
 ghost use Rattle.bd_machine.specs.declared.state.News.TheVariants as news;
 ghost use Rattle.bd_thread.specs.Acted.{Acted};
 ghost use Rattle.bd_thread.specs.Seen.{here_in, queues_of, Sets};
-ghost use Rattle.bd_thread.specs.Sent.{first_brought, kept_on_way, may_put, Puts, Takes};
+ghost use Rattle.bd_thread.specs.Sent.{first_brought, kept_on_way, may_put, KeepsRequests, Puts, Takes};
 
 use crate::held::{held, hold, let_go, take_out};
 use crate::links::{Links, Queue, add, pop, push};
@@ -146,7 +146,7 @@ fn arrive(
             let_go(tokens, id);
             Ok(())
         }
-        _ => Ok(()),
+        _ => unreachable!(),
     }
 }
 
@@ -282,6 +282,7 @@ impl<'a> Thread<'a> {
     pub(crate) fn take(&mut self, links: &mut Links) -> Result<Option<Id>, OutOfMemory>
         requires { self.old.me < vec_len links.old.queues }
         ensures acted { OnOk result (Acted self.old links.old self.new links.new) }
+        ensures keeps { OnOk result (KeepsRequests self.old links.old self.new links.new) }
         ensures takes { IfOk result (Takes self.old links.old self.new links.new) }
     {
         let me = self.me as usize;
@@ -333,6 +334,7 @@ impl<'a> Thread<'a> {
         what: Token,
     ) -> Result<bool, OutOfMemory>
         ensures acted { OnOk result (Acted self.old links.old self.new links.new) }
+        ensures keeps { OnOk result (KeepsRequests self.old links.old self.new links.new) }
         ensures puts { IfOk result (Puts self.old links.old self.new links.new to what) }
     {
         if !self.may_put(links, to, &what) {

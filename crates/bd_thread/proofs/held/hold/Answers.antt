@@ -1,4 +1,4 @@
-use Rattle.std.proofs.Common.{◌≡◌, Some, ◌∙◌, ap}
+use Rattle.std.proofs.Common.{◌∙◌, ap}
 use Rattle.bd_thread.specs.Seen.{here_in}
 use Rattle.bd_thread.proofs.Here.{sets_some}
 use Rattle.bd_thread.proofs.held.hold.Goals as goal

@@ -1,4 +1,4 @@
-use Rattle.std.proofs.Common.{◌≡◌, ℕ, length, Some, refl, ◌∙◌, ap, rules}
+use Rattle.std.proofs.Common.{length, Some, refl, ◌∙◌, ap, rules}
 use Rattle.bd_base.specs.declared.act.Act.TheVariants as acts
 use Rattle.bd_machine.specs.declared.state.Id.{Id}
 use Rattle.bd_machine.specs.Alone.{held_after}
