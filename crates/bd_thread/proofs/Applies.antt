@@ -1,8 +1,8 @@
 -- Apply, by the local rules.
-use Rattle.std.proofs.Common.{◌≡◌, ℕ, ◌+◌, Bool, true, false, cond, ◌&&◌, ◌==◌, List, [], ◌∷◌, Option, Some, None, refl, sym, ◌∙◌, ap, subst, eq-eqb}
+use Rattle.std.proofs.Common.{◌≡◌, ℕ, ◌+◌, Bool, true, cond, ◌&&◌, ◌==◌, List, Option, Some, None, refl, sym, ◌∙◌, ap, subst, eq-eqb, eqb-true, is_some}
 use mathlib.Core.Path.{fun_ext}
 use Rattle.std.specs.List.{find}
-use Rattle.std.proofs.lemmas.Bool.{and_from}
+use Rattle.std.proofs.lemmas.Bool.{and_from, and_parts}
 use Rattle.bd_base.specs.declared.act.Act.TheVariants as acts
 use Rattle.bd_base.specs.declared.act.ApplyEnd.TheVariants as ends
 use Rattle.bd_base.specs.declared.id.DevId.{DevId}
@@ -18,10 +18,10 @@ use Rattle.bd_machine.specs.declared.state.Kept.TheVariants as keeps
 use Rattle.bd_machine.specs.declared.state.OpenPiece.{OpenPiece}
 use Rattle.bd_machine.specs.declared.state.Part.{Part}
 use Rattle.bd_machine.specs.declared.state.Registry.{Registry}
-use Rattle.bd_machine.specs.BlockMap.{home, size_of}
+use Rattle.bd_machine.specs.BlockMap.{home, row_of, size_of}
 use Rattle.bd_machine.specs.Completion.{as_piece}
 use Rattle.bd_machine.specs.Effect.{content_after}
-use Rattle.bd_machine.specs.Homes.{applied, change_applied, is_base, is_first_at, is_on_base, served}
+use Rattle.bd_machine.specs.Homes.{applied, change_applied, is_base, is_first_at, is_home, is_on_base, served}
 use Rattle.bd_machine.specs.Same.{same_id, same_dev}
 use Rattle.bd_machine.specs.Table.{change_first}
 use Rattle.bd_turns.specs.Local.{Local, carried_local}
@@ -29,6 +29,9 @@ use Rattle.bd_turns.specs.declared.queue.Message.{Message}
 use Rattle.bd_thread.specs.Seen.{entry_at, local_at}
 use Rattle.bd_thread.specs.Served.{IsReady, read_at, unread}
 use Rattle.bd_thread.proofs.Going.{Steps, steps, still_shut}
+
+pub at_home : (setup : Setup) (t : ℕ) (dev : DevId) → is_home setup t dev ≡ true → home setup dev ≡ t
+at_home setup t dev h = eqb-true (home setup dev) t (and_parts (is_some (row_of setup dev)) (home setup dev == t) h).1
 
 -- what becomes of the content goes by the piece's range and type alone
 content_unread : (content : Content) (q : OpenPiece) → content_after content (unread q) ≡ content_after content q

@@ -1,7 +1,7 @@
 -- The first base of a device in a list.
-use Rattle.std.proofs.Common.{◌≡◌, ℕ, suc, ◌+◌, ◌<◌, Bool, true, false, cond, not, List, [], ◌∷◌, length, get_or, nat_lt, Option, Some, None, refl, sym, ◌∙◌, ap, subst, arith}
+use Rattle.std.proofs.Common.{◌≡◌, ℕ, suc, ◌+◌, ◌<◌, ◌≤◌, Bool, true, false, cond, not, List, [], ◌∷◌, length, get_or, nat_lt, Some, None, refl, sym, ◌∙◌, ap, subst, arith}
 use Rattle.std.specs.List.{find, position, position_or_len}
-use Rattle.bd_thread.proofs.Firsts.{found_below}
+use Rattle.bd_thread.proofs.Firsts.{before, found_below, missed_before}
 
 module _ {X : Type 0} (is : X → Bool) where
   place_is : (xs : List X) (i : ℕ) → position is xs ≡ Some i → i ≡ position_or_len is xs
@@ -32,3 +32,21 @@ module _ {X : Type 0} (is : X → Bool) where
   -- what stands at the place is the first that passes
   pub found_at : (xs : List X) (i : ℕ) (x : X) → position is xs ≡ Some i → x ≡ get_or xs i x → find is xs ≡ Some x
   found_at xs i x e q = found_from xs i x (place_is xs i e) (found_below is xs i e) q
+
+  missed_from : (xs : List X) → length xs ≤ before is xs → find is xs ≡ None
+  missed_from [] h = refl
+  missed_from (y ∷ ys) h = go (is y) h (missed_from ys)
+    where
+      none : (a : ℕ) → suc a ≤ 0 → ⊥
+      none a p = omega arith
+
+      low : (a b : ℕ) → suc a ≤ suc b → a ≤ b
+      low a b p = omega arith
+
+      go : (b : Bool) → suc (length ys) ≤ cond (not b) (suc (before is ys)) 0 → (length ys ≤ before is ys → find is ys ≡ None) → cond b (Some y) (find is ys) ≡ None
+      go true l ih = absurd (none (length ys) l)
+      go false l ih = ih (low (length ys) (before is ys) l)
+
+  -- where there is no place none passes
+  pub missed : (xs : List X) → position is xs ≡ None → find is xs ≡ None
+  missed xs e = missed_from xs (missed_before is xs e)

@@ -1,23 +1,24 @@
 //! What a home does: it applies pieces to its base devices, and destructs its devices.
 ghost use Rattle.std.specs.Prelude.{◌≡◌, ◌<◌, IfOk, IfSome, OnOk, Some, find, option_copied, vec_len, true};
 ghost use Rattle.std.specs.List.{list_any, position};
+ghost use Rattle.std.specs.Option.{option_map};
 ghost use Rattle.bd_base.specs.declared.act.ApplyEnd.TheVariants as ends;
-ghost use Rattle.bd_machine.specs.BlockMap.{home, is_malloc};
-ghost use Rattle.bd_machine.specs.Homes.{applied, is_base, is_first, is_home, read_by};
+ghost use Rattle.bd_machine.specs.BlockMap.{home, is_malloc, size_of};
+ghost use Rattle.bd_machine.specs.Homes.{applied, is_base, is_home, read_by};
 ghost use Rattle.bd_machine.specs.Registry.{is_unused};
 ghost use Rattle.bd_machine.specs.Same.{same_dev};
 ghost use Rattle.bd_machine.specs.Table.{change_first};
 ghost use Rattle.bd_thread.specs.Acted.{Acted};
 ghost use Rattle.bd_thread.specs.Destructs.{Destructs, digest_at, digest_due, may_go};
-ghost use Rattle.bd_thread.specs.Next.{IsNext};
+ghost use Rattle.bd_thread.specs.Next.{IsNext, id_of};
 ghost use Rattle.bd_thread.specs.Seen.{here_in};
-ghost use Rattle.bd_thread.specs.Served.{Applies, Fits, FitsAt, IsHome, IsReady, read_at, unread};
+ghost use Rattle.bd_thread.specs.Served.{Applies, Fits, FitsAt, first_of, next_due, next_in, piece_on, read_at, unread};
 
 use crate::held::{held, hold};
 use crate::links::{Links, add};
 use crate::store::{bytes_read, change, digest_blocks, fits};
 use crate::thread::Thread;
-use bd_base::{Act, ApplyEnd, Bytes, DevId, DevRow, Kind, OutOfMemory, ReqId, Rows, Setup};
+use bd_base::{Act, ApplyEnd, Bytes, DevId, Kind, OutOfMemory, ReqId, Rows, Setup};
 use bd_machine::{Base, Content, Handle, Id, Kept, OpenPiece, Part, Progress, Registry};
 use std::alloc::Global;
 
@@ -32,17 +33,11 @@ fn home(setup: &Setup, dev: DevId) -> u32
     }
 }
 
-// ---- Apply
-
-// The row of a device whose home is this thread.
-fn row_at_home(setup: &Setup, thread: u32, dev: DevId) -> Option<&DevRow>
-    ensures { IfSome result (λ row. IsHome setup.now thread dev row.now) }
+// Whether it is a device whose home this thread is.
+fn is_home(setup: &Setup, thread: u32, dev: DevId) -> bool
+    ensures { result ≡ is_home setup.now thread dev }
 {
-    let row = setup.devices.as_slice().get(dev.0 as usize)?;
-    if home(setup, dev) != thread {
-        return None;
-    }
-    Some(row)
+    setup.devices.as_slice().get(dev.0 as usize).is_some() && home(setup, dev) == thread
 }
 
 // The place of a base device.
@@ -52,11 +47,43 @@ fn base_place(bases: &[Base], dev: DevId) -> Option<usize>
     bases.iter().position(|b| b.dev.0 == dev.0)
 }
 
+// The base device of a number.
+fn find_base(bases: &[Base], dev: DevId) -> Option<&Base>
+    ensures { option_copied result ≡ find (is_base dev) bases.now }
+{
+    bases.iter().find(|b| b.dev.0 == dev.0)
+}
+
+// ---- Apply
+
+// How many bytes a block of a device has; 0 for none.
+fn size_of(setup: &Setup, dev: DevId) -> u32
+    ensures { result ≡ size_of setup.now dev }
+{
+    match setup.devices.as_slice().get(dev.0 as usize) {
+        Some(row) => row.size,
+        None => 0,
+    }
+}
+
 // The first piece of a queue.
 fn first(queue: &[(ReqId, u32)]) -> Option<(ReqId, u32)>
-    ensures { IfSome result (λ q. is_first q.0 q.1 queue.now ≡ true) }
+    ensures { result ≡ first_of queue.now }
 {
-    queue.first().copied()
+    match queue {
+        [] => None,
+        [q, ..] => Some(*q),
+    }
+}
+
+// A piece that is here, where it is on this device.
+fn piece_on(tokens: &[(Id, Kept)], id: Id, dev: DevId) -> Option<&OpenPiece>
+    ensures { option_copied result ≡ piece_on dev (here_in tokens.now id) }
+{
+    match held(tokens, id) {
+        Some(Kept::Piece(p)) if p.base.0 == dev.0 => Some(p),
+        _ => None,
+    }
 }
 
 // A piece once it was served, without the bytes that it read.
@@ -75,45 +102,26 @@ fn unread(p: &OpenPiece) -> OpenPiece
     }
 }
 
-// What becomes of a piece, where it is here and on this device.
-fn ready(tokens: &[(Id, Kept)], id: Id, dev: DevId) -> Option<OpenPiece>
-    ensures { IfSome result (IsReady dev (here_in tokens.now id)) }
-{
-    let Some(Kept::Piece(p)) = held(tokens, id) else {
-        return None;
-    };
-    if p.base.0 != dev.0 {
-        return None;
-    }
-    Some(unread(p))
-}
-
-// The piece that a base serves next: where the base stands, the piece's name, and what becomes of it.
+// The piece that a base serves next, by its name, and what becomes of it.
 #[derive(Drop)]
 struct Next {
-    place: usize,
     req: ReqId,
     k: u32,
     piece: OpenPiece,
 }
 
-// The first piece in the device's queue, where it is here and the content has its blocks.
-fn next_at(bases: &[Base], tokens: &[(Id, Kept)], size: u32, dev: DevId) -> Option<Next>
-    ensures { IfSome result (IsNext bases.now tokens.now size dev) }
+// The first piece in the base's queue, where it is here and the content has its blocks.
+fn next_in(base: &Base, tokens: &[(Id, Kept)], size: u32, dev: DevId) -> Option<Next>
+    ensures next { IfSome result (IsNext (Some base.now) tokens.now size dev) }
+    ensures due { option_map id_of result ≡ next_in size dev (here_in tokens.now) (Some base.now) }
 {
-    let place = base_place(bases, dev)?;
-    let base = &bases[place];
     let (req, k) = first(base.queue.as_slice())?;
-    let piece = ready(tokens, Id::Piece(req, k), dev)?;
-    if !fits(&base.content, size, &piece) {
+    let p = piece_on(tokens, Id::Piece(req, k), dev)?;
+    if !fits(&base.content, size, p) {
         return None;
     }
-    Some(Next {
-        place,
-        req,
-        k,
-        piece,
-    })
+    let piece = unread(p);
+    Some(Next { req, k, piece })
 }
 
 // A base serves its first piece; the bytes that it read.
@@ -135,20 +143,21 @@ fn serve(
     Ok(bytes)
 }
 
-// The base at a place serves its first piece; the bytes that it read.
-fn serve_at(
+// The base of a device serves its first piece; the bytes that it read.
+fn serve_on(
     alloc: Global,
     bases: &mut Rows<Base>,
     dev: DevId,
-    place: usize,
     size: u32,
     p: &OpenPiece,
 ) -> Result<Option<Bytes>, OutOfMemory>
-    requires place { position (is_base dev) bases.old ≡ Some place }
-    requires fits { FitsAt size (find (is_base dev) bases.old) p.now }
+    requires { FitsAt size (find (is_base dev) bases.old) p.now }
     ensures bases { OnOk result (bases.new ≡ change_first (is_base dev) (applied ends.Done p.now) bases.old) }
     ensures read { IfOk result (λ bytes. bytes ≡ read_at size (find (is_base dev) bases.old) p.now) }
 {
+    let Some(place) = base_place(bases.as_slice(), dev) else {
+        return Ok(None);
+    };
     let base = bases.at_mut(place);
     let bytes = serve(alloc, base, size, p)?;
     Ok(bytes)
@@ -172,12 +181,6 @@ fn with_read(p: OpenPiece, read: Option<Bytes>) -> OpenPiece
 
 // ---- Destruct
 
-fn is_home(setup: &Setup, thread: u32, dev: DevId) -> bool
-    ensures { result ≡ is_home setup.now thread dev }
-{
-    setup.devices.as_slice().get(dev.0 as usize).is_some() && home(setup, dev) == thread
-}
-
 fn is_malloc(setup: &Setup, dev: DevId) -> bool
     ensures { result ≡ is_malloc setup.now dev }
 {
@@ -187,6 +190,7 @@ fn is_malloc(setup: &Setup, dev: DevId) -> bool
     }
 }
 
+// A handle of the device is open.
 fn is_used(handles: &[Handle], dev: DevId) -> bool
     ensures { result ≡ list_any (λ h. same_dev h.dev dev) handles.now }
 {
@@ -200,6 +204,7 @@ fn is_unused(registry: &Registry, dev: DevId) -> bool
     !is_used(registry.handles.as_slice(), dev)
 }
 
+// The device is one of those that were destructed.
 fn has_destructed(destructed: &[DevId], dev: DevId) -> bool
     ensures { result ≡ list_any (same_dev dev) destructed.now }
 {
@@ -221,12 +226,6 @@ fn may_go(
         && shut
         && is_unused(registry, dev)
         && !has_destructed(part.destructed.as_slice(), dev)
-}
-
-fn find_base(bases: &[Base], dev: DevId) -> Option<&Base>
-    ensures { option_copied result ≡ find (is_base dev) bases.now }
-{
-    bases.iter().find(|b| b.dev.0 == dev.0)
 }
 
 // The digest of a base's blocks.
@@ -251,23 +250,32 @@ fn digest_due(malloc: bool, base: Option<&Base>) -> Option<Option<[u8; 32]>>
 }
 
 impl<'a> Thread<'a> {
-    /// Serves the first piece in the device's queue, and gives its id. None where this thread isn't
-    /// the device's home, no piece waits there, it isn't here or isn't on this device, the content
-    /// is untold, or the piece is past its blocks or past 64 bits.
+    // The piece that this thread serves next on the device.
+    fn next_piece(&self, dev: DevId) -> Option<Next>
+        ensures home { IfSome result (λ n. is_home self.now.setup.now self.now.me dev ≡ true) }
+        ensures next { IfSome result (IsNext (find (is_base dev) self.now.part.bases) self.now.held.items (size_of self.now.setup.now dev) dev) }
+        ensures due { option_map id_of result ≡ next_due self.now dev }
+    {
+        if !is_home(self.setup, self.me, dev) {
+            return None;
+        }
+        let base = find_base(self.part.bases.as_slice(), dev)?;
+        next_in(base, self.held.as_slice(), size_of(self.setup, dev), dev)
+    }
+
+    /// Serves the first piece in the device's queue, and gives its id. None, and nothing changes,
+    /// where this thread isn't the device's home, no piece waits there, it isn't here or isn't on
+    /// this device, or the content doesn't have its blocks.
     pub(crate) fn apply(&mut self, links: &mut Links, dev: DevId) -> Result<Option<Id>, OutOfMemory>
         requires { self.old.me < vec_len links.old.queues }
         ensures acted { OnOk result (Acted self.old links.old self.new links.new) }
         ensures applied { IfOk result (Applies self.old links.old self.new links.new dev) }
     {
-        let Some(row) = row_at_home(self.setup, self.me, dev) else {
+        let Some(next) = self.next_piece(dev) else {
             return Ok(None);
         };
-        let size = row.size;
-        let Some(next) = next_at(self.part.bases.as_slice(), self.held.as_slice(), size, dev) else {
-            return Ok(None);
-        };
-        let bases = &mut self.part.bases;
-        let read = serve_at(self.alloc, bases, dev, next.place, size, &next.piece)?;
+        let size = size_of(self.setup, dev);
+        let read = serve_on(self.alloc, &mut self.part.bases, dev, size, &next.piece)?;
         let req = next.req;
         let k = next.k;
         let kept = Kept::Piece(with_read(next.piece, read));
@@ -285,9 +293,9 @@ impl<'a> Thread<'a> {
         Ok(Some(Id::Piece(req, k)))
     }
 
-    /// Destructs a device whose home this is, once, behind a Shutdown, when no handle of it is open:
-    /// the digest of its blocks for malloc, where they are here, and none for another. False where
-    /// that isn't so.
+    /// Destructs a device whose home this is, once, behind a Shutdown, when no handle of it is open.
+    /// The entry shows for malloc the digest of its blocks, and for another device none. False, and
+    /// nothing changes, where the device may not go, or it is malloc and its blocks aren't here.
     pub(crate) fn destruct(&mut self, links: &mut Links, dev: DevId) -> Result<bool, OutOfMemory>
         requires { self.old.me < vec_len links.old.queues }
         ensures acted { OnOk result (Acted self.old links.old self.new links.new) }

@@ -1,11 +1,10 @@
 //! The content of a base device: changed in place, read, and its digest.
 ghost use Rattle.std.specs.Prelude.{◌≡◌, ◌+◌, ◌*◌, ◌<◌, ◌≤◌, ◌^◌, ◌++◌, [], IfOk, OnOk, length, take, drop, slice_set, slice_index_or};
-ghost use Rattle.std.specs.Bool.{OnTrue};
 ghost use Rattle.std.specs.List.{concat};
 ghost use Rattle.sha2.specs.Sha256.{sha256};
 ghost use Rattle.bd_base.specs.declared.request.Op.TheVariants as ops;
 ghost use Rattle.bd_machine.specs.Effect.{blocks_after, bytes_at, bytes_read, content_after, patterned, rewritten, turned_block, zeroed};
-ghost use Rattle.bd_thread.specs.Served.{Fits, IsInside};
+ghost use Rattle.bd_thread.specs.Served.{Fits, IsInside, fits, is_inside};
 
 use bd_base::{Bytes, Fill, Op, OutOfMemory, Rows};
 use bd_machine::{Content, OpenPiece};
@@ -109,21 +108,24 @@ fn rewrite(alloc: Global, rows: &mut Rows<Bytes>, p: &OpenPiece) -> Result<(), O
 
 // ---- the content
 
-// Whether the blocks of a piece are among these.
+// One more than the greatest number of 64 bits.
+const PAST: u128 = 18_446_744_073_709_551_616;
+
+// Whether the blocks of a piece are among these, and their numbers are numbers of 64 bits.
 fn is_inside(rows: &[Bytes], p: &OpenPiece) -> bool
-    ensures { OnTrue result (IsInside p.now rows.now) }
+    ensures { result ≡ is_inside p.now rows.now }
 {
-    let blocks = rows.len() as u64;
-    p.lba <= blocks && p.count <= blocks - p.lba && p.first.checked_add(p.count).is_some()
+    p.lba as u128 + p.count as u128 <= rows.len() as u128
+        && (p.first as u128 + p.count as u128) < PAST
 }
 
 /// Whether the piece can be served from the content.
 pub(crate) fn fits(content: &Content, size: u32, p: &OpenPiece) -> bool
-    ensures { OnTrue result (Fits size content.now p.now) }
+    ensures { result ≡ fits size content.now p.now }
 {
     match content {
         Content::Blocks(rows) => is_inside(rows.as_slice(), p),
-        Content::Zeros => p.count.checked_mul(size as u64).is_some(),
+        Content::Zeros => (p.count as u128 * size as u128) < PAST,
         Content::Untold => false,
     }
 }
