@@ -1,3 +1,5 @@
+pub mod Cutting
+pub mod Extents
 pub mod Submissions
 pub mod Tickets
 pub mod Put

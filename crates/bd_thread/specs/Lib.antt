@@ -1,3 +1,4 @@
+pub mod Cuts
 pub mod Sent
 pub mod Seen
 pub mod Acted

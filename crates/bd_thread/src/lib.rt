@@ -7,6 +7,7 @@ mod homes;
 mod lines;
 mod links;
 mod messages;
+mod pieces;
 mod requests;
 mod rules;
 mod store;

@@ -1,16 +1,19 @@
 //! A thread's own requests: submitted, cut and completed.
-ghost use Rattle.std.specs.Prelude.{◌≡◌, ◌<◌, length, vec_len, Some, None, IfOk, IfErr, OnOk, true};
+ghost use Rattle.std.specs.Prelude.{◌≡◌, ◌<◌, length, vec_len, Some, None, IfOk, IfErr, IfSome, IfNone, OnOk, true, false};
 ghost use Rattle.bd_machine.specs.Asked.{is_handle_on};
 ghost use Rattle.bd_machine.specs.Registry.{handle_of};
+ghost use Rattle.bd_machine.specs.Requests.{may_cut};
 ghost use Rattle.bd_thread.specs.Acted.{Acted};
+ghost use Rattle.bd_thread.specs.Cuts.{request_in, Cuts, IsCut};
 ghost use Rattle.bd_thread.specs.Requests.{refusal, view_of, IsAccepted, IsAsked, IsFresh, IsOpened, IsRefused, KeepsTickets, Refuses};
 
-use crate::admission::{Asked, admit, own_handle};
-use crate::held::hold;
+use crate::admission::{Asked, admit, has_range, own_handle};
+use crate::held::{held, hold};
 use crate::links::{Links, add};
+use crate::pieces::{extents, hold_pieces, home, send_pieces};
 use crate::thread::Thread;
-use bd_base::{Act, DevId, Errno, HandleId, Op, OutOfMemory, ReqId};
-use bd_machine::{Decided, Id, Kept, Open, OpenRequest};
+use bd_base::{Act, DevId, Errno, HandleId, Op, OutOfMemory, ReqId, Rows};
+use bd_machine::{Decided, Extent, Id, Kept, Open, OpenRequest};
 use bd_msg::Ticket;
 
 /// The most open requests of a thread.
@@ -27,6 +30,38 @@ pub enum Refused {
     Full,
     /// The run halts: nothing is said of the thread from then on.
     OutOfMemory,
+}
+
+fn request_here(tokens: &[(Id, Kept)], req: ReqId) -> Option<OpenRequest>
+    ensures { result ≡ request_in tokens.now req }
+{
+    match held(tokens, Id::Request(req)) {
+        Some(Kept::Request(r)) => Some(*r),
+        _ => None,
+    }
+}
+
+// The request, where it is here on its own thread, has a range, and isn't cut.
+fn uncut(tokens: &[(Id, Kept)], me: u32, req: ReqId) -> Option<OpenRequest>
+    ensures some { IfSome result (λ r. (request_in tokens.now req ≡ Some r) × (may_cut me req (Some r) ≡ true)) }
+    ensures none { IfNone result (may_cut me req (request_in tokens.now req) ≡ false) }
+{
+    let r = request_here(tokens, req)?;
+    if req.thread == me && has_range(r.op) && r.pieces.is_none() {
+        Some(r)
+    } else {
+        None
+    }
+}
+
+// How many pieces there are. More than have numbers count as want of memory.
+fn number_of(found: &Rows<Extent>) -> Result<u32, OutOfMemory>
+    ensures { IfOk result (λ n. n ≡ length found.now) }
+{
+    match u32::try_from(found.len()) {
+        Ok(n) => Ok(n),
+        Err(_) => Err(OutOfMemory),
+    }
 }
 
 impl<'a> Thread<'a> {
@@ -165,5 +200,40 @@ impl<'a> Thread<'a> {
                 count,
             },
         )
+    }
+
+    /// Cuts a request that is here on its own thread, has a range and isn't cut, and answers into how
+    /// many pieces: they are here, to be put to their home in order. 0 where there is no such request,
+    /// and then nothing changed.
+    pub fn cut(&mut self, links: &mut Links, req: ReqId) -> Result<u32, OutOfMemory>
+        requires me { self.old.me < vec_len links.old.queues }
+        ensures acted { OnOk result (Acted self.old links.old self.new links.new) }
+        ensures cut { IfOk result (Cuts req self.old links.old self.new links.new) }
+    {
+        let Some(r) = uncut(self.held.as_slice(), self.me, req) else {
+            return Ok(0);
+        };
+        self.cut_into(links, req, r)
+    }
+
+    // Cuts a request that may be cut.
+    fn cut_into(&mut self, links: &mut Links, req: ReqId, r: OpenRequest) -> Result<u32, OutOfMemory>
+        requires here { request_in self.old.held.items req ≡ Some r }
+        requires may { may_cut self.old.me req (Some r) ≡ true }
+        ensures acted { OnOk result (Acted self.old links.old self.new links.new) }
+        ensures cut { IfOk result (λ n. IsCut req r n self.old links.old self.new links.new) }
+    {
+        let setup = self.setup;
+        let found = extents(self.alloc, setup, r.dev, r.lba, r.count)?;
+        let n = number_of(&found)?;
+        let kept = Kept::Request(OpenRequest {
+            pieces: Some(n),
+            ..r
+        });
+        hold(&mut self.held, Id::Request(req), kept)?;
+        hold_pieces(&mut self.held, setup, req, r, found.as_slice())?;
+        send_pieces(&mut self.outbox, home(setup, r.dev), req, n)?;
+        add(&mut links.entries, self.me, Act::Cut { req, pieces: n })?;
+        Ok(n)
     }
 }

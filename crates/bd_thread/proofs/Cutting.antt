@@ -1,0 +1,71 @@
+-- Cut, by the local rules.
+use Rattle.std.proofs.Common.{◌≡◌, ℕ, ◌+◌, Bool, true, false, cond, ◌==◌, List, [], ◌∷◌, ◌++◌, length, map, Option, Some, None, refl, sym, ◌∙◌, ap, ap₂, subst, eq-eqb}
+use Rattle.bd_base.specs.declared.act.Act.TheVariants as acts
+use Rattle.bd_base.specs.declared.id.ReqId.{ReqId}
+use Rattle.bd_base.specs.declared.setup.Setup.{Setup}
+use Rattle.bd_machine.specs.declared.state.Extent.{Extent}
+use Rattle.bd_machine.specs.declared.state.Id.{Id}
+use Rattle.bd_machine.specs.declared.state.Id.TheVariants as ids
+use Rattle.bd_machine.specs.declared.state.Kept.{Kept}
+use Rattle.bd_machine.specs.declared.state.Kept.TheVariants as keeps
+use Rattle.bd_machine.specs.declared.state.OpenPiece.{OpenPiece}
+use Rattle.bd_machine.specs.declared.state.OpenRequest.{OpenRequest}
+use Rattle.bd_machine.specs.declared.state.Part.{Part}
+use Rattle.bd_machine.specs.declared.state.Registry.{Registry}
+use Rattle.bd_machine.specs.Alone.{held_after}
+use Rattle.bd_machine.specs.Completion.{as_request}
+use Rattle.bd_machine.specs.Requests.{cut_into, extents_of, has_extents, may_cut, new_piece, pieces_made}
+use Rattle.bd_machine.specs.Same.{same_id}
+use Rattle.bd_turns.specs.declared.queue.Message.{Message}
+use Rattle.bd_turns.specs.Local.{Local}
+use Rattle.bd_thread.specs.declared.links.Links.{Links}
+use Rattle.bd_thread.specs.declared.thread.Thread.{Thread}
+use Rattle.bd_thread.specs.Acted.{Acted}
+use Rattle.bd_thread.specs.Cuts.{request_in, IsCut}
+use Rattle.bd_thread.specs.Seen.{here_in, local_at, queues_of, Sets}
+use Rattle.bd_thread.proofs.Going.{Steps, steps, still_shut}
+use Rattle.bd_thread.proofs.Submissions.{acted_into}
+
+-- a piece is held, and those that are left come behind it
+pub hold_step : (setup : Setup) (req : ReqId) (r : OpenRequest) (k more : ℕ) (extent : Extent) (left rest : List Extent) (p : OpenPiece) (old new : List (Id × Kept)) (total : Id → Option Kept)
+    → left ≡ extent ∷ rest
+    → p ≡ new_piece setup r k extent
+    → more ≡ k + 1
+    → Sets old new (ids.Piece req k) (Some (keeps.Piece p))
+    → held_after (pieces_made setup req r k left) (here_in old) ≡ total
+    → held_after (pieces_made setup req r more rest) (here_in new) ≡ total
+hold_step setup req r k more extent left rest p old new total is piece next sets all =
+    ap₂ (λ (n : ℕ) (here : Id → Option Kept). held_after (pieces_made setup req r n rest) here) next sets
+    ∙ ap (λ (q : OpenPiece). held_after (pieces_made setup req r (k + 1) rest) (λ j. cond (same_id (ids.Piece req k) j) (Some (keeps.Piece q)) (here_in old j))) piece
+    ∙ sym (ap (λ (es : List Extent). held_after (pieces_made setup req r k es) (here_in old)) is)
+    ∙ all
+
+-- the request by how many pieces it has, and then its pieces
+pub cut_held : (setup : Setup) (req : ReqId) (r : OpenRequest) (n : ℕ) (found : List Extent) (old cut new : List (Id × Kept))
+    → found ≡ extents_of setup r
+    → Sets old cut (ids.Request req) (Some (keeps.Request (record r { pieces = Some n })))
+    → here_in new ≡ held_after (pieces_made setup req r 0 found) (here_in cut)
+    → here_in new ≡ held_after (cut_into setup req n (Some r)) (here_in old)
+cut_held setup req r n found old cut new all sets made = made ∙ ap₂ (λ (es : List Extent) (here : Id → Option Kept). held_after (pieces_made setup req r 0 es) here) all sets
+
+module _ (setup : Setup) (me : ℕ) (part : Part) (here : Id → Option Kept) (registry : Registry) (shut : Bool) (stamp : ℕ) (queues : ℕ → List Message) where
+  pub cut_steps : (req : ReqId) (r : OpenRequest) (n : ℕ)
+      → as_request (here (ids.Request req)) ≡ Some r
+      → may_cut me req (Some r) ≡ true
+      → n ≡ length (extents_of setup r)
+      → Steps setup me (local_at me part here registry shut stamp queues) (acts.Cut req n) (local_at me part (held_after (cut_into setup req n (Some r)) here) registry shut (stamp + 1) queues)
+  cut_steps req r n is may pieces =
+      let after : Bool → Option OpenRequest → Local = λ b o. local_at me part (held_after (cut_into setup req n o) here) registry b (stamp + 1) queues in
+      steps setup me (local_at me part here registry shut stamp queues) (after shut (Some r)) (acts.Cut req n) refl refl
+      (ap (may_cut me req) is ∙ may, (ap (has_extents setup n) is ∙ eq-eqb n (length (extents_of setup r)) pieces, tt))
+      (ap₂ after (still_shut shut) is)
+
+pub cut_acted : (old : Thread) (before : Links) (new : Thread) (after : Links) (req : ReqId) (r : OpenRequest) (n : ℕ)
+    → request_in old.held.items req ≡ Some r
+    → may_cut old.me req (Some r) ≡ true
+    → IsCut req r n old before new after
+    → Acted old before new after
+cut_acted old before new after req r n is may cut =
+    acted_into old before new after (acts.Cut req n) old.part (held_after (cut_into old.setup.now req n (Some r)) (here_in old.held.items))
+    (ap (λ (t : Thread). t.me) cut.thread) (ap (λ (t : Thread). t.setup) cut.thread) (ap (λ (t : Thread). t.part) cut.thread) cut.held cut.links
+    (cut_steps old.setup.now old.me old.part (here_in old.held.items) before.registry before.shut (length before.entries) (queues_of before.queues.items) req r n is may cut.pieces)

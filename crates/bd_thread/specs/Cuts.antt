@@ -1,0 +1,45 @@
+-- How a thread cuts a request.
+use Rattle.std.specs.Prelude.{◌≡◌, ℕ, Bool, true, false, List, ◌++◌, length, map, Option, Some, None}
+use Rattle.std.specs.List.{range_with_len}
+use Rattle.bd_base.specs.declared.act.Act.TheVariants as acts
+use Rattle.bd_base.specs.declared.act.Token.{Token}
+use Rattle.bd_base.specs.declared.act.Token.TheVariants as tokens
+use Rattle.bd_base.specs.declared.id.ReqId.{ReqId}
+use Rattle.bd_machine.specs.declared.state.Id.{Id}
+use Rattle.bd_machine.specs.declared.state.Id.TheVariants as ids
+use Rattle.bd_machine.specs.declared.state.Kept.{Kept}
+use Rattle.bd_machine.specs.declared.state.OpenRequest.{OpenRequest}
+use Rattle.bd_machine.specs.Alone.{held_after}
+use Rattle.bd_machine.specs.BlockMap.{home}
+use Rattle.bd_machine.specs.Completion.{as_request}
+use Rattle.bd_machine.specs.Requests.{cut_into, extents_of, may_cut}
+use Rattle.bd_thread.specs.declared.links.Links.{Links}
+use Rattle.bd_thread.specs.declared.thread.Thread.{Thread}
+use Rattle.bd_thread.specs.Seen.{here_in, longer}
+
+-- what is here of a request
+abbrev pub request_in : List (Id × Kept) → ReqId → Option OpenRequest
+request_in held req = as_request (here_in held (ids.Request req))
+
+-- a piece that is still to be put to a thread
+abbrev pub piece_to : ℕ → ReqId → ℕ → ℕ × Token
+piece_to to req k = (to, tokens.Piece req k)
+
+abbrev pub pieces_to : ℕ → ReqId → ℕ → List (ℕ × Token)
+pieces_to to req n = map (piece_to to req) (range_with_len 0 n)
+
+-- the request was cut where boundaries say: its pieces are here, to be put to their home in order, and the entry says so
+pub record IsCut (req : ReqId) (r : OpenRequest) (n : ℕ) (old : Thread) (before : Links) (new : Thread) (after : Links) : Type 0 where
+  pub pieces : n ≡ length (extents_of old.setup.now r)
+  pub held : here_in new.held.items ≡ held_after (cut_into old.setup.now req n (Some r)) (here_in old.held.items)
+  pub outbox : new.outbox.items ≡ old.outbox.items ++ pieces_to (home old.setup.now r.dev) req n
+  pub thread : new ≡ record old { held = new.held; outbox = new.outbox }
+  pub links : after ≡ record before { entries = longer old.me before.entries (acts.Cut req n) }
+
+abbrev pub CutsBy : ReqId → ℕ → Thread → Links → Thread → Links → Bool → Option OpenRequest → Type 0
+CutsBy req n old before new after true (Some r) = IsCut req r n old before new after
+CutsBy req n old before new after _ _ = (n ≡ 0) × (new ≡ old) × (after ≡ before)
+
+-- where the request is here on its own thread, has a range and isn't cut, it is cut into n pieces; else n is 0, and nothing changes
+abbrev pub Cuts : ReqId → Thread → Links → Thread → Links → ℕ → Type 0
+Cuts req old before new after n = CutsBy req n old before new after (may_cut old.me req (request_in old.held.items req)) (request_in old.held.items req)
