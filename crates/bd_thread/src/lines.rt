@@ -97,11 +97,10 @@ impl<'a> Thread<'a> {
     /// Ends the next line, where it goes on.
     pub(crate) fn end_line(&mut self, links: &mut Links) -> Result<bool, OutOfMemory>
         requires me { self.old.me < vec_len links.old.queues }
-        requires few { length self.old.part.requests < 2 ^ 32 }
         ensures acted { OnOk result (Acted self.old links.old self.new links.new) }
-        ensures ended { IfOk result (EndsLine self.old links.old links.new) }
+        ensures ended { length self.old.part.requests < 2 ^ 32 → IfOk result (EndsLine self.old links.old links.new) }
     {
-        if links.shut {
+        if links.shut || u32::try_from(self.part.requests.len()).is_err() {
             return Ok(false);
         }
         let setup = self.setup;

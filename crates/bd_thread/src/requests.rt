@@ -17,7 +17,7 @@ use bd_machine::{Decided, Extent, Id, Kept, Open, OpenRequest};
 use bd_msg::Ticket;
 
 /// The most open requests of a thread.
-const MOST_REQUESTS: usize = 1024;
+pub(crate) const MOST_REQUESTS: usize = 1024;
 
 /// Why a submission isn't accepted.
 #[derive(Clone, Copy, Debug, PartialEq, Eq)]

@@ -2,7 +2,7 @@
 
 use bd_base::{Setup, Token};
 use bd_machine::{Id, Kept, Part};
-use bd_msg::{Mint, Purse};
+use bd_msg::Purse;
 use std::alloc::Global;
 use std::collections::VecDeque;
 
@@ -16,7 +16,6 @@ pub struct Thread<'a> {
     pub(crate) held: Vec<(Id, Kept)>,
     // what is still to be put, and to which thread, in this order
     pub(crate) outbox: VecDeque<(u32, Token)>,
-    // the tickets of its open requests, and where new ones come from
+    // the tickets of its open requests
     pub(crate) purse: Purse,
-    pub(crate) mint: Mint,
 }

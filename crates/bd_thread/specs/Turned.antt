@@ -1,0 +1,17 @@
+-- What came of a turn.
+use Rattle.std.specs.Prelude.{◌≡◌, ℕ, ◌-◌, ◌==◌, cond, length}
+use Rattle.bd_base.specs.declared.id.ReqId.{ReqId}
+use Rattle.bd_thread.specs.declared.links.Links.{Links}
+use Rattle.bd_thread.specs.declared.turn.Turned.{Turned}
+use Rattle.bd_thread.specs.declared.turn.Turned.TheVariants.{Moved, Quiet}
+
+abbrev pub turned_of : ℕ → ℕ → Turned
+turned_of before after = cond (before == after) Quiet (Moved (after - before))
+
+-- the answer tells how many acts were added
+abbrev pub AddsMore : Links → Links → Turned → Type 0
+AddsMore before after turned = turned ≡ turned_of (length before.entries) (length after.entries)
+
+-- the ticket has the number that the thread gives next
+abbrev pub IsNextTicket : ℕ → ℕ → ReqId → Type 0
+IsNextTicket thread next id = id ≡ record { thread = thread; seq = next }

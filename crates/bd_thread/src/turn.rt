@@ -1,0 +1,226 @@
+//! A thread's turn: messages, the work of its stores, the script, and what is still to be put.
+ghost use Rattle.std.specs.Prelude.{◌≡◌, ◌+◌, ◌<◌, ◌≤◌, Some, true, vec_len, IfOk, IfSome, OnOk};
+ghost use Rattle.bd_thread.specs.Acted.{Acted};
+ghost use Rattle.bd_thread.specs.Requests.{IsAsked, IsFresh};
+ghost use Rattle.bd_thread.specs.Turned.{turned_of};
+
+use crate::admission::{Asked, has_range};
+use crate::links::{Links, MOST_MESSAGES};
+use crate::requests::{MOST_REQUESTS, Refused};
+use crate::rules::{bound_to, undecided_job};
+use crate::thread::Thread;
+use bd_base::{DevId, Errno, HandleId, Job, OutOfMemory, ThreadId, Token};
+use bd_machine::{Id, News};
+use bd_msg::{Mint, Ticket};
+
+/// How many messages a turn takes, pieces of a store it serves, and lines it does, at most (SPDK's
+/// batch of messages).
+const BATCH: u32 = 8;
+
+/// What came of a turn.
+#[derive(Clone, Copy, Debug, PartialEq, Eq)]
+pub enum Turned {
+    /// So many acts were made.
+    Moved(usize),
+    /// No act was made: every message, piece and line of this thread waits for another thread.
+    Quiet,
+}
+
+fn turned(before: usize, after: usize) -> Turned
+    requires { before ≤ after }
+    ensures { result ≡ turned_of before after }
+{
+    if before == after {
+        Turned::Quiet
+    } else {
+        Turned::Moved(after - before)
+    }
+}
+
+// A ticket with the number that the thread gives next, while there are numbers.
+fn next_ticket(thread: u32, next: u64) -> Option<Ticket>
+    ensures { IfSome result (λ ticket. IsNextTicket thread next ticket) }
+{
+    if next >= 1 << 62 {
+        return None;
+    }
+    let mut mint = Mint::new(ThreadId(thread));
+    if next > 0 {
+        mint.meet(next - 1);
+    }
+    Some(mint.issue())
+}
+
+impl<'a> Thread<'a> {
+    // Submits through a handle, and cuts what was accepted.
+    fn submit_through(
+        &mut self,
+        links: &mut Links,
+        handle: HandleId,
+        asked: Asked,
+    ) -> Result<bool, OutOfMemory>
+        requires me { self.old.me < vec_len links.old.queues }
+        requires asked { IsAsked self.old links.old (Some handle) asked }
+        ensures acted { OnOk result (Acted self.old links.old self.new links.new) }
+    {
+        let Some(ticket) = next_ticket(self.me, self.part.next_request) else {
+            return Err(OutOfMemory);
+        };
+        match self.submit(links, handle, asked.op, asked.lba, asked.count, ticket) {
+            Ok(req) => {
+                self.cut(links, req)?;
+                Ok(true)
+            }
+            Err((refused, ticket)) => {
+                ticket.abandon();
+                match refused {
+                    Refused::Errno(_) => Ok(true),
+                    Refused::Full => Ok(false),
+                    Refused::OutOfMemory => Err(OutOfMemory),
+                }
+            }
+        }
+    }
+
+    // Submits what the next line asks for, where it asks for that and there is room.
+    fn submit_line(&mut self, links: &mut Links) -> Result<bool, OutOfMemory>
+        requires me { self.old.me < vec_len links.old.queues }
+        ensures acted { OnOk result (Acted self.old links.old self.new links.new) }
+    {
+        if links.shut || MOST_REQUESTS <= self.part.requests.len() {
+            return Ok(false);
+        }
+        let Some(
+            Job::Submit {
+                handle,
+                op,
+                lba,
+                count,
+            },
+        ) = undecided_job(self.setup, self.me, &self.part)
+        else {
+            return Ok(false);
+        };
+        let asked = Asked {
+            op: *op,
+            lba: *lba,
+            count: *count,
+        };
+        if !has_range(asked.op) {
+            return Ok(false);
+        }
+        match bound_to(&self.part, handle) {
+            Some(id) => self.submit_through(links, id, asked),
+            None => {
+                self.refuse(links, None, asked, Errno::BadDesc)?;
+                Ok(true)
+            }
+        }
+    }
+
+    // Takes a message, and completes its request where it was the last of its pieces.
+    fn receive(&mut self, links: &mut Links) -> Result<bool, OutOfMemory>
+        requires { self.old.me < vec_len links.old.queues }
+        ensures acted { OnOk result (Acted self.old links.old self.new links.new) }
+    {
+        let Some(id) = self.take(links)? else {
+            return Ok(false);
+        };
+        if let Id::Piece(req, _) = id {
+            if req.thread == self.me {
+                self.complete(links, req)?;
+            }
+        }
+        Ok(true)
+    }
+
+    fn receive_all(&mut self, links: &mut Links) -> Result<(), OutOfMemory>
+        requires { self.old.me < vec_len links.old.queues }
+        ensures acted { OnOk result (Acted self.old links.old self.new links.new) }
+    {
+        for _ in 0..BATCH {
+            if !self.receive(links)? {
+                break;
+            }
+        }
+        Ok(())
+    }
+
+    // Serves the first piece of a store, and asks for it to be sent back.
+    fn serve(&mut self, links: &mut Links, dev: DevId) -> Result<bool, OutOfMemory>
+        requires { self.old.me < vec_len links.old.queues }
+        ensures acted { OnOk result (Acted self.old links.old self.new links.new) }
+    {
+        let Some(id) = self.apply(links, dev)? else {
+            return Ok(false);
+        };
+        if let Id::Piece(req, k) = id {
+            self.outbox
+                .push_back((req.thread, Token::Piece(req, k)))?;
+        }
+        Ok(true)
+    }
+
+    fn serve_store(&mut self, links: &mut Links, dev: DevId) -> Result<(), OutOfMemory>
+        requires { self.old.me < vec_len links.old.queues }
+        ensures acted { OnOk result (Acted self.old links.old self.new links.new) }
+    {
+        for _ in 0..BATCH {
+            if !self.serve(links, dev)? {
+                break;
+            }
+        }
+        Ok(())
+    }
+
+    fn serve_all(&mut self, links: &mut Links) -> Result<(), OutOfMemory>
+        requires { self.old.me < vec_len links.old.queues }
+        ensures acted { OnOk result (Acted self.old links.old self.new links.new) }
+    {
+        for place in 0..self.setup.devices.len() {
+            let Ok(dev) = u32::try_from(place) else {
+                return Ok(());
+            };
+            self.serve_store(links, DevId(dev))?;
+        }
+        Ok(())
+    }
+
+    // Does the next line, as far as it goes on.
+    fn command(&mut self, links: &mut Links) -> Result<bool, OutOfMemory>
+        requires { self.old.me < vec_len links.old.queues }
+        ensures acted { OnOk result (Acted self.old links.old self.new links.new) }
+    {
+        self.open(links)?;
+        self.close(links)?;
+        self.submit_line(links)?;
+        self.end_line(links)
+    }
+
+    fn command_all(&mut self, links: &mut Links) -> Result<(), OutOfMemory>
+        requires { self.old.me < vec_len links.old.queues }
+        ensures acted { OnOk result (Acted self.old links.old self.new links.new) }
+    {
+        for _ in 0..BATCH {
+            if !self.command(links)? {
+                break;
+            }
+        }
+        Ok(())
+    }
+
+    /// A turn: at most 8 messages, at most 8 pieces of each store, at most 8 lines of the script, and
+    /// what is still to be put, until the queue that it goes to is full.
+    pub fn turn(&mut self, links: &mut Links) -> Result<Turned, OutOfMemory>
+        requires { self.old.me < vec_len links.old.queues }
+        ensures acted { OnOk result (Acted self.old links.old self.new links.new) }
+        ensures turned { IfOk result (AddsMore links.old links.new) }
+    {
+        let before = links.entries.len();
+        self.receive_all(links)?;
+        self.serve_all(links)?;
+        self.command_all(links)?;
+        self.put_all(links)?;
+        Ok(turned(before, links.entries.len()))
+    }
+}
