@@ -16,5 +16,5 @@ pub mod Applies
 pub mod Bases
 pub mod Joined
 pub mod Spliced
-pub mod Turned
+pub mod FirstByte
 pub mod Destructs

@@ -7,4 +7,4 @@ pub mod Served
 pub mod Next
 pub mod Requests
 pub mod Destructs
-pub mod Turned
+pub mod Moves

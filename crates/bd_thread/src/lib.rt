@@ -13,7 +13,9 @@ mod rules;
 mod store;
 mod table;
 mod thread;
+mod turn;
 
 pub use links::{Links, Queue};
 pub use requests::Refused;
 pub use thread::Thread;
+pub use turn::Turned;

@@ -10,7 +10,7 @@ use std::collections::VecDeque;
 use std::marker::Model;
 
 /// The most messages on their way to one thread.
-pub(crate) const MOST_MESSAGES: usize = 1024;
+const MOST_MESSAGES: usize = 1024;
 
 /// The messages on their way to a thread, seen as their list, the first to be taken first.
 #[derive(Drop)]
@@ -106,4 +106,12 @@ pub(crate) fn add(entries: &mut Rows<Entry>, thread: u32, act: Act) -> Result<()
 {
     let stamp = entries.len() as u128 + 1;
     entries.push(Entry { stamp, thread, act })
+}
+
+/// Whether as many messages are on their way to the thread as may be.
+pub(crate) fn is_full(queues: &[Queue], to: u32) -> bool {
+    match queues.get(to as usize) {
+        Some(queue) => queue.len() >= MOST_MESSAGES,
+        None => false,
+    }
 }

@@ -2,14 +2,14 @@
 ghost use Rattle.std.specs.Prelude.{◌≡◌, ◌+◌, ◌<◌, ◌≤◌, Some, true, vec_len, IfOk, IfSome, OnOk};
 ghost use Rattle.bd_thread.specs.Acted.{Acted};
 ghost use Rattle.bd_thread.specs.Requests.{IsAsked, IsFresh};
-ghost use Rattle.bd_thread.specs.Turned.{turned_of};
+ghost use Rattle.bd_thread.specs.Moves.{turned_of, AddsMore, IsNextTicket};
 
 use crate::admission::{Asked, has_range};
-use crate::links::{Links, MOST_MESSAGES};
+use crate::links::{Links, is_full};
 use crate::requests::{MOST_REQUESTS, Refused};
 use crate::rules::{bound_to, undecided_job};
 use crate::thread::Thread;
-use bd_base::{DevId, Errno, HandleId, Job, OutOfMemory, ThreadId, Token};
+use bd_base::{DevId, Errno, HandleId, Job, OutOfMemory, ReqId, ThreadId, Token};
 use bd_machine::{Id, News};
 use bd_msg::{Mint, Ticket};
 
@@ -26,7 +26,7 @@ pub enum Turned {
     Quiet,
 }
 
-fn turned(before: usize, after: usize) -> Turned
+fn tell(before: usize, after: usize) -> Turned
     requires { before ≤ after }
     ensures { result ≡ turned_of before after }
 {
@@ -50,6 +50,24 @@ fn next_ticket(thread: u32, next: u64) -> Option<Ticket>
     }
     Some(mint.issue())
 }
+
+// STUBS
+impl<'a> Thread<'a> {
+    fn cut(&mut self, links: &mut Links, req: ReqId) -> Result<u32, OutOfMemory>
+        requires { self.old.me < vec_len links.old.queues }
+        ensures acted { OnOk result (Acted self.old links.old self.new links.new) }
+    {
+        Err(OutOfMemory)
+    }
+
+    fn complete(&mut self, links: &mut Links, req: ReqId) -> Result<bool, OutOfMemory>
+        requires { self.old.me < vec_len links.old.queues }
+        ensures acted { OnOk result (Acted self.old links.old self.new links.new) }
+    {
+        Err(OutOfMemory)
+    }
+}
+// END STUBS
 
 impl<'a> Thread<'a> {
     // Submits through a handle, and cuts what was accepted.
@@ -209,6 +227,65 @@ impl<'a> Thread<'a> {
         Ok(())
     }
 
+    // Puts what stands first in the outbox on its way, unless the queue that it goes to is full.
+    fn put_next(&mut self, links: &mut Links) -> Result<bool, OutOfMemory>
+        requires { self.old.me < vec_len links.old.queues }
+        ensures acted { OnOk result (Acted self.old links.old self.new links.new) }
+    {
+        let Some(&(to, _)) = self.outbox.front() else {
+            return Ok(false);
+        };
+        if is_full(links.queues.as_slice(), to) {
+            return Ok(false);
+        }
+        match self.outbox.pop_front() {
+            Some((to, what)) => self.put(links, to, what),
+            None => Ok(false),
+        }
+    }
+
+    // The first mark that is due, and its receiver.
+    fn first_due(&self) -> Result<Option<(u32, Token)>, OutOfMemory> {
+        match self.part.due.as_slice().first() {
+            Some(due) => {
+                let News::Mark(mark) = &due.news;
+                Ok(Some((due.receiver, Token::Mark(mark.copy()?))))
+            }
+            None => Ok(None),
+        }
+    }
+
+    // Puts the first mark that is due on its way, unless the queue that it goes to is full.
+    fn put_due(&mut self, links: &mut Links) -> Result<bool, OutOfMemory>
+        requires { self.old.me < vec_len links.old.queues }
+        ensures acted { OnOk result (Acted self.old links.old self.new links.new) }
+    {
+        let Some((to, what)) = self.first_due()? else {
+            return Ok(false);
+        };
+        if is_full(links.queues.as_slice(), to) {
+            return Ok(false);
+        }
+        self.put(links, to, what)
+    }
+
+    fn put_all(&mut self, links: &mut Links) -> Result<(), OutOfMemory>
+        requires { self.old.me < vec_len links.old.queues }
+        ensures acted { OnOk result (Acted self.old links.old self.new links.new) }
+    {
+        for _ in 0..self.outbox.len() {
+            if !self.put_next(links)? {
+                break;
+            }
+        }
+        for _ in 0..self.part.due.len() {
+            if !self.put_due(links)? {
+                break;
+            }
+        }
+        Ok(())
+    }
+
     /// A turn: at most 8 messages, at most 8 pieces of each store, at most 8 lines of the script, and
     /// what is still to be put, until the queue that it goes to is full.
     pub fn turn(&mut self, links: &mut Links) -> Result<Turned, OutOfMemory>
@@ -221,6 +298,6 @@ impl<'a> Thread<'a> {
         self.serve_all(links)?;
         self.command_all(links)?;
         self.put_all(links)?;
-        Ok(turned(before, links.entries.len()))
+        Ok(tell(before, links.entries.len()))
     }
 }

@@ -1,6 +1,6 @@
 use Rattle.std.proofs.Common.{ℕ, ◌++◌, List, take, drop, ◌+◌, cond, sym, ◌∙◌, ap, arith}
 use Rattle.bd_machine.specs.Effect.{patterned, turned}
-use Rattle.bd_thread.proofs.Turned.{turned_at}
+use Rattle.bd_thread.proofs.FirstByte.{turned_at}
 use Rattle.bd_thread.proofs.store.write_blocks.Goals as goal
 
 pub returns-in_ok-turn : goal.returns-in_ok-turn
