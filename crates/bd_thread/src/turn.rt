@@ -53,13 +53,6 @@ fn next_ticket(thread: u32, next: u64) -> Option<Ticket>
 
 // STUBS
 impl<'a> Thread<'a> {
-    fn cut(&mut self, links: &mut Links, req: ReqId) -> Result<u32, OutOfMemory>
-        requires { self.old.me < vec_len links.old.queues }
-        ensures acted { OnOk result (Acted self.old links.old self.new links.new) }
-    {
-        Err(OutOfMemory)
-    }
-
     fn complete(&mut self, links: &mut Links, req: ReqId) -> Result<bool, OutOfMemory>
         requires { self.old.me < vec_len links.old.queues }
         ensures acted { OnOk result (Acted self.old links.old self.new links.new) }
@@ -269,7 +262,7 @@ impl<'a> Thread<'a> {
         self.put(links, to, what)
     }
 
-    fn put_all(&mut self, links: &mut Links) -> Result<(), OutOfMemory>
+    fn put_outbox(&mut self, links: &mut Links) -> Result<(), OutOfMemory>
         requires { self.old.me < vec_len links.old.queues }
         ensures acted { OnOk result (Acted self.old links.old self.new links.new) }
     {
@@ -278,6 +271,13 @@ impl<'a> Thread<'a> {
                 break;
             }
         }
+        Ok(())
+    }
+
+    fn put_marks(&mut self, links: &mut Links) -> Result<(), OutOfMemory>
+        requires { self.old.me < vec_len links.old.queues }
+        ensures acted { OnOk result (Acted self.old links.old self.new links.new) }
+    {
         for _ in 0..self.part.due.len() {
             if !self.put_due(links)? {
                 break;
@@ -297,7 +297,8 @@ impl<'a> Thread<'a> {
         self.receive_all(links)?;
         self.serve_all(links)?;
         self.command_all(links)?;
-        self.put_all(links)?;
+        self.put_outbox(links)?;
+        self.put_marks(links)?;
         Ok(tell(before, links.entries.len()))
     }
 }

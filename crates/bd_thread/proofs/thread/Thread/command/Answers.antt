@@ -1,0 +1,9 @@
+use Rattle.std.proofs.lemmas.Result.{on_ok_weaker}
+use Rattle.bd_thread.proofs.Going.{acted_then}
+use Rattle.bd_thread.proofs.thread.Thread.command.Goals as goal
+
+pub returns : goal.returns
+returns c =
+    let b = acted_then _ _ _ _ _ _ c.in_ok-open.ensures.acted c.in_ok-close.ensures.acted in
+    let d = acted_then _ _ _ _ _ _ b c.in_ok-submit_line.ensures.acted in
+    record { acted = on_ok_weaker c.end_line.result (λ e. acted_then _ _ _ _ _ _ d e) c.end_line.ensures.acted }

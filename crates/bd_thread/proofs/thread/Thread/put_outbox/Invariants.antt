@@ -1,0 +1,5 @@
+use Rattle.bd_thread.specs.Acted.{Acted}
+use Rattle.bd_thread.proofs.thread.Thread.put_outbox.Given as goal
+
+abbrev pub invariant-loop : goal.invariant-loop
+invariant-loop l = Acted l.initial.self l.initial.links l.self l.links

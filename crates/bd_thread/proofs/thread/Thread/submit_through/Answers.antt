@@ -1,0 +1,16 @@
+use Rattle.std.proofs.Common.{◌≡◌, ℕ, ◌≤◌, sym, subst, le_refl}
+use Rattle.bd_base.specs.declared.id.ReqId.{ReqId}
+use Rattle.bd_thread.specs.declared.thread.Thread.{Thread}
+use Rattle.bd_thread.specs.Moves.{IsNextTicket}
+use Rattle.bd_thread.specs.Requests.{IsFresh}
+use Rattle.bd_thread.proofs.Going.{acted_then}
+use Rattle.bd_thread.proofs.thread.Thread.submit_through.Goals as goal
+
+fresh_next : (t : Thread) (id : ReqId) → IsNextTicket t.me t.part.next_request id → IsFresh t id
+fresh_next t id next = record { own = next.own; above = subst (λ (n : ℕ). t.part.next_request ≤ n) (sym next.next_is) (le_refl t.part.next_request); names = next.names }
+
+pub submit-requires-clause-fresh : goal.submit-requires-clause-fresh
+submit-requires-clause-fresh c = fresh_next c.args.self.now c.in-Some.ticket c.in-Some.ensures
+
+pub returns-in_ok-cut-in-Ok : goal.returns-in_ok-cut-in-Ok
+returns-in_ok-cut-in-Ok c = record { acted = acted_then _ _ _ _ _ _ c.in-Ok.ensures.acted c.in_ok-cut-in-Ok.ensures.acted }
