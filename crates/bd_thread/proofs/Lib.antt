@@ -1,3 +1,5 @@
+pub mod Completing
+pub mod Data
 pub mod Cutting
 pub mod Extents
 pub mod Submissions

@@ -1,3 +1,4 @@
+pub mod Completions
 pub mod Cuts
 pub mod Sent
 pub mod Seen

@@ -2,6 +2,7 @@
 #![tactic(auto)]
 
 mod admission;
+mod completion;
 mod held;
 mod homes;
 mod lines;

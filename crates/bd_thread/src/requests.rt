@@ -1,20 +1,23 @@
 //! A thread's own requests: submitted, cut and completed.
 ghost use Rattle.std.specs.Prelude.{◌≡◌, ◌<◌, length, vec_len, Some, None, IfOk, IfErr, IfSome, IfNone, OnOk, true, false};
+ghost use Rattle.bd_msg.specs.Purse.{without};
 ghost use Rattle.bd_machine.specs.Asked.{is_handle_on};
 ghost use Rattle.bd_machine.specs.Registry.{handle_of};
 ghost use Rattle.bd_machine.specs.Requests.{may_cut};
 ghost use Rattle.bd_thread.specs.Acted.{Acted};
+ghost use Rattle.bd_thread.specs.Completions.{ending_of, Completes, IsCompleted};
 ghost use Rattle.bd_thread.specs.Cuts.{request_in, Cuts, IsCut};
 ghost use Rattle.bd_thread.specs.Requests.{refusal, view_of, IsAccepted, IsAsked, IsFresh, IsOpened, IsRefused, KeepsTickets, Refuses};
 
 use crate::admission::{Asked, admit, has_range, own_handle};
-use crate::held::{held, hold};
+use crate::completion::{Ending, drop_request, ending_of, remove_open, request_here};
+use crate::held::hold;
 use crate::links::{Links, add};
 use crate::pieces::{extents, hold_pieces, home, send_pieces};
 use crate::thread::Thread;
-use bd_base::{Act, DevId, Errno, HandleId, Op, OutOfMemory, ReqId, Rows};
+use bd_base::{Act, DevId, Errno, HandleId, Op, OutOfMemory, ReqId, Rows, Status};
 use bd_machine::{Decided, Extent, Id, Kept, Open, OpenRequest};
-use bd_msg::Ticket;
+use bd_msg::{Purse, Ticket};
 
 /// The most open requests of a thread.
 pub(crate) const MOST_REQUESTS: usize = 1024;
@@ -30,15 +33,6 @@ pub enum Refused {
     Full,
     /// The run halts: nothing is said of the thread from then on.
     OutOfMemory,
-}
-
-fn request_here(tokens: &[(Id, Kept)], req: ReqId) -> Option<OpenRequest>
-    ensures { result ≡ request_in tokens.now req }
-{
-    match held(tokens, Id::Request(req)) {
-        Some(Kept::Request(r)) => Some(*r),
-        _ => None,
-    }
 }
 
 // The request, where it is here on its own thread, has a range, and isn't cut.
@@ -62,6 +56,13 @@ fn number_of(found: &Rows<Extent>) -> Result<u32, OutOfMemory>
         Ok(n) => Ok(n),
         Err(_) => Err(OutOfMemory),
     }
+}
+
+// The ticket of a request that completed is spent.
+fn spend(purse: &mut Purse, req: ReqId, status: Status)
+    ensures { purse.new.ids ≡ without req purse.old.ids }
+{
+    let _ = purse.finish(req, status);
 }
 
 impl<'a> Thread<'a> {
@@ -235,5 +236,41 @@ impl<'a> Thread<'a> {
         send_pieces(&mut self.outbox, home(setup, r.dev), req, n)?;
         add(&mut links.entries, self.me, Act::Cut { req, pieces: n })?;
         Ok(n)
+    }
+
+    /// Completes a request that is here on its own thread and cut, where every piece of it is back with
+    /// its end: it fails where one has a fault. A read that succeeds shows the first 8 bytes and the
+    /// digest of its data, and completes only where there are as many. Its ticket is spent. Else the
+    /// answer is false, and nothing changed.
+    pub fn complete(&mut self, links: &mut Links, req: ReqId) -> Result<bool, OutOfMemory>
+        requires me { self.old.me < vec_len links.old.queues }
+        ensures acted { OnOk result (Acted self.old links.old self.new links.new) }
+        ensures completes { IfOk result (Completes req self.old links.old self.new links.new) }
+        ensures tickets { OnOk result (KeepsTickets self.old → KeepsTickets self.new) }
+    {
+        let Some(ending) = ending_of(self.alloc, self.held.as_slice(), self.me, req)? else {
+            return Ok(false);
+        };
+        self.end(links, req, ending)?;
+        Ok(true)
+    }
+
+    // The request completes so.
+    fn end(&mut self, links: &mut Links, req: ReqId, ending: Ending) -> Result<(), OutOfMemory>
+        requires { ending_of self.old.me self.old.held.items req ≡ Some ending }
+        ensures acted { OnOk result (Acted self.old links.old self.new links.new) }
+        ensures completed { OnOk result (IsCompleted req ending self.old links.old self.new links.new) }
+        ensures tickets { OnOk result (KeepsTickets self.old → KeepsTickets self.new) }
+    {
+        let Ending {
+            pieces,
+            status,
+            shown,
+        } = ending;
+        drop_request(&mut self.held, req, pieces);
+        remove_open(self.alloc, &mut self.part.requests, req);
+        spend(&mut self.purse, req, status);
+        add(&mut links.entries, self.me, Act::Complete { req, status, shown })?;
+        Ok(())
     }
 }

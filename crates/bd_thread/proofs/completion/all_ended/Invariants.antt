@@ -1,0 +1,7 @@
+use Rattle.std.proofs.Common.{◌≡◌, ◌-◌, map}
+use Rattle.std.specs.List.{list_all, range_with_len}
+use Rattle.bd_thread.specs.Completions.{is_ended, piece_in, pieces_in}
+use Rattle.bd_thread.proofs.completion.all_ended.Given as goal
+
+abbrev pub invariant-loop-k : goal.invariant-loop-k
+invariant-loop-k l = list_all is_ended (map (piece_in l.tokens l.req) (range_with_len l.k (l.n - l.k))) ≡ list_all is_ended (pieces_in l.tokens l.req l.n)

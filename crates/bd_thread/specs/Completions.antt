@@ -1,0 +1,103 @@
+-- When a request completes, how, and what that leaves.
+use Rattle.std.specs.Prelude.{◌≡◌, ℕ, Bool, true, false, cond, not, ◌&&◌, ◌==◌, nat_le, List, [], ◌∷◌, length, filter, map, take, Option, Some, None, is_some}
+use Rattle.std.specs.List.{list_all, list_any, range_with_len}
+use Rattle.sha2.specs.Sha256.{sha256}
+use Rattle.bd_base.specs.declared.act.Act.TheVariants as acts
+use Rattle.bd_base.specs.declared.id.ReqId.{ReqId}
+use Rattle.bd_base.specs.declared.request.Shown.{Shown}
+use Rattle.bd_base.specs.declared.request.Status.TheVariants.{Success, Failed}
+use Rattle.bd_msg.specs.Purse.{without}
+use Rattle.bd_machine.specs.declared.state.Id.{Id}
+use Rattle.bd_machine.specs.declared.state.Id.TheVariants as ids
+use Rattle.bd_machine.specs.declared.state.Kept.{Kept}
+use Rattle.bd_machine.specs.declared.state.Open.{Open}
+use Rattle.bd_machine.specs.declared.state.OpenPiece.{OpenPiece}
+use Rattle.bd_machine.specs.declared.state.OpenRequest.{OpenRequest}
+use Rattle.bd_machine.specs.Completion.{as_piece, data_of, is_faulted, is_held_progress}
+use Rattle.bd_machine.specs.Effect.{is_read}
+use Rattle.bd_machine.specs.Same.{same_id, same_request}
+use Rattle.bd_thread.specs.declared.completion.Ending.{Ending}
+use Rattle.bd_thread.specs.declared.links.Links.{Links}
+use Rattle.bd_thread.specs.declared.thread.Thread.{Thread}
+use Rattle.bd_thread.specs.Cuts.{request_in}
+use Rattle.bd_thread.specs.Seen.{here_in, longer}
+
+-- ---- the pieces
+
+-- what is here of a piece
+abbrev pub piece_in : List (Id × Kept) → ReqId → ℕ → Option OpenPiece
+piece_in held req k = as_piece (here_in held (ids.Piece req k))
+
+-- the first n pieces of a request, as far as they are here
+abbrev pub pieces_in : List (Id × Kept) → ReqId → ℕ → List (Option OpenPiece)
+pieces_in held req n = map (piece_in held req) (range_with_len 0 n)
+
+-- it is back, with its end
+abbrev pub is_ended : Option OpenPiece → Bool
+is_ended None = false
+is_ended (Some p) = is_held_progress p.progress && is_some p.end
+
+-- ---- how it completes
+
+-- the first 8 bytes and the digest, where there are as many
+abbrev pub shown_by : List ℕ → Option Shown
+shown_by bytes = cond (nat_le 8 (length bytes)) (Some (record { first = take 8 bytes; digest = sha256 bytes })) None
+
+abbrev pub shown_of : Option (List ℕ) → Option Shown
+shown_of None = None
+shown_of (Some bytes) = shown_by bytes
+
+abbrev pub read_as : ℕ → Option Shown → Option Ending
+read_as n None = None
+read_as n (Some shown) = Some (record { pieces = n; status = Success; shown = Some shown })
+
+-- a read shows its data; all else shows nothing
+abbrev pub succeeds : OpenRequest → ℕ → List (Option OpenPiece) → Option Ending
+succeeds r n pieces = cond (is_read r.op) (read_as n (shown_of (data_of pieces))) (Some (record { pieces = n; status = Success; shown = None }))
+
+-- failed where a piece has a fault
+abbrev pub ends_by : OpenRequest → ℕ → List (Option OpenPiece) → Option Ending
+ends_by r n pieces = cond (list_any is_faulted pieces) (Some (record { pieces = n; status = Failed; shown = None })) (succeeds r n pieces)
+
+abbrev pub ending_cut : List (Id × Kept) → ReqId → OpenRequest → Option ℕ → Option Ending
+ending_cut held req r None = None
+ending_cut held req r (Some n) = cond (list_all is_ended (pieces_in held req n)) (ends_by r n (pieces_in held req n)) None
+
+abbrev pub ending_in : ℕ → List (Id × Kept) → ReqId → Option OpenRequest → Option Ending
+ending_in me held req None = None
+ending_in me held req (Some r) = cond (req.thread == me) (ending_cut held req r r.pieces) None
+
+-- how a request completes that is here on its own thread and cut, where every piece of it is back with its end; a read with success only where it has 8 bytes to show
+abbrev pub ending_of : ℕ → List (Id × Kept) → ReqId → Option Ending
+ending_of me held req = ending_in me held req (request_in held req)
+
+-- ---- what it leaves
+
+-- these pieces of a request are no longer here
+abbrev pub gone : ReqId → List ℕ → (Id → Option Kept) → Id → Option Kept
+gone req [] here = here
+gone req (k ∷ ks) here = gone req ks (λ j. cond (same_id (ids.Piece req k) j) None (here j))
+
+-- nor is the request
+abbrev pub ended : ReqId → ℕ → (Id → Option Kept) → Id → Option Kept
+ended req n here = gone req (range_with_len 0 n) (λ j. cond (same_id (ids.Request req) j) None (here j))
+
+-- the open requests without one
+abbrev pub without_open : ReqId → List Open → List Open
+without_open req requests = filter (λ r. not (same_request r.id req)) requests
+
+-- the request completed so: it is no longer open, its pieces are gone and its ticket is spent, and the entry says so
+pub record IsCompleted (req : ReqId) (ending : Ending) (old : Thread) (before : Links) (new : Thread) (after : Links) : Type 0 where
+  pub part : new.part ≡ record old.part { requests = without_open req old.part.requests }
+  pub held : here_in new.held.items ≡ ended req ending.pieces (here_in old.held.items)
+  pub tickets : new.purse.ids ≡ without req old.purse.ids
+  pub thread : new ≡ record old { part = new.part; held = new.held; purse = new.purse }
+  pub links : after ≡ record before { entries = longer old.me before.entries (acts.Complete req ending.status ending.shown) }
+
+abbrev pub CompletesBy : ReqId → Thread → Links → Thread → Links → Bool → Option Ending → Type 0
+CompletesBy req old before new after done None = (done ≡ false) × (new ≡ old) × (after ≡ before)
+CompletesBy req old before new after done (Some ending) = (done ≡ true) × IsCompleted req ending old before new after
+
+-- it completes where it may; else nothing changes
+abbrev pub Completes : ReqId → Thread → Links → Thread → Links → Bool → Type 0
+Completes req old before new after done = CompletesBy req old before new after done (ending_of old.me old.held.items req)
