@@ -51,17 +51,6 @@ fn next_ticket(thread: u32, next: u64) -> Option<Ticket>
     Some(mint.issue())
 }
 
-// STUBS
-impl<'a> Thread<'a> {
-    fn complete(&mut self, links: &mut Links, req: ReqId) -> Result<bool, OutOfMemory>
-        requires { self.old.me < vec_len links.old.queues }
-        ensures acted { OnOk result (Acted self.old links.old self.new links.new) }
-    {
-        Err(OutOfMemory)
-    }
-}
-// END STUBS
-
 impl<'a> Thread<'a> {
     // Submits through a handle, and cuts what was accepted.
     fn submit_through(
