@@ -62,8 +62,8 @@ module _ (setup : Setup) (me : ℕ) (part : Part) (here : Id → Option Kept) (r
     still = refl;
     allowed = subst (λ (s : Bool). refusal_local setup me (old_local s) (entry_at me (stamp + 1) (acts.Script number outcome)) ≡ None) (sym unshut) line_allowed;
     leads =
-      subst (λ (s : Bool). local_after setup me (old_local s) (entry_at me (stamp + 1) (acts.Script number outcome)) ≡ local_at me (after_line (Some job)) here registry s (stamp + 1) queues) (sym unshut) line_leads
-      ∙ ap (λ (p : Part). local_at me p here registry shut (stamp + 1) queues) (sym is);
+        subst (λ (s : Bool). local_after setup me (old_local s) (entry_at me (stamp + 1) (acts.Script number outcome)) ≡ local_at me (after_line (Some job)) here registry s (stamp + 1) queues) (sym unshut) line_leads
+        ∙ ap (λ (p : Part). local_at me p here registry shut (stamp + 1) queues) (sym is);
   }
 
 pub length-longer : (n : ℕ) (es : List Entry) (act : Act) → length (longer n es act) ≡ length es + 1

@@ -20,3 +20,4 @@ pub mod Joined
 pub mod Spliced
 pub mod FirstByte
 pub mod Destructs
+pub mod Starting

@@ -97,10 +97,10 @@ event_acted t before new after event answer decided registry new-is after-is reg
     let q : Links = record before { registry = registry; entries = longer t.me before.entries act } in
     let stepped = event_steps t.setup.now t.me t.part here before.registry before.shut (length before.entries) queues event answer built given self asks in
     let ends : local_at t.me (record t.part { decided = cond before.shut t.part.decided (decision_of answer) }) here (registry_after before.registry t.me (Some (record { event = event; answer = answer }))) before.shut (length before.entries + 1) queues ≡ local p q =
-      ap (λ (o : Option Decided). local_at t.me (record t.part { decided = o }) here (registry_after before.registry t.me (Some (record { event = event; answer = answer }))) before.shut (length before.entries + 1) queues)
-      (ap (λ b. cond b t.part.decided (decision_of answer)) unshut ∙ decision)
-      ∙ ap (λ (r : Registry). local_at t.me p.part here r before.shut (length before.entries + 1) queues) (sym registry-is)
-      ∙ ap (λ (n : ℕ). local_at t.me p.part here registry before.shut n queues) (sym (length-longer t.me before.entries act)) in
+    ap (λ (o : Option Decided). local_at t.me (record t.part { decided = o }) here (registry_after before.registry t.me (Some (record { event = event; answer = answer }))) before.shut (length before.entries + 1) queues)
+    (ap (λ b. cond b t.part.decided (decision_of answer)) unshut ∙ decision)
+    ∙ ap (λ (r : Registry). local_at t.me p.part here r before.shut (length before.entries + 1) queues) (sym registry-is)
+    ∙ ap (λ (n : ℕ). local_at t.me p.part here registry before.shut n queues) (sym (length-longer t.me before.entries act)) in
     subst (λ (n : Thread). Acted t before n after) (sym new-is)
     (subst (λ (l : Links). Acted t before p l) (sym after-is)
     (acted_step t before p q act refl refl refl refl (subst (Steps t.setup.now t.me (local t before) act) ends stepped)))

@@ -9,3 +9,4 @@ pub mod Next
 pub mod Requests
 pub mod Destructs
 pub mod Moves
+pub mod Starts

@@ -195,7 +195,12 @@ impl<'a> Thread<'a> {
         let event = RegEvent::Close { handle: id };
         match close_refusal(links.registry.handles.as_slice(), self.me, id) {
             Some(errno) => {
-                self.decide(links, event, Answer::Refused(errno), Decided::Refused(errno))?
+                self.decide(
+                    links,
+                    event,
+                    Answer::Refused(errno),
+                    Decided::Refused(errno),
+                )?
             }
             None => {
                 release(self.alloc, &mut links.registry, self.me, id);

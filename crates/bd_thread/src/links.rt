@@ -1,6 +1,7 @@
 //! What the threads share: a queue of messages to each, the registry, and the list of entries.
-ghost use Rattle.std.specs.Prelude.{◌≡◌, ◌<◌, ◌∷◌, [], ◌++◌, OnOk, length, IfSome, IfNone, vec_len};
+ghost use Rattle.std.specs.Prelude.{◌≡◌, ◌<◌, ◌∷◌, [], ◌++◌, IfOk, OnOk, length, IfSome, IfNone, vec_len};
 ghost use Rattle.bd_thread.specs.Seen.{longer, queues_of, IsFirst, Pushed, Popped};
+ghost use Rattle.bd_thread.specs.Starts.{IsNewLinks, empty_queues};
 
 use bd_base::{Act, Entry, OutOfMemory, Rows};
 use bd_machine::Registry;
@@ -76,6 +77,37 @@ pub struct Links {
     pub entries: Rows<Entry>,
     /// Whether a Shutdown stands.
     pub shut: bool,
+}
+
+impl Links {
+    /// What the threads share before any entry: an empty queue for each.
+    pub fn new(alloc: Global, threads: u32) -> Result<Links, OutOfMemory>
+        ensures { IfOk result (λ links. IsNewLinks threads links) }
+    {
+        let queues = empty_queues(alloc, threads)?;
+        let registry = Registry {
+            handles: Rows::new(alloc),
+            next: 0,
+        };
+        Ok(Links {
+            queues,
+            registry,
+            entries: Rows::new(alloc),
+            shut: false,
+        })
+    }
+}
+
+// So many empty queues.
+#[tactic(auto, using(crate::proofs::Starting::zeros_next))]
+fn empty_queues(alloc: Global, threads: u32) -> Result<Vec<Queue>, OutOfMemory>
+    ensures { IfOk result (λ queues. queues.items ≡ empty_queues threads) }
+{
+    let mut queues = Vec::new(alloc);
+    for k in 0..threads {
+        queues.push(Queue::new(alloc))?;
+    }
+    Ok(queues)
 }
 
 /// Takes the first message to the thread.

@@ -218,7 +218,12 @@ impl<'a> Thread<'a> {
     }
 
     // Cuts a request that may be cut.
-    fn cut_into(&mut self, links: &mut Links, req: ReqId, r: OpenRequest) -> Result<u32, OutOfMemory>
+    fn cut_into(
+        &mut self,
+        links: &mut Links,
+        req: ReqId,
+        r: OpenRequest,
+    ) -> Result<u32, OutOfMemory>
         requires here { request_in self.old.held.items req ≡ Some r }
         requires may { may_cut self.old.me req (Some r) ≡ true }
         ensures acted { OnOk result (Acted self.old links.old self.new links.new) }

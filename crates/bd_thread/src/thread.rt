@@ -1,6 +1,10 @@
 //! A thread: what it holds.
+ghost use Rattle.std.specs.Prelude.{IfOk};
+ghost use Rattle.bd_thread.specs.Requests.{KeepsTickets};
+ghost use Rattle.bd_thread.specs.Starts.{IsNew};
 
-use bd_base::{Setup, Token};
+use crate::start::part_at_start;
+use bd_base::{OutOfMemory, Setup, Token};
 use bd_machine::{Id, Kept, Part};
 use bd_msg::Purse;
 use std::alloc::Global;
@@ -18,4 +22,38 @@ pub struct Thread<'a> {
     pub(crate) outbox: VecDeque<(u32, Token)>,
     // the tickets of its open requests
     pub(crate) purse: Purse,
+}
+
+impl<'a> Thread<'a> {
+    /// Thread number `me` before any entry: the malloc devices whose home it is have zeros, and of
+    /// its disks nothing is told.
+    pub fn new(alloc: Global, me: u32, setup: &'a Setup) -> Result<Thread<'a>, OutOfMemory>
+        ensures new { IfOk result (IsNew me setup.now) }
+        ensures tickets { IfOk result (λ t. KeepsTickets t) }
+    {
+        let part = part_at_start(alloc, setup, me)?;
+        Ok(Thread {
+            alloc,
+            me,
+            setup,
+            part,
+            held: Vec::new(alloc),
+            outbox: VecDeque::new(alloc),
+            purse: Purse::new(alloc),
+        })
+    }
+
+    /// Abandons every ticket, where the run halts.
+    pub fn abandon(self) {
+        let Thread {
+            alloc: _,
+            me: _,
+            setup: _,
+            part: _,
+            held: _,
+            outbox: _,
+            purse,
+        } = self;
+        purse.abandon();
+    }
 }

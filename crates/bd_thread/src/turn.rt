@@ -155,8 +155,7 @@ impl<'a> Thread<'a> {
             return Ok(false);
         };
         if let Id::Piece(req, k) = id {
-            self.outbox
-                .push_back((req.thread, Token::Piece(req, k)))?;
+            self.outbox.push_back((req.thread, Token::Piece(req, k)))?;
         }
         Ok(true)
     }

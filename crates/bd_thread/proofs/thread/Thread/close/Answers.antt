@@ -22,15 +22,15 @@ returns-in_ok-decide-in-Some-close_refusal c =
     let errno = c.in-Some-close_refusal.errno in
     record {
       acted = event_acted t links c.decide.new.self c.decide.new.links (events.Close c.in-Some.id) (answers.Refused errno) (decisions.Refused errno) links.registry
-        c.in_ok-decide-in-Some-close_refusal.ensures.thread
-        c.in_ok-decide-in-Some-close_refusal.ensures.links
-        refl c.if-links.false refl refl
-        (ap Some (ap (λ (hs : List Handle). close_answer t.me (handle_of hs c.in-Some.id)) (sym c.as_slice.ensures) ∙ c.close_refusal.ensures ∙ ap close_answer_by c.in-Some-close_refusal.is))
-        (eq-eqb (number_of errno) (number_of errno) refl)
-        (and_from (open_on t.part c.in-Some.id == 0) (cond links.shut (is_some (handle_of (filter (is_of t.me) links.registry.handles) c.in-Some.id)) (is_job_close t.part c.in-Some.id (undecided_job t.setup.now t.me t.part)))
-        (eq-eqb (open_on t.part c.in-Some.id) 0 (sym c.open_on.ensures ∙ c.if-open_on-ne0.false))
-        (ap (λ b. cond b (is_some (handle_of (filter (is_of t.me) links.registry.handles) c.in-Some.id)) (is_job_close t.part c.in-Some.id (undecided_job t.setup.now t.me t.part))) c.if-links.false
-        ∙ asks_close t.part c.in-Some-Close.handle c.in-Some.id (undecided_job t.setup.now t.me t.part) job (sym c.bound_to.ensures ∙ c.in-Some.is)));
+          c.in_ok-decide-in-Some-close_refusal.ensures.thread
+          c.in_ok-decide-in-Some-close_refusal.ensures.links
+          refl c.if-links.false refl refl
+          (ap Some (ap (λ (hs : List Handle). close_answer t.me (handle_of hs c.in-Some.id)) (sym c.as_slice.ensures) ∙ c.close_refusal.ensures ∙ ap close_answer_by c.in-Some-close_refusal.is))
+          (eq-eqb (number_of errno) (number_of errno) refl)
+          (and_from (open_on t.part c.in-Some.id == 0) (cond links.shut (is_some (handle_of (filter (is_of t.me) links.registry.handles) c.in-Some.id)) (is_job_close t.part c.in-Some.id (undecided_job t.setup.now t.me t.part)))
+          (eq-eqb (open_on t.part c.in-Some.id) 0 (sym c.open_on.ensures ∙ c.if-open_on-ne0.false))
+          (ap (λ b. cond b (is_some (handle_of (filter (is_of t.me) links.registry.handles) c.in-Some.id)) (is_job_close t.part c.in-Some.id (undecided_job t.setup.now t.me t.part))) c.if-links.false
+          ∙ asks_close t.part c.in-Some-Close.handle c.in-Some.id (undecided_job t.setup.now t.me t.part) job (sym c.bound_to.ensures ∙ c.in-Some.is)));
     }
 
 pub returns-in_ok-decide-in-None : goal.returns-in_ok-decide-in-None
@@ -40,13 +40,13 @@ returns-in_ok-decide-in-None c =
     let job = sym c.undecided_job.ensures ∙ ap option_copied c.in-Some-Close.is ∙ ap Some c.in-Some-Close.field-0-is in
     record {
       acted = event_acted t links c.decide-in-None.new.self c.decide-in-None.new.links (events.Close c.in-Some.id) (answers.Closed None) decisions.Closed c.release.new.registry
-        c.in_ok-decide-in-None.ensures.thread
-        c.in_ok-decide-in-None.ensures.links
-        c.release.ensures c.if-links.false refl refl
-        (ap Some (ap (λ (hs : List Handle). close_answer t.me (handle_of hs c.in-Some.id)) (sym c.as_slice.ensures) ∙ c.close_refusal.ensures ∙ ap close_answer_by c.in-None.is))
-        refl
-        (and_from (open_on t.part c.in-Some.id == 0) (cond links.shut (is_some (handle_of (filter (is_of t.me) links.registry.handles) c.in-Some.id)) (is_job_close t.part c.in-Some.id (undecided_job t.setup.now t.me t.part)))
-        (eq-eqb (open_on t.part c.in-Some.id) 0 (sym c.open_on.ensures ∙ c.if-open_on-ne0.false))
-        (ap (λ b. cond b (is_some (handle_of (filter (is_of t.me) links.registry.handles) c.in-Some.id)) (is_job_close t.part c.in-Some.id (undecided_job t.setup.now t.me t.part))) c.if-links.false
-        ∙ asks_close t.part c.in-Some-Close.handle c.in-Some.id (undecided_job t.setup.now t.me t.part) job (sym c.bound_to.ensures ∙ c.in-Some.is)));
+          c.in_ok-decide-in-None.ensures.thread
+          c.in_ok-decide-in-None.ensures.links
+          c.release.ensures c.if-links.false refl refl
+          (ap Some (ap (λ (hs : List Handle). close_answer t.me (handle_of hs c.in-Some.id)) (sym c.as_slice.ensures) ∙ c.close_refusal.ensures ∙ ap close_answer_by c.in-None.is))
+          refl
+          (and_from (open_on t.part c.in-Some.id == 0) (cond links.shut (is_some (handle_of (filter (is_of t.me) links.registry.handles) c.in-Some.id)) (is_job_close t.part c.in-Some.id (undecided_job t.setup.now t.me t.part)))
+          (eq-eqb (open_on t.part c.in-Some.id) 0 (sym c.open_on.ensures ∙ c.if-open_on-ne0.false))
+          (ap (λ b. cond b (is_some (handle_of (filter (is_of t.me) links.registry.handles) c.in-Some.id)) (is_job_close t.part c.in-Some.id (undecided_job t.setup.now t.me t.part))) c.if-links.false
+          ∙ asks_close t.part c.in-Some-Close.handle c.in-Some.id (undecided_job t.setup.now t.me t.part) job (sym c.bound_to.ensures ∙ c.in-Some.is)));
     }

@@ -26,13 +26,13 @@ returns-in_default-device_named c =
     let logged : List ℕ → Links = λ name. record links { entries = longer t.me links.entries (acts.Reg (events.Open name c.in-Some-Open.write) answer) } in
     record {
       acted = event_acted t links c.decide.new.self c.decide.new.links event answer (decisions.Refused NoDev) links.registry
-        c.in_ok-decide.ensures.thread
-        (c.in_ok-decide.ensures.links ∙ ap logged c.in_ok-copy.ensures)
-        refl c.if-links.false refl refl
-        (ap (λ (o : Option ℕ). Some (open_answer links.registry o)) (sym c.device_named.ensures ∙ c.in_default-device_named.is))
-        refl
-        (and_from (not links.shut) (is_job_open t.part c.in-Some-Open.dev c.in-Some-Open.write (undecided_job t.setup.now t.me t.part)) (ap not c.if-links.false)
-        (asks_open t.part c.in-Some-Open.handle c.in-Some-Open.dev c.in-Some-Open.write (undecided_job t.setup.now t.me t.part) job free));
+          c.in_ok-decide.ensures.thread
+          (c.in_ok-decide.ensures.links ∙ ap logged c.in_ok-copy.ensures)
+          refl c.if-links.false refl refl
+          (ap (λ (o : Option ℕ). Some (open_answer links.registry o)) (sym c.device_named.ensures ∙ c.in_default-device_named.is))
+          refl
+          (and_from (not links.shut) (is_job_open t.part c.in-Some-Open.dev c.in-Some-Open.write (undecided_job t.setup.now t.me t.part)) (ap not c.if-links.false)
+          (asks_open t.part c.in-Some-Open.handle c.in-Some-Open.dev c.in-Some-Open.write (undecided_job t.setup.now t.me t.part) job free));
     }
 
 pub returns : goal.returns
@@ -48,11 +48,11 @@ returns c =
     let logged : List ℕ → Links = λ name. record links { registry = c.grant.new.registry; entries = longer t.me links.entries (acts.Reg (events.Open name c.in-Some-Open.write) answer) } in
     record {
       acted = event_acted t links c.decide-2.new.self c.decide-2.new.links event answer (decisions.Opened id) c.grant.new.registry
-        c.in_ok-decide-2.ensures.thread
-        (c.in_ok-decide-2.ensures.links ∙ ap logged c.in_ok-copy.ensures)
-        c.in_ok-grant.ensures c.if-links.false refl refl
-        (ap (λ (o : Option ℕ). Some (open_answer links.registry o)) (sym c.device_named.ensures ∙ c.in-Some.is ∙ ap Some (search rules)))
-        (and_from (links.registry.next == links.registry.next) (c.in-Ok.place == c.in-Ok.place) (eq-eqb links.registry.next links.registry.next refl) (eq-eqb c.in-Ok.place c.in-Ok.place refl))
-        (and_from (not links.shut) (is_job_open t.part c.in-Some-Open.dev c.in-Some-Open.write (undecided_job t.setup.now t.me t.part)) (ap not c.if-links.false)
-        (asks_open t.part c.in-Some-Open.handle c.in-Some-Open.dev c.in-Some-Open.write (undecided_job t.setup.now t.me t.part) job free));
+          c.in_ok-decide-2.ensures.thread
+          (c.in_ok-decide-2.ensures.links ∙ ap logged c.in_ok-copy.ensures)
+          c.in_ok-grant.ensures c.if-links.false refl refl
+          (ap (λ (o : Option ℕ). Some (open_answer links.registry o)) (sym c.device_named.ensures ∙ c.in-Some.is ∙ ap Some (search rules)))
+          (and_from (links.registry.next == links.registry.next) (c.in-Ok.place == c.in-Ok.place) (eq-eqb links.registry.next links.registry.next refl) (eq-eqb c.in-Ok.place c.in-Ok.place refl))
+          (and_from (not links.shut) (is_job_open t.part c.in-Some-Open.dev c.in-Some-Open.write (undecided_job t.setup.now t.me t.part)) (ap not c.if-links.false)
+          (asks_open t.part c.in-Some-Open.handle c.in-Some-Open.dev c.in-Some-Open.write (undecided_job t.setup.now t.me t.part) job free));
     }

@@ -1,0 +1,38 @@
+-- Where a thread and the links begin.
+use Rattle.std.specs.Prelude.{◌≡◌, ℕ, false, List, [], replicate}
+use Rattle.bd_base.specs.declared.setup.Setup.{Setup}
+use Rattle.bd_machine.specs.Start.{part_at_start}
+use Rattle.bd_turns.specs.Laws.{view_at_start, shared_at_start}
+use Rattle.bd_turns.specs.Local.{Local}
+use Rattle.bd_turns.specs.declared.queue.Message.{Message}
+use Rattle.bd_thread.specs.declared.links.Links.{Links}
+use Rattle.bd_thread.specs.declared.thread.Thread.{Thread}
+use Rattle.bd_thread.specs.Seen.{local}
+
+-- so many queues without a message
+abbrev pub empty_queues : ℕ → List (List Message)
+empty_queues threads = replicate threads []
+
+-- an empty queue for each thread, no handle, no entry, and no Shutdown
+pub record IsNewLinks (threads : ℕ) (links : Links) : Type 0 where
+  pub queues : links.queues.items ≡ empty_queues threads
+  pub registry : links.registry ≡ record { handles = []; next = 0 }
+  pub entries : links.entries ≡ []
+  pub running : links.shut ≡ false
+
+-- it is thread number `me` of the setup with its part as it is at the start, holds no token, has nothing to put, and keeps no ticket
+pub record IsNew (me : ℕ) (setup : Setup) (t : Thread) : Type 0 where
+  pub own : t.me ≡ me
+  pub given : t.setup.now ≡ setup
+  pub part : t.part ≡ part_at_start setup [] me
+  pub held : t.held.items ≡ []
+  pub outbox : t.outbox.items ≡ []
+  pub tickets : t.purse.ids ≡ []
+
+-- what a thread sees before any entry, with nothing told of its disks, and what is shared then
+abbrev pub local_at_start : Setup → ℕ → Local
+local_at_start setup t = record { view = view_at_start setup [] t; shared = shared_at_start }
+
+-- a new thread with new links sees what the machine's thread sees at the start
+abbrev pub NewIsAtStart : Type 0
+NewIsAtStart = (threads me : ℕ) (setup : Setup) (t : Thread) (links : Links) → IsNew me setup t → IsNewLinks threads links → local t links ≡ local_at_start setup me

@@ -1,0 +1,8 @@
+//! Laws of threads. Each function says one of them: its body is empty, and its clause is the law,
+//! which the definitions alone prove.
+ghost use Rattle.bd_thread.specs.Starts.{NewIsAtStart};
+
+/// A new thread with new links sees what the machine's thread sees before any entry.
+pub fn new_is_at_start()
+    ensures { NewIsAtStart }
+{}
