@@ -1,5 +1,5 @@
 -- Complete, by the local rules.
-use Rattle.std.proofs.Common.{◌≡◌, ℕ, suc, zero, ◌+◌, Bool, true, false, not, cond, ◌&&◌, ◌||◌, ◌==◌, nat_eq, nat_le, List, [], ◌∷◌, length, filter, map, take, Option, Some, None, is_some, is_none, unwrap_or, refl, sym, ◌∙◌, ap, ap₂, subst, eq-eqb}
+use Rattle.std.proofs.Common.{◌≡◌, ℕ, suc, zero, ◌+◌, Bool, true, false, cond, ◌&&◌, ◌||◌, ◌==◌, nat_eq, nat_le, List, [], ◌∷◌, length, map, take, Option, Some, None, is_some, unwrap_or, refl, sym, ◌∙◌, ap, ap₂, subst, eq-eqb}
 use Rattle.std.specs.List.{list_all, list_any, range_with_len}
 use Rattle.std.specs.Cmp.Lexicographic.{pointwise}
 use Rattle.std.proofs.lemmas.Bool.{and_from, and_parts}
@@ -15,16 +15,15 @@ use Rattle.bd_base.specs.declared.setup.Setup.{Setup}
 use Rattle.bd_machine.specs.declared.state.Id.{Id}
 use Rattle.bd_machine.specs.declared.state.Id.TheVariants as ids
 use Rattle.bd_machine.specs.declared.state.Kept.{Kept}
-use Rattle.bd_machine.specs.declared.state.Kept.TheVariants as keeps
 use Rattle.bd_machine.specs.declared.state.OpenPiece.{OpenPiece}
 use Rattle.bd_machine.specs.declared.state.OpenRequest.{OpenRequest}
 use Rattle.bd_machine.specs.declared.state.Part.{Part}
 use Rattle.bd_machine.specs.declared.state.Registry.{Registry}
 use Rattle.bd_machine.specs.Alone.{held_after}
-use Rattle.bd_machine.specs.Completion.{as_request, data_of, is_back, is_done, is_faulted, is_held_progress, is_shown, may_show, status_due}
+use Rattle.bd_machine.specs.Completion.{data_of, is_back, is_done, is_faulted, is_held_progress, is_shown, may_show, status_due}
 use Rattle.bd_machine.specs.Effect.{is_read}
 use Rattle.bd_machine.specs.Requests.{closed_with, may_complete, is_status_due, is_shown_due, pieces_closed}
-use Rattle.bd_machine.specs.Same.{is_the, same_id, same_request, same_status}
+use Rattle.bd_machine.specs.Same.{is_the, same_id, same_status}
 use Rattle.bd_machine.specs.View.{View}
 use Rattle.bd_turns.specs.declared.queue.Message.{Message}
 use Rattle.bd_turns.specs.Local.{Local}

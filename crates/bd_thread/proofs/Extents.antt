@@ -1,5 +1,5 @@
 -- Where a request is cut, where no device stands on another.
-use Rattle.std.proofs.Common.{◌≡◌, ℕ, ◌+◌, ◌-◌, ◌<◌, ◌==◌, Bool, true, false, cond, List, [], ◌∷◌, ◌++◌, filter, eq-eqb, sym, ◌∙◌, ap, refl, arith}
+use Rattle.std.proofs.Common.{◌≡◌, ℕ, ◌+◌, ◌-◌, ◌<◌, ◌==◌, Bool, true, false, cond, List, [], ◌∷◌, ◌++◌, filter, eq-eqb, sym, ◌∙◌, ap, arith}
 use Rattle.bd_machine.specs.declared.state.Extent.{Extent}
 use Rattle.bd_machine.specs.Pieces.{extents_between}
 use Rattle.bd_thread.proofs.Moving.{moved_on}

@@ -1,9 +1,7 @@
 -- An event of the registry, by the local rules.
-use Rattle.std.proofs.Common.{◌≡◌, ℕ, ◌+◌, Bool, true, false, not, cond, ◌&&◌, ◌||◌, ◌==◌, nat_eq, List, [], ◌∷◌, ◌++◌, length, filter, Option, Some, None, is_none, is_some, refl, sym, ◌∙◌, ap, subst, eq-eqb}
-use Rattle.std.specs.Option.{option_map}
+use Rattle.std.proofs.Common.{◌≡◌, ℕ, ◌+◌, Bool, true, false, cond, ◌&&◌, ◌||◌, nat_eq, List, [], ◌∷◌, length, Option, Some, None, is_none, is_some, refl, sym, ◌∙◌, ap, subst, eq-eqb}
 use Rattle.std.specs.Bool.{beq}
 use Rattle.std.proofs.lemmas.Bool.{and_from}
-use Rattle.bd_base.specs.Errno.{number_of}
 use Rattle.bd_base.specs.Name.{same_name}
 use Rattle.bd_base.specs.declared.act.Act.TheVariants as acts
 use Rattle.bd_base.specs.declared.act.Act.{Act}
@@ -12,11 +10,8 @@ use Rattle.bd_base.specs.declared.job.Job.{Job}
 use Rattle.bd_base.specs.declared.job.Job.TheVariants as jobs
 use Rattle.std.specs.Cmp.Lexicographic.{pointwise}
 use Rattle.bd_base.specs.declared.event.Answer.{Answer}
-use Rattle.bd_base.specs.declared.event.Answer.TheVariants as answers
 use Rattle.bd_base.specs.declared.event.RegEvent.{RegEvent}
-use Rattle.bd_base.specs.declared.event.RegEvent.TheVariants as events
 use Rattle.bd_base.specs.declared.setup.Setup.{Setup}
-use Rattle.bd_machine.specs.declared.guard.TheConstants.{REGISTRY_ANSWER, EVENT_ASKED, IN_ORDER}
 use Rattle.bd_machine.specs.declared.state.Decided.{Decided}
 use Rattle.bd_machine.specs.declared.state.Id.{Id}
 use Rattle.bd_machine.specs.declared.state.Kept.{Kept}
@@ -25,9 +20,8 @@ use Rattle.bd_machine.specs.declared.state.Registry.{Registry}
 use Rattle.bd_machine.specs.Asked.{asks_event, bound_to, is_job_open, is_job_close}
 use Rattle.bd_machine.specs.Events.{decision_of}
 use Rattle.bd_machine.specs.Guards.{is_built}
-use Rattle.bd_machine.specs.Registry.{answer_to, registry_after, handles_after}
+use Rattle.bd_machine.specs.Registry.{answer_to, registry_after}
 use Rattle.bd_machine.specs.Same.{same_answer, same_handle, is_the}
-use Rattle.bd_machine.specs.View.{is_of}
 use Rattle.bd_turns.specs.declared.queue.Message.{Message}
 use Rattle.bd_turns.specs.Local.{Local, came_local}
 use Rattle.bd_thread.specs.declared.links.Links.{Links}

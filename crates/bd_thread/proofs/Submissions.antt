@@ -1,5 +1,5 @@
 -- Accept and Refuse, by the local rules.
-use Rattle.std.proofs.Common.{◌≡◌, ℕ, ◌+◌, ◌<◌, ◌≤◌, Bool, true, false, not, cond, ◌&&◌, ◌==◌, nat_lt, nat_le, List, [], ◌∷◌, ◌++◌, length, filter, vec_len, Option, Some, None, is_none, refl, sym, ◌∙◌, ap, subst, eq-eqb, lt-ltb, le-leb}
+use Rattle.std.proofs.Common.{◌≡◌, ℕ, ◌+◌, ◌<◌, ◌≤◌, Bool, true, false, not, cond, ◌&&◌, ◌==◌, nat_lt, nat_le, List, length, filter, vec_len, Option, Some, None, is_none, refl, sym, ◌∙◌, ap, subst, eq-eqb, lt-ltb, le-leb}
 use Rattle.std.proofs.lemmas.Bool.{and_from}
 use Rattle.std.proofs.lemmas.List.{length-append}
 use Rattle.bd_base.specs.Errno.{number_of}
@@ -28,7 +28,7 @@ use Rattle.bd_thread.specs.declared.admission.Asked.{Asked}
 use Rattle.bd_thread.specs.declared.links.Links.{Links}
 use Rattle.bd_thread.specs.declared.thread.Thread.{Thread}
 use Rattle.bd_thread.specs.Acted.{Acted}
-use Rattle.bd_thread.specs.Requests.{accept_act, accepted, refusal, refuse_act, uncut, view_of, IsAsked, IsFresh, IsOpened, IsRefused}
+use Rattle.bd_thread.specs.Requests.{accept_act, accepted, refusal, refuse_act, uncut, view_of, IsAsked, IsFresh, IsOpened}
 use Rattle.bd_thread.specs.Seen.{here_in, local, local_at, longer, queues_of}
 use Rattle.bd_thread.proofs.Going.{Steps, steps, still_shut, acted_step}
 

@@ -1,5 +1,5 @@
 -- The tickets of a thread's open requests.
-use Rattle.std.proofs.Common.{◌≡◌, ◌↔◌, ℕ, suc, ◌+◌, ◌<◌, ◌≤◌, Bool, true, false, cond, not, ◌&&◌, ◌||◌, ◌==◌, List, [], ◌∷◌, ◌++◌, filter, map, Option, Some, None, IsSome, OnSome, IfNone, Contains, refl, sym, ◌∙◌, ap, ap₂, subst, eqb-true, arith}
+use Rattle.std.proofs.Common.{◌≡◌, ◌↔◌, ℕ, suc, ◌+◌, ◌<◌, ◌≤◌, Bool, true, false, cond, not, ◌&&◌, ◌||◌, ◌==◌, List, [], ◌∷◌, ◌++◌, Option, Some, None, IsSome, OnSome, IfNone, Contains, refl, sym, ◌∙◌, ap, subst, eqb-true, arith}
 use Rattle.std.specs.List.{AllByRecursion, list_any}
 use Rattle.bd_base.specs.declared.id.DevId.{DevId}
 use Rattle.bd_base.specs.declared.id.HandleId.{HandleId}

@@ -1,5 +1,5 @@
 -- How a thread goes on.
-use Rattle.std.specs.Prelude.{◌≡◌, ℕ, List, ◌++◌, vec_len}
+use Rattle.std.specs.Prelude.{◌≡◌, List, ◌++◌, vec_len}
 use Rattle.bd_base.specs.declared.act.Entry.{Entry}
 use Rattle.bd_turns.specs.Local.{Leads}
 use Rattle.bd_thread.specs.declared.links.Links.{Links}

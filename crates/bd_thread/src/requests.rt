@@ -275,7 +275,11 @@ impl<'a> Thread<'a> {
         drop_request(&mut self.held, req, pieces);
         remove_open(self.alloc, &mut self.part.requests, req);
         spend(&mut self.purse, req, status);
-        add(&mut links.entries, self.me, Act::Complete { req, status, shown })?;
+        add(
+            &mut links.entries,
+            self.me,
+            Act::Complete { req, status, shown },
+        )?;
         Ok(())
     }
 }

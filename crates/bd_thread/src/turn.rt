@@ -22,7 +22,7 @@ const BATCH: u32 = 8;
 pub enum Turned {
     /// So many acts were made.
     Moved(usize),
-    /// No act was made: every message, piece and line of this thread waits for another thread.
+    /// No act was made.
     Quiet,
 }
 

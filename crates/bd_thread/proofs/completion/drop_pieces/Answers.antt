@@ -1,4 +1,4 @@
-use Rattle.std.proofs.Common.{◌≡◌, ◌<◌, arith}
+use Rattle.std.proofs.Common.{◌<◌, arith}
 use Rattle.bd_thread.proofs.Completing.{gone_step}
 use Rattle.bd_thread.proofs.Left.{left_from}
 use Rattle.bd_thread.proofs.completion.drop_pieces.Goals as goal

@@ -1,4 +1,4 @@
-use Rattle.std.proofs.Common.{◌≡◌, ◌∙◌, ap}
+use Rattle.std.proofs.Common.{◌∙◌, ap}
 use Rattle.std.specs.List.{range_with_len}
 use Rattle.bd_thread.specs.Completions.{gone}
 use Rattle.bd_thread.proofs.completion.drop_request.Goals as goal

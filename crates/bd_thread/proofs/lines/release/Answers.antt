@@ -1,4 +1,4 @@
-use Rattle.std.proofs.Common.{ℕ, List, not, filter, ◌∙◌, ap, rules}
+use Rattle.std.proofs.Common.{List, not, filter, ◌∙◌, ap, rules}
 use Rattle.std.proofs.lemmas.Fn.{filter_same}
 use Rattle.bd_machine.specs.declared.state.Handle.{Handle}
 use Rattle.bd_machine.specs.declared.state.Registry.{Registry}

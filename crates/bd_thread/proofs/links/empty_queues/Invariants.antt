@@ -1,4 +1,4 @@
-use Rattle.std.proofs.Common.{◌≡◌, ◌-◌, ◌++◌, [], replicate}
+use Rattle.std.proofs.Common.{◌≡◌, ◌-◌, ◌++◌}
 use Rattle.bd_thread.specs.Starts.{empty_queues}
 use Rattle.bd_thread.proofs.links.empty_queues.Given as goal
 

@@ -1,4 +1,4 @@
-use Rattle.std.proofs.Common.{◌≡◌, ◌+◌, ◌-◌, ◌<◌, ◌≤◌, ◌++◌, filter}
+use Rattle.std.proofs.Common.{◌≡◌, ◌+◌, ◌-◌, ◌<◌, ◌++◌, filter}
 use Rattle.std.specs.List.{range_with_len}
 use Rattle.bd_machine.specs.Pieces.{extents, extents_between, is_cut_at}
 use Rattle.bd_thread.proofs.pieces.extents.Given as goal

@@ -1,4 +1,3 @@
-use Rattle.std.proofs.Common.{◌≡◌}
 use Rattle.std.proofs.lemmas.List.{drop_more}
 use Rattle.bd_thread.proofs.Cutting.{hold_step}
 use Rattle.bd_thread.proofs.pieces.hold_pieces.Goals as goal

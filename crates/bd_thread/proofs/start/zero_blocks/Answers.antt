@@ -1,4 +1,4 @@
-use Rattle.std.proofs.Common.{◌≡◌, ℕ, ◌+◌, ◌-◌, ◌<◌, List, [], ◌∷◌, ◌++◌, replicate, ◌∙◌, ap, arith}
+use Rattle.std.proofs.Common.{ℕ, ◌+◌, ◌-◌, ◌<◌, List, [], ◌∷◌, ◌++◌, replicate, ◌∙◌, ap, arith}
 use Rattle.bd_machine.specs.Effect.{zero_blocks}
 use Rattle.bd_thread.proofs.Moving.{moved_on}
 use Rattle.bd_thread.proofs.Starting.{zeros_next}

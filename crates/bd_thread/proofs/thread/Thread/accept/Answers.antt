@@ -1,7 +1,7 @@
-use Rattle.std.proofs.Common.{◌≡◌, ◌<◌, ◌++◌, ◌∷◌, [], List, length, sym, ◌∙◌, ap, subst, arith}
+use Rattle.std.proofs.Common.{◌<◌, ◌++◌, ◌∷◌, [], List, length, sym, ◌∙◌, ap, subst, arith}
 use Rattle.bd_base.specs.declared.id.ReqId.{ReqId}
 use Rattle.bd_machine.specs.Asked.{most_requests}
-use Rattle.bd_thread.specs.Requests.{IsFresh, IsOpened}
+use Rattle.bd_thread.specs.Requests.{IsFresh}
 use Rattle.bd_thread.proofs.Submissions.{opened_acted, opened_keeping}
 use Rattle.bd_thread.proofs.Tickets.{accepted_tickets}
 use Rattle.bd_thread.proofs.thread.Thread.accept.Goals as goal

@@ -1,4 +1,4 @@
-use Rattle.std.proofs.Common.{◌≡◌, ℕ, List, Option, Some, None, true, false, not, ◌&&◌, refl, sym, ◌∙◌, ◌==◌, cond, filter, ap, eq-eqb}
+use Rattle.std.proofs.Common.{List, Some, None, refl, sym, ◌∙◌, ◌==◌, cond, filter, ap, eq-eqb}
 use Rattle.std.specs.Option.{option_copied, is_some}
 use Rattle.std.proofs.lemmas.Bool.{and_from}
 use Rattle.bd_base.specs.Errno.{number_of}
@@ -6,9 +6,8 @@ use Rattle.bd_base.specs.declared.event.Answer.TheVariants as answers
 use Rattle.bd_base.specs.declared.event.RegEvent.TheVariants as events
 use Rattle.bd_machine.specs.declared.state.Decided.TheVariants as decisions
 use Rattle.bd_machine.specs.declared.state.Handle.{Handle}
-use Rattle.bd_machine.specs.declared.state.Registry.{Registry}
 use Rattle.bd_machine.specs.Asked.{is_job_close, open_on, undecided_job}
-use Rattle.bd_machine.specs.Registry.{close_answer, handle_of, is_own}
+use Rattle.bd_machine.specs.Registry.{close_answer, handle_of}
 use Rattle.bd_machine.specs.View.{is_of}
 use Rattle.bd_thread.specs.Lines.{close_answer_by}
 use Rattle.bd_thread.proofs.Registering.{asks_close, event_acted}

@@ -1,4 +1,4 @@
-use Rattle.std.proofs.Common.{◌≡◌, ◌∙◌, List, length, refl, ap, rules}
+use Rattle.std.proofs.Common.{◌∙◌, List, length, refl, ap, rules}
 use Rattle.bd_machine.specs.declared.state.Extent.{Extent}
 use Rattle.bd_thread.specs.Cuts.{IsCut}
 use Rattle.bd_thread.specs.declared.links.Links.{Links}

@@ -1,7 +1,6 @@
-use Rattle.std.proofs.Common.{◌≡◌, ℕ, false, List, refl, sym, ◌∙◌, ap, subst, length}
+use Rattle.std.proofs.Common.{ℕ, refl, sym, ◌∙◌, ap, subst, length}
 use Rattle.std.specs.Option.{option_copied}
 use Rattle.bd_base.specs.declared.act.Act.TheVariants as acts
-use Rattle.bd_turns.specs.Local.{Local}
 use Rattle.bd_thread.specs.Seen.{here_in, local_at, queues_of}
 use Rattle.bd_thread.proofs.Ends.{line_steps, length-longer}
 use Rattle.bd_thread.proofs.Going.{Steps, acted_step}

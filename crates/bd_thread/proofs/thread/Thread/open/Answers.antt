@@ -1,4 +1,4 @@
-use Rattle.std.proofs.Common.{◌≡◌, ℕ, List, Option, Some, None, true, false, not, ◌&&◌, refl, sym, ◌∙◌, ◌==◌, ap, eq-eqb, rules}
+use Rattle.std.proofs.Common.{ℕ, List, Option, Some, not, refl, sym, ◌∙◌, ◌==◌, ap, eq-eqb, rules}
 use Rattle.std.specs.Option.{option_copied, is_some}
 use Rattle.std.proofs.lemmas.Bool.{and_from}
 use Rattle.bd_base.specs.declared.act.Act.TheVariants as acts

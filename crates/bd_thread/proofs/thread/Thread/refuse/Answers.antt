@@ -1,6 +1,6 @@
 use Rattle.std.proofs.Common.{◌≡◌, refl, ap}
 use Rattle.bd_thread.specs.declared.links.Links.{Links}
-use Rattle.bd_thread.specs.Requests.{refuse_act, IsRefused}
+use Rattle.bd_thread.specs.Requests.{refuse_act}
 use Rattle.bd_thread.specs.Seen.{longer}
 use Rattle.bd_thread.proofs.Submissions.{refused_acted}
 use Rattle.bd_thread.proofs.thread.Thread.refuse.Goals as goal

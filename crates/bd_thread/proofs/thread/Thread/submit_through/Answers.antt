@@ -1,4 +1,4 @@
-use Rattle.std.proofs.Common.{◌≡◌, ℕ, ◌≤◌, sym, subst, le_refl}
+use Rattle.std.proofs.Common.{ℕ, ◌≤◌, sym, subst, le_refl}
 use Rattle.bd_base.specs.declared.id.ReqId.{ReqId}
 use Rattle.bd_thread.specs.declared.thread.Thread.{Thread}
 use Rattle.bd_thread.specs.Moves.{IsNextTicket}
