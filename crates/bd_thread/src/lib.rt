@@ -15,6 +15,8 @@ mod rules;
 mod start;
 mod store;
 mod table;
+#[cfg(test)]
+mod tests;
 mod thread;
 mod turn;
 
