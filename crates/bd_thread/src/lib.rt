@@ -15,8 +15,6 @@ mod rules;
 mod start;
 mod store;
 mod table;
-#[cfg(test)]
-mod tests;
 mod thread;
 mod turn;
 
