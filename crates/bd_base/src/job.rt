@@ -5,7 +5,7 @@ ghost use Rattle.bd_base.specs.Word.{job_word, submit_word};
 use crate::event::ClaimKind;
 use crate::name::Name;
 use crate::request::Op;
-use crate::rows::Rows;
+use crate::rows::{NameList, Rows};
 
 /// What a script's line asks.
 #[derive(Debug, Drop)]
@@ -95,4 +95,21 @@ pub struct Line {
 pub struct Script {
     pub thread: u32,
     pub lines: Rows<Line>,
+}
+
+/// What a script's next move goes by, as its thread sees it at one moment.
+#[derive(Debug, Drop)]
+pub struct View {
+    /// This moment, in microseconds.
+    pub now: u64,
+    /// The moment at which the next line was first looked at, in microseconds, at most `now`.
+    pub met: u64,
+    /// How many requests of the thread are open, 0 to 1,024.
+    pub requests: u32,
+    /// The marks that the thread took.
+    pub marks: NameList,
+    /// The names of the handles whose remove event the thread took.
+    pub gone: NameList,
+    /// The names that are bound to a handle.
+    pub bound: NameList,
 }

@@ -24,13 +24,13 @@ pub use device::{DevRow, ErrKind, Injection, Injections, IoSet, Kind, RateSet, R
 pub use digest::digest_of;
 pub use event::{Answer, ClaimKind, Dropped, RegEvent};
 pub use id::{DevId, HandleId, ReqId, ThreadId, WalkId};
-pub use job::{Job, Line, Script};
+pub use job::{Job, Line, Script, View};
 pub use journal::{Journaled, Start};
 pub use memory::OutOfMemory;
 pub use name::Name;
 pub use pattern::fill_pattern;
 pub use request::{AbortCause, Decision, Errno, Fill, Op, Shown, Status, WalkKind, Way};
-pub use rows::{DevList, HandleList, Rows};
+pub use rows::{DevList, HandleList, NameList, Rows};
 pub use setup::{Setup, Waiting};
 pub use thread_set::ThreadSet;
 
@@ -64,6 +64,10 @@ mod tests {
         let mut devices = DevList::new(rt.alloc());
         devices.push(DevId(7))?;
         assert_eq!(rt; devices.copy()?.len(), 1);
+        let mut names = NameList::new(rt.alloc());
+        names.push(name.copy()?)?;
+        assert!(rt; names.has(&name));
+        assert!(rt; !names.has(&Name::new(rt.alloc())));
         Ok(())
     }
 }

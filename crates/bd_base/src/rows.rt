@@ -1,10 +1,13 @@
 //! A table of rows in order, which contracts see as the list of its rows.
 ghost use Rattle.std.specs.Prelude.{◌≡◌, ◌<◌, ◌++◌, ◌∷◌, [], List, ℕ, length, IfOk, OnOk, OnErr, slice_set, slice_index_or, remove};
 ghost use Rattle.std.specs.Borrow.{Lends, sem};
+ghost use Rattle.std.specs.List.{list_any};
+ghost use Rattle.bd_base.specs.Name.{same_name};
 ghost use Rattle.bd_base.specs.contracts.rows.Rows.{the_row};
 
 use crate::id::{DevId, HandleId, ThreadId};
 use crate::memory::OutOfMemory;
+use crate::name::Name;
 use std::alloc::Global;
 use std::marker::Model;
 
@@ -16,6 +19,9 @@ pub struct Rows<T> {
 
 /// Devices, seen as their list.
 pub type DevList = Rows<DevId>;
+
+/// Names, seen as their list.
+pub type NameList = Rows<Name>;
 
 /// Handles with their threads, seen as their list.
 pub type HandleList = Rows<(HandleId, ThreadId)>;
@@ -109,5 +115,14 @@ impl<T: Copy> Rows<T> {
     {
         let items = Vec::from_slice(*self.items.allocator(), self.items.as_slice())?;
         Ok(Rows { items })
+    }
+}
+
+impl Rows<Name> {
+    /// Whether the name is among them.
+    pub fn has(&self, name: &Name) -> bool
+        ensures { result ≡ list_any (same_name name.now) self.now }
+    {
+        self.items.iter().any(|other| name.is(other))
     }
 }
