@@ -4,3 +4,4 @@ pub mod Keys
 pub mod Whole
 pub mod Scripts
 pub mod Closes
+pub mod Far

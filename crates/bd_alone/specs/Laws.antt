@@ -13,7 +13,7 @@ use Rattle.bd_machine.specs.declared.state.Id.{Id}
 use Rattle.bd_machine.specs.declared.state.State.{State}
 use Rattle.bd_machine.specs.Asked.{is_script_blocked, lines_of}
 use Rattle.bd_machine.specs.Content.{Told}
-use Rattle.bd_machine.specs.Laws.{is_destruct_of}
+use Rattle.bd_machine.specs.Laws.{is_destruct_of, count_of}
 use Rattle.bd_machine.specs.Registry.{is_unused}
 use Rattle.bd_machine.specs.Run.{IsRun, IsRunFrom, IsCompleteRun, after_all, state_after}
 use Rattle.bd_machine.specs.Same.{same_dev}
@@ -90,6 +90,21 @@ number_of line = line.number
 abbrev pub LinesAreFront : Type 0
 LinesAreFront = (setup : Setup) (told : Told) (es : List Entry) (t : ℕ) → IsRun setup told es
     → lines_done t es ≡ map number_of (take (part_of (state_after setup told es) t).next (lines_of setup t))
+
+-- a thread's script at the one Shutdown of a history: it is at its end or at a line that waits; the lines before that one are the lines done, and none is done behind the Shutdown
+pub record GoesAsFar (setup : Setup) (told : Told) (es : List Entry) (t : ℕ) : Type 0 where
+  pub front : List Entry
+  pub stamp : ℕ
+  pub back : List Entry
+  pub entries : es ≡ front ++ record { stamp = stamp; thread = 0; act = acts.Shutdown } ∷ back
+  pub one_shutdown : count_of is_shutdown es ≡ 1
+  pub blocked : is_script_blocked setup t (part_of (state_after setup told front) t) ≡ true
+  pub done : lines_done t es ≡ map number_of (take (part_of (state_after setup told front) t).next (lines_of setup t))
+  pub none_behind : lines_done t back ≡ []
+
+-- in a complete run, each script goes as far as it can
+abbrev pub ScriptsGoAsFar : Type 0
+ScriptsGoAsFar = (setup : Setup) (told : Told) (es : List Entry) (t : ℕ) → t < setup.threads → IsCompleteRun setup told es → GoesAsFar setup told es t
 
 abbrev pub is_opening_answer : DevId → Answer → Bool
 is_opening_answer d (answers.Opened handle dev) = same_dev d dev

@@ -1,6 +1,6 @@
 //! Laws of a thread that goes by its own world. Each function says one of them: its body is empty,
 //! and its clause is the law, which the definitions alone prove.
-ghost use Rattle.bd_alone.specs.Laws.{AloneIsAllowed, DestructedAfterLastClose, LeadsIsRun, LinesAreFront, PlayedAloneIsComplete};
+ghost use Rattle.bd_alone.specs.Laws.{AloneIsAllowed, DestructedAfterLastClose, LeadsIsRun, LinesAreFront, PlayedAloneIsComplete, ScriptsGoAsFar};
 
 /// What a thread's world allows is allowed in every state with that world, and leads to the same world.
 pub fn alone_is_allowed()
@@ -20,6 +20,12 @@ pub fn played_alone_is_complete()
 /// In a run the lines that a thread did are a front of its script.
 pub fn lines_are_front()
     ensures { LinesAreFront }
+{}
+
+/// In a complete run each script goes to its end or to a line that waits, and no line is done
+/// behind the Shutdown.
+pub fn scripts_go_as_far()
+    ensures { ScriptsGoAsFar }
 {}
 
 /// In a run a device is destructed after its last close.
