@@ -11,6 +11,7 @@ ghost use Rattle.bd_machine.specs.Table.{change_first};
 ghost use Rattle.bd_thread.specs.Acted.{Acted};
 ghost use Rattle.bd_thread.specs.Destructs.{Destructs, digest_at, digest_due, may_go};
 ghost use Rattle.bd_thread.specs.Next.{IsNext, id_of};
+ghost use Rattle.bd_thread.specs.Requests.{KeepsTickets};
 ghost use Rattle.bd_thread.specs.Seen.{here_in};
 ghost use Rattle.bd_thread.specs.Served.{Applies, Fits, FitsAt, first_of, next_due, next_in, piece_on, read_at, unread};
 
@@ -269,6 +270,7 @@ impl<'a> Thread<'a> {
     pub(crate) fn apply(&mut self, links: &mut Links, dev: DevId) -> Result<Option<Id>, OutOfMemory>
         requires { self.old.me < vec_len links.old.queues }
         ensures acted { OnOk result (Acted self.old links.old self.new links.new) }
+        ensures tickets { OnOk result (KeepsTickets self.old → KeepsTickets self.new) }
         ensures applied { IfOk result (Applies self.old links.old self.new links.new dev) }
     {
         let Some(next) = self.next_piece(dev) else {
@@ -299,6 +301,7 @@ impl<'a> Thread<'a> {
     pub(crate) fn destruct(&mut self, links: &mut Links, dev: DevId) -> Result<bool, OutOfMemory>
         requires { self.old.me < vec_len links.old.queues }
         ensures acted { OnOk result (Acted self.old links.old self.new links.new) }
+        ensures tickets { OnOk result (KeepsTickets self.old → KeepsTickets self.new) }
         ensures destructed { IfOk result (Destructs self.old links.old self.new links.new dev) }
     {
         let setup = self.setup;

@@ -6,6 +6,7 @@ ghost use Rattle.bd_machine.specs.Scripts.{bound_after, mark_to, posted};
 ghost use Rattle.bd_thread.specs.Acted.{Acted};
 ghost use Rattle.bd_machine.specs.Registry.{handle_of, is_own};
 ghost use Rattle.bd_thread.specs.Lines.{EndsLine, IsDone, RefusesClose};
+ghost use Rattle.bd_thread.specs.Requests.{KeepsTickets};
 ghost use Rattle.bd_thread.specs.Seen.{longer};
 
 use crate::links::{Links, add};
@@ -98,6 +99,7 @@ impl<'a> Thread<'a> {
     pub(crate) fn end_line(&mut self, links: &mut Links) -> Result<bool, OutOfMemory>
         requires me { self.old.me < vec_len links.old.queues }
         ensures acted { OnOk result (Acted self.old links.old self.new links.new) }
+        ensures tickets { OnOk result (KeepsTickets self.old → KeepsTickets self.new) }
         ensures ended { length self.old.part.requests < 2 ^ 32 → IfOk result (EndsLine self.old links.old links.new) }
     {
         if links.shut || u32::try_from(self.part.requests.len()).is_err() {
@@ -133,6 +135,7 @@ impl<'a> Thread<'a> {
     ) -> Result<(), OutOfMemory>
         ensures thread { OnOk result (self.new ≡ record self.old { part = record self.old.part { decided = Some decided } }) }
         ensures links { OnOk result (links.new ≡ record links.old { entries = longer self.old.me links.old.entries (Act.Reg event answer) }) }
+        ensures tickets { OnOk result (KeepsTickets self.old → KeepsTickets self.new) }
     {
         self.part.decided = Some(decided);
         add(&mut links.entries, self.me, Act::Reg { event, answer })
@@ -142,6 +145,7 @@ impl<'a> Thread<'a> {
     pub(crate) fn open(&mut self, links: &mut Links) -> Result<bool, OutOfMemory>
         requires me { self.old.me < vec_len links.old.queues }
         ensures acted { OnOk result (Acted self.old links.old self.new links.new) }
+        ensures tickets { OnOk result (KeepsTickets self.old → KeepsTickets self.new) }
     {
         if links.shut {
             return Ok(false);
@@ -179,6 +183,7 @@ impl<'a> Thread<'a> {
     pub(crate) fn close(&mut self, links: &mut Links) -> Result<bool, OutOfMemory>
         requires me { self.old.me < vec_len links.old.queues }
         ensures acted { OnOk result (Acted self.old links.old self.new links.new) }
+        ensures tickets { OnOk result (KeepsTickets self.old → KeepsTickets self.new) }
     {
         if links.shut {
             return Ok(false);

@@ -12,6 +12,7 @@ ghost use Rattle.bd_machine.specs.Table.{change_first, without_first, write};
 ghost use Rattle.bd_machine.specs.View.{id_of};
 ghost use Rattle.bd_machine.specs.declared.state.News.TheVariants as news;
 ghost use Rattle.bd_thread.specs.Acted.{Acted};
+ghost use Rattle.bd_thread.specs.Requests.{KeepsTickets};
 ghost use Rattle.bd_thread.specs.Seen.{here_in, queues_of, Sets};
 ghost use Rattle.bd_thread.specs.Sent.{first_brought, kept_on_way, may_put, KeepsRequests, Puts, Takes};
 
@@ -282,6 +283,7 @@ impl<'a> Thread<'a> {
     pub(crate) fn take(&mut self, links: &mut Links) -> Result<Option<Id>, OutOfMemory>
         requires { self.old.me < vec_len links.old.queues }
         ensures acted { OnOk result (Acted self.old links.old self.new links.new) }
+        ensures tickets { OnOk result (KeepsTickets self.old → KeepsTickets self.new) }
         ensures keeps { OnOk result (KeepsRequests self.old links.old self.new links.new) }
         ensures takes { IfOk result (Takes self.old links.old self.new links.new) }
     {
@@ -334,6 +336,7 @@ impl<'a> Thread<'a> {
         what: Token,
     ) -> Result<bool, OutOfMemory>
         ensures acted { OnOk result (Acted self.old links.old self.new links.new) }
+        ensures tickets { OnOk result (KeepsTickets self.old → KeepsTickets self.new) }
         ensures keeps { OnOk result (KeepsRequests self.old links.old self.new links.new) }
         ensures puts { IfOk result (Puts self.old links.old self.new links.new to what) }
     {

@@ -210,6 +210,7 @@ impl<'a> Thread<'a> {
         requires me { self.old.me < vec_len links.old.queues }
         ensures acted { OnOk result (Acted self.old links.old self.new links.new) }
         ensures cut { IfOk result (Cuts req self.old links.old self.new links.new) }
+        ensures tickets { OnOk result (KeepsTickets self.old → KeepsTickets self.new) }
     {
         let Some(r) = uncut(self.held.as_slice(), self.me, req) else {
             return Ok(0);
@@ -228,6 +229,7 @@ impl<'a> Thread<'a> {
         requires may { may_cut self.old.me req (Some r) ≡ true }
         ensures acted { OnOk result (Acted self.old links.old self.new links.new) }
         ensures cut { IfOk result (λ n. IsCut req r n self.old links.old self.new links.new) }
+        ensures tickets { OnOk result (KeepsTickets self.old → KeepsTickets self.new) }
     {
         let setup = self.setup;
         let found = extents(self.alloc, setup, r.dev, r.lba, r.count)?;

@@ -1,7 +1,7 @@
 //! A thread's turn: messages, the work of its stores, the script, and what is still to be put.
 ghost use Rattle.std.specs.Prelude.{◌≡◌, ◌+◌, ◌<◌, ◌≤◌, Some, true, vec_len, IfOk, IfSome, OnOk};
 ghost use Rattle.bd_thread.specs.Acted.{Acted};
-ghost use Rattle.bd_thread.specs.Requests.{IsAsked, IsFresh};
+ghost use Rattle.bd_thread.specs.Requests.{IsAsked, IsFresh, KeepsTickets};
 ghost use Rattle.bd_thread.specs.Moves.{turned_of, AddsMore, IsNextTicket};
 
 use crate::admission::{Asked, has_range};
@@ -62,6 +62,7 @@ impl<'a> Thread<'a> {
         requires me { self.old.me < vec_len links.old.queues }
         requires asked { IsAsked self.old links.old (Some handle) asked }
         ensures acted { OnOk result (Acted self.old links.old self.new links.new) }
+        ensures tickets { OnOk result (KeepsTickets self.old → KeepsTickets self.new) }
     {
         let Some(ticket) = next_ticket(self.me, self.part.next_request) else {
             return Err(OutOfMemory);
@@ -86,6 +87,7 @@ impl<'a> Thread<'a> {
     fn submit_line(&mut self, links: &mut Links) -> Result<bool, OutOfMemory>
         requires me { self.old.me < vec_len links.old.queues }
         ensures acted { OnOk result (Acted self.old links.old self.new links.new) }
+        ensures tickets { OnOk result (KeepsTickets self.old → KeepsTickets self.new) }
     {
         if links.shut || MOST_REQUESTS <= self.part.requests.len() {
             return Ok(false);
@@ -122,6 +124,7 @@ impl<'a> Thread<'a> {
     fn receive(&mut self, links: &mut Links) -> Result<bool, OutOfMemory>
         requires { self.old.me < vec_len links.old.queues }
         ensures acted { OnOk result (Acted self.old links.old self.new links.new) }
+        ensures tickets { OnOk result (KeepsTickets self.old → KeepsTickets self.new) }
     {
         let Some(id) = self.take(links)? else {
             return Ok(false);
@@ -137,6 +140,7 @@ impl<'a> Thread<'a> {
     fn receive_all(&mut self, links: &mut Links) -> Result<(), OutOfMemory>
         requires { self.old.me < vec_len links.old.queues }
         ensures acted { OnOk result (Acted self.old links.old self.new links.new) }
+        ensures tickets { OnOk result (KeepsTickets self.old → KeepsTickets self.new) }
     {
         for _ in 0..BATCH {
             if !self.receive(links)? {
@@ -150,6 +154,7 @@ impl<'a> Thread<'a> {
     fn serve(&mut self, links: &mut Links, dev: DevId) -> Result<bool, OutOfMemory>
         requires { self.old.me < vec_len links.old.queues }
         ensures acted { OnOk result (Acted self.old links.old self.new links.new) }
+        ensures tickets { OnOk result (KeepsTickets self.old → KeepsTickets self.new) }
     {
         let Some(id) = self.apply(links, dev)? else {
             return Ok(false);
@@ -163,6 +168,7 @@ impl<'a> Thread<'a> {
     fn serve_store(&mut self, links: &mut Links, dev: DevId) -> Result<(), OutOfMemory>
         requires { self.old.me < vec_len links.old.queues }
         ensures acted { OnOk result (Acted self.old links.old self.new links.new) }
+        ensures tickets { OnOk result (KeepsTickets self.old → KeepsTickets self.new) }
     {
         for _ in 0..BATCH {
             if !self.serve(links, dev)? {
@@ -175,6 +181,7 @@ impl<'a> Thread<'a> {
     fn serve_all(&mut self, links: &mut Links) -> Result<(), OutOfMemory>
         requires { self.old.me < vec_len links.old.queues }
         ensures acted { OnOk result (Acted self.old links.old self.new links.new) }
+        ensures tickets { OnOk result (KeepsTickets self.old → KeepsTickets self.new) }
     {
         for place in 0..self.setup.devices.len() {
             let Ok(dev) = u32::try_from(place) else {
@@ -189,6 +196,7 @@ impl<'a> Thread<'a> {
     fn command(&mut self, links: &mut Links) -> Result<bool, OutOfMemory>
         requires { self.old.me < vec_len links.old.queues }
         ensures acted { OnOk result (Acted self.old links.old self.new links.new) }
+        ensures tickets { OnOk result (KeepsTickets self.old → KeepsTickets self.new) }
     {
         self.open(links)?;
         self.close(links)?;
@@ -199,6 +207,7 @@ impl<'a> Thread<'a> {
     fn command_all(&mut self, links: &mut Links) -> Result<(), OutOfMemory>
         requires { self.old.me < vec_len links.old.queues }
         ensures acted { OnOk result (Acted self.old links.old self.new links.new) }
+        ensures tickets { OnOk result (KeepsTickets self.old → KeepsTickets self.new) }
     {
         for _ in 0..BATCH {
             if !self.command(links)? {
@@ -212,6 +221,7 @@ impl<'a> Thread<'a> {
     fn put_next(&mut self, links: &mut Links) -> Result<bool, OutOfMemory>
         requires { self.old.me < vec_len links.old.queues }
         ensures acted { OnOk result (Acted self.old links.old self.new links.new) }
+        ensures tickets { OnOk result (KeepsTickets self.old → KeepsTickets self.new) }
     {
         let Some(&(to, _)) = self.outbox.front() else {
             return Ok(false);
@@ -240,6 +250,7 @@ impl<'a> Thread<'a> {
     fn put_due(&mut self, links: &mut Links) -> Result<bool, OutOfMemory>
         requires { self.old.me < vec_len links.old.queues }
         ensures acted { OnOk result (Acted self.old links.old self.new links.new) }
+        ensures tickets { OnOk result (KeepsTickets self.old → KeepsTickets self.new) }
     {
         let Some((to, what)) = self.first_due()? else {
             return Ok(false);
@@ -253,6 +264,7 @@ impl<'a> Thread<'a> {
     fn put_outbox(&mut self, links: &mut Links) -> Result<(), OutOfMemory>
         requires { self.old.me < vec_len links.old.queues }
         ensures acted { OnOk result (Acted self.old links.old self.new links.new) }
+        ensures tickets { OnOk result (KeepsTickets self.old → KeepsTickets self.new) }
     {
         for _ in 0..self.outbox.len() {
             if !self.put_next(links)? {
@@ -265,6 +277,7 @@ impl<'a> Thread<'a> {
     fn put_marks(&mut self, links: &mut Links) -> Result<(), OutOfMemory>
         requires { self.old.me < vec_len links.old.queues }
         ensures acted { OnOk result (Acted self.old links.old self.new links.new) }
+        ensures tickets { OnOk result (KeepsTickets self.old → KeepsTickets self.new) }
     {
         for _ in 0..self.part.due.len() {
             if !self.put_due(links)? {
@@ -279,6 +292,7 @@ impl<'a> Thread<'a> {
     pub fn turn(&mut self, links: &mut Links) -> Result<Turned, OutOfMemory>
         requires { self.old.me < vec_len links.old.queues }
         ensures acted { OnOk result (Acted self.old links.old self.new links.new) }
+        ensures tickets { OnOk result (KeepsTickets self.old → KeepsTickets self.new) }
         ensures turned { IfOk result (AddsMore links.old links.new) }
     {
         let before = links.entries.len();

@@ -12,6 +12,7 @@ use Rattle.bd_thread.specs.Seen.{here_in, local_at, queues_of}
 use Rattle.bd_thread.proofs.Applies.{apply_steps, at_home}
 use Rattle.bd_thread.proofs.Ends.{length-longer}
 use Rattle.bd_thread.proofs.Going.{Steps, acted_step}
+use Rattle.bd_thread.proofs.Tickets.{same_tickets}
 use Rattle.bd_thread.proofs.thread.Thread.apply.Goals as goal
 
 pub returns-clause-acted : goal.returns-clause-acted
@@ -34,3 +35,6 @@ returns-clause-acted c =
     acted_step t links _ _ act refl refl refl c.in_ok-add.ensures
     (subst (λ (m : ℕ). Steps t.setup.now t.me (local_at t.me t.part here links.registry links.shut stamp queues) act (local_at t.me (record t.part { bases = c.serve_on.new.bases }) now links.registry links.shut m queues))
     (sym (ap length c.in_ok-add.ensures ∙ length-longer t.me links.entries act)) stepped)
+
+pub returns-clause-tickets : goal.returns-clause-tickets
+returns-clause-tickets c = λ keeps. same_tickets _ _ refl refl refl keeps

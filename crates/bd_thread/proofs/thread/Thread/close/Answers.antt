@@ -20,6 +20,7 @@ returns-in_ok-decide-in-Some-close_refusal c =
     let job = sym c.undecided_job.ensures ∙ ap option_copied c.in-Some-Close.is ∙ ap Some c.in-Some-Close.field-0-is in
     let errno = c.in-Some-close_refusal.errno in
     record {
+      tickets = λ keeps. c.in_ok-decide-in-Some-close_refusal.ensures.tickets keeps;
       acted = event_acted t links c.decide.new.self c.decide.new.links (events.Close c.in-Some.id) (answers.Refused errno) (decisions.Refused errno) links.registry
           c.in_ok-decide-in-Some-close_refusal.ensures.thread
           c.in_ok-decide-in-Some-close_refusal.ensures.links
@@ -38,6 +39,7 @@ returns-in_ok-decide-in-None c =
     let links = c.args.links.now in
     let job = sym c.undecided_job.ensures ∙ ap option_copied c.in-Some-Close.is ∙ ap Some c.in-Some-Close.field-0-is in
     record {
+      tickets = λ keeps. c.in_ok-decide-in-None.ensures.tickets keeps;
       acted = event_acted t links c.decide-in-None.new.self c.decide-in-None.new.links (events.Close c.in-Some.id) (answers.Closed None) decisions.Closed c.release.new.registry
           c.in_ok-decide-in-None.ensures.thread
           c.in_ok-decide-in-None.ensures.links

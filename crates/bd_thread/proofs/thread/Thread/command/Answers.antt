@@ -6,4 +6,7 @@ pub returns : goal.returns
 returns c =
     let b = acted_then _ _ _ _ _ _ c.in_ok-open.ensures.acted c.in_ok-close.ensures.acted in
     let d = acted_then _ _ _ _ _ _ b c.in_ok-submit_line.ensures.acted in
-    record { acted = on_ok_weaker c.end_line.result (λ e. acted_then _ _ _ _ _ _ d e) c.end_line.ensures.acted }
+    record {
+      acted = on_ok_weaker c.end_line.result (λ e. acted_then _ _ _ _ _ _ d e) c.end_line.ensures.acted;
+      tickets = on_ok_weaker c.end_line.result (λ ends keeps. ends (c.in_ok-submit_line.ensures.tickets (c.in_ok-close.ensures.tickets (c.in_ok-open.ensures.tickets keeps)))) c.end_line.ensures.tickets;
+    }

@@ -3,6 +3,7 @@ use Rattle.bd_machine.specs.declared.state.Extent.{Extent}
 use Rattle.bd_thread.specs.Cuts.{IsCut}
 use Rattle.bd_thread.specs.declared.links.Links.{Links}
 use Rattle.bd_thread.proofs.Cutting.{cut_acted, cut_held}
+use Rattle.bd_thread.proofs.Tickets.{same_tickets}
 use Rattle.bd_thread.proofs.thread.Thread.cut_into.Goals as goal
 
 pub returns : goal.returns
@@ -17,4 +18,8 @@ returns c =
       thread = refl;
       links = ap (λ es. let l : Links = record before { entries = es } in l) c.in_ok-add.ensures;
     } in
-    record { acted = cut_acted old before _ _ c.args.req c.args.r c.in_ok-n.n c.requires.here c.requires.may cut; cut = cut }
+    record {
+      acted = cut_acted old before _ _ c.args.req c.args.r c.in_ok-n.n c.requires.here c.requires.may cut;
+      cut = cut;
+      tickets = λ keeps. same_tickets _ _ refl refl refl keeps;
+    }

@@ -25,6 +25,7 @@ returns-in_default-device_named c =
     let answer = answers.Refused NoDev in
     let logged : List ℕ → Links = λ name. record links { entries = longer t.me links.entries (acts.Reg (events.Open name c.in-Some-Open.write) answer) } in
     record {
+      tickets = λ keeps. c.in_ok-decide.ensures.tickets keeps;
       acted = event_acted t links c.decide.new.self c.decide.new.links event answer (decisions.Refused NoDev) links.registry
           c.in_ok-decide.ensures.thread
           (c.in_ok-decide.ensures.links ∙ ap logged c.in_ok-copy.ensures)
@@ -47,6 +48,7 @@ returns c =
     let answer = answers.Opened id dev in
     let logged : List ℕ → Links = λ name. record links { registry = c.grant.new.registry; entries = longer t.me links.entries (acts.Reg (events.Open name c.in-Some-Open.write) answer) } in
     record {
+      tickets = λ keeps. c.in_ok-decide-2.ensures.tickets keeps;
       acted = event_acted t links c.decide-2.new.self c.decide-2.new.links event answer (decisions.Opened id) c.grant.new.registry
           c.in_ok-decide-2.ensures.thread
           (c.in_ok-decide-2.ensures.links ∙ ap logged c.in_ok-copy.ensures)

@@ -1,4 +1,4 @@
-use Rattle.std.proofs.Common.{cond, ◌==◌, ◌++◌, ◌∷◌, [], length, None, refl, sym, ◌∙◌, ap, rules}
+use Rattle.std.proofs.Common.{◌≡◌, cond, ◌==◌, ◌++◌, ◌∷◌, [], length, None, refl, sym, ◌∙◌, ap, rules}
 use Rattle.bd_base.specs.declared.act.Act.TheVariants as acts
 use Rattle.bd_base.specs.declared.act.Token.{Token}
 use Rattle.bd_machine.specs.declared.state.Id.{Id}
@@ -8,6 +8,7 @@ use Rattle.bd_thread.specs.Seen.{here_in, queues_of}
 use Rattle.bd_thread.specs.Sent.{kept_on_way}
 use Rattle.bd_thread.proofs.Going.{acted_by}
 use Rattle.bd_thread.proofs.Put.{put_steps, part_left, may_parts}
+use Rattle.bd_thread.proofs.Tickets.{same_tickets}
 use Rattle.bd_thread.proofs.thread.Thread.put.Goals as goal
 
 pub returns-clause-acted : goal.returns-clause-acted
@@ -27,3 +28,9 @@ returns-clause-acted c =
     (part_left t.part c.count_put.new.part c.leave.new.part to number what c.in_ok-number.ensures.number c.in_ok-number.ensures.part c.in_ok-kept.ensures.part)
     (c.in_ok-kept.ensures.gone ∙ ap (λ (id : Id). λ j. cond (same_id id j) None (here j)) c.id_of-id.ensures)
     (c.in_ok-push.ensures.ok ∙ ap (λ (w : Token). let m : Message = record { sender = t.me; what = w; kept = c.in_ok-kept.kept } in λ r. cond (r == to) (queues r ++ m ∷ []) (queues r)) c.in_ok-told.ensures))
+
+pub returns-clause-tickets : goal.returns-clause-tickets
+returns-clause-tickets c = λ keeps.
+    let requests : c.leave.new.part.requests ≡ c.args.self.now.part.requests = search rules in
+    let next : c.leave.new.part.next_request ≡ c.args.self.now.part.next_request = search rules in
+    same_tickets c.args.self.now _ refl requests next keeps

@@ -2,4 +2,7 @@ use Rattle.bd_thread.proofs.Going.{acted_then}
 use Rattle.bd_thread.proofs.thread.Thread.receive.Goals as goal
 
 pub returns-in_ok-complete : goal.returns-in_ok-complete
-returns-in_ok-complete c = record { acted = acted_then _ _ _ _ _ _ c.in_ok-id.ensures.acted c.in_ok-complete.ensures.acted }
+returns-in_ok-complete c = record {
+  acted = acted_then _ _ _ _ _ _ c.in_ok-id.ensures.acted c.in_ok-complete.ensures.acted;
+  tickets = λ keeps. c.in_ok-complete.ensures.tickets (c.in_ok-id.ensures.tickets keeps);
+}

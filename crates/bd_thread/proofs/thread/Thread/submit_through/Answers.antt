@@ -13,4 +13,7 @@ pub submit-requires-clause-fresh : goal.submit-requires-clause-fresh
 submit-requires-clause-fresh c = fresh_next c.args.self.now c.in-Some.ticket c.in-Some.ensures
 
 pub returns-in_ok-cut-in-Ok : goal.returns-in_ok-cut-in-Ok
-returns-in_ok-cut-in-Ok c = record { acted = acted_then _ _ _ _ _ _ c.in-Ok.ensures.acted c.in_ok-cut-in-Ok.ensures.acted }
+returns-in_ok-cut-in-Ok c = record {
+  acted = acted_then _ _ _ _ _ _ c.in-Ok.ensures.acted c.in_ok-cut-in-Ok.ensures.acted;
+  tickets = λ keeps. c.in_ok-cut-in-Ok.ensures.tickets (c.in-Ok.ensures.tickets keeps);
+}

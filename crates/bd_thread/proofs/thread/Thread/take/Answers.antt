@@ -1,4 +1,4 @@
-use Rattle.std.proofs.Common.{length, Some, refl, ◌∙◌, ap, rules}
+use Rattle.std.proofs.Common.{◌≡◌, length, Some, refl, ◌∙◌, ap, rules}
 use Rattle.bd_base.specs.declared.act.Act.TheVariants as acts
 use Rattle.bd_machine.specs.declared.state.Id.{Id}
 use Rattle.bd_machine.specs.Alone.{held_after}
@@ -6,6 +6,7 @@ use Rattle.bd_machine.specs.Messages.{moves_took}
 use Rattle.bd_thread.specs.Seen.{here_in, queues_of}
 use Rattle.bd_thread.proofs.Going.{acted_by}
 use Rattle.bd_thread.proofs.Took.{took_steps, brought_first, part_arrived}
+use Rattle.bd_thread.proofs.Tickets.{same_tickets}
 use Rattle.bd_thread.proofs.thread.Thread.take.Goals as goal
 
 pub returns-clause-acted : goal.returns-clause-acted
@@ -25,3 +26,9 @@ returns-clause-acted c =
     (c.in_ok-arrive.ensures.held ∙ ap (λ (id : Id). held_after (moves_took id (Some m.kept)) (here_in t.held.items)) c.id_of-id.ensures)
     first
     c.in-Some.ensures.some.rest)
+
+pub returns-clause-tickets : goal.returns-clause-tickets
+returns-clause-tickets c = λ keeps.
+    let requests : c.arrive.new.part.requests ≡ c.args.self.now.part.requests = search rules in
+    let next : c.arrive.new.part.next_request ≡ c.args.self.now.part.next_request = search rules in
+    same_tickets c.args.self.now _ refl requests next keeps
