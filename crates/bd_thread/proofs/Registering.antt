@@ -11,13 +11,14 @@ use Rattle.bd_base.specs.declared.job.Job.TheVariants as jobs
 use Rattle.std.specs.Cmp.Lexicographic.{pointwise}
 use Rattle.bd_base.specs.declared.event.Answer.{Answer}
 use Rattle.bd_base.specs.declared.event.RegEvent.{RegEvent}
+use Rattle.bd_base.specs.declared.event.RegEvent.TheVariants as events
 use Rattle.bd_base.specs.declared.setup.Setup.{Setup}
 use Rattle.bd_machine.specs.declared.state.Decided.{Decided}
 use Rattle.bd_machine.specs.declared.state.Id.{Id}
 use Rattle.bd_machine.specs.declared.state.Kept.{Kept}
 use Rattle.bd_machine.specs.declared.state.Part.{Part}
 use Rattle.bd_machine.specs.declared.state.Registry.{Registry}
-use Rattle.bd_machine.specs.Asked.{asks_event, bound_to, is_job_open, is_job_close}
+use Rattle.bd_machine.specs.Asked.{asks_event, bound_to, is_job_open, is_job_close, open_on}
 use Rattle.bd_machine.specs.Events.{decision_of}
 use Rattle.bd_machine.specs.Guards.{is_built}
 use Rattle.bd_machine.specs.Registry.{answer_to, registry_after}
@@ -27,6 +28,7 @@ use Rattle.bd_turns.specs.Local.{Local, came_local}
 use Rattle.bd_thread.specs.declared.links.Links.{Links}
 use Rattle.bd_thread.specs.declared.thread.Thread.{Thread}
 use Rattle.bd_thread.specs.Acted.{Acted}
+use Rattle.bd_thread.specs.Lines.{close_asked, close_if_idle, open_asked, AsksBy, IsAnswered}
 use Rattle.bd_thread.specs.Seen.{here_in, local, local_at, longer, queues_of}
 use Rattle.bd_thread.proofs.Ends.{length-longer}
 use Rattle.bd_thread.proofs.Going.{Steps, steps, handles_own, local_eq, acted_step}
@@ -98,6 +100,59 @@ event_acted t before new after event answer decided registry new-is after-is reg
     subst (λ (n : Thread). Acted t before n after) (sym new-is)
     (subst (λ (l : Links). Acted t before p l) (sym after-is)
     (acted_step t before p q act refl refl refl refl (subst (Steps t.setup.now t.me (local t before) act) ends stepped)))
+
+-- ---- the same, said exactly
+
+-- the event was answered
+pub answered : (t : Thread) (before : Links) (new : Thread) (after : Links) (event : RegEvent) (answer : Answer) (decided : Decided) (registry : Registry)
+    → new ≡ record t { part = record t.part { decided = Some decided } }
+    → after ≡ record before { registry = registry; entries = longer t.me before.entries (acts.Reg event answer) }
+    → registry ≡ registry_after before.registry t.me (Some (record { event = event; answer = answer }))
+    → decision_of answer ≡ Some decided
+    → answer_to t.setup.now before.registry t.me event ≡ Some answer
+    → IsAnswered event t before new after
+answered t before new after event answer decided registry new-is after-is registry-is decision given =
+    let decides : Option Decided → Thread = λ o. record t { part = record t.part { decided = o } } in
+    let logs : Registry → Links = λ r. record before { registry = r; entries = longer t.me before.entries (acts.Reg event answer) } in
+    record {
+      answer = answer;
+      given = given;
+      thread = new-is ∙ sym (ap decides decision);
+      links = after-is ∙ ap logs registry-is;
+    }
+
+pub asked_by : (t : Thread) (before : Links) (new : Thread) (after : Links) (event : RegEvent) (o : Option RegEvent)
+    → o ≡ Some event
+    → IsAnswered event t before new after
+    → AsksBy t before new after true o
+asked_by t before new after event o asked h = subst (AsksBy t before new after true) (sym asked) (refl, h)
+
+pub unasked : (t : Thread) (before : Links) (o : Option RegEvent) → o ≡ None → AsksBy t before t before false o
+unasked t before o none = subst (AsksBy t before t before false) (sym none) (refl, refl, refl)
+
+-- the open that the line asks for
+pub opens_asked : (part : Part) (handle dev : List ℕ) (write shut : Bool) (o : Option Job)
+    → shut ≡ false
+    → o ≡ Some (jobs.Open handle dev write)
+    → bound_to part handle ≡ None
+    → open_asked part (cond shut None o) ≡ Some (events.Open dev write)
+opens_asked part handle dev write shut o unshut line free =
+    ap (λ b. open_asked part (cond b None o)) unshut
+    ∙ ap (open_asked part) line
+    ∙ ap (λ b. cond b (Some (events.Open dev write)) None) (ap is_none free)
+
+-- the close that the line asks for
+pub closes_asked : (part : Part) (handle : List ℕ) (id : HandleId) (shut : Bool) (o : Option Job)
+    → shut ≡ false
+    → o ≡ Some (jobs.Close handle)
+    → bound_to part handle ≡ Some id
+    → open_on part id ≡ 0
+    → close_asked part (cond shut None o) ≡ Some (events.Close id)
+closes_asked part handle id shut o unshut line bound idle =
+    ap (λ b. close_asked part (cond b None o)) unshut
+    ∙ ap (close_asked part) line
+    ∙ ap (close_if_idle part) bound
+    ∙ ap (λ b. cond b (Some (events.Close id)) None) (eq-eqb (open_on part id) 0 idle)
 
 pub none_there : {X : Type 0} (o : Option X) → is_some o ≡ false → o ≡ None
 none_there None h = refl

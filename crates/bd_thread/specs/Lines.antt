@@ -1,21 +1,69 @@
--- What a line's end changes, and when it comes.
-use Rattle.std.specs.Prelude.{◌≡◌, ℕ, ◌+◌, Bool, false, cond, not, ◌++◌, Option, Some, None}
+-- What a line asks of the registry, and what the answer leaves; what a line's end changes, and when it comes.
+use Rattle.std.specs.Prelude.{◌≡◌, ℕ, ◌+◌, Bool, true, false, cond, not, ◌++◌, ◌==◌, Option, Some, None, is_none}
 use Rattle.bd_base.specs.declared.act.Act.TheVariants as acts
 use Rattle.bd_base.specs.declared.act.Outcome.{Outcome}
 use Rattle.bd_base.specs.declared.job.Job.{Job}
 use Rattle.bd_base.specs.declared.job.Line.{Line}
 use Rattle.bd_base.specs.declared.setup.Setup.{Setup}
 use Rattle.bd_machine.specs.declared.state.Part.{Part}
-use Rattle.bd_machine.specs.Asked.{next_line, outcome_due}
+use Rattle.bd_machine.specs.Asked.{bound_to, next_line, open_on, outcome_due, undecided_job}
 use Rattle.bd_base.specs.declared.event.Answer.{Answer}
 use Rattle.bd_base.specs.declared.event.Answer.TheVariants as answers
+use Rattle.bd_base.specs.declared.event.RegEvent.{RegEvent}
+use Rattle.bd_base.specs.declared.event.RegEvent.TheVariants as events
+use Rattle.bd_base.specs.declared.id.HandleId.{HandleId}
+use Rattle.bd_base.specs.declared.job.Job.TheVariants as jobs
 use Rattle.bd_base.specs.declared.request.Errno.{Errno}
 use Rattle.bd_machine.specs.declared.state.Handle.{Handle}
-use Rattle.bd_machine.specs.Registry.{close_answer}
+use Rattle.bd_machine.specs.Events.{decision_of}
+use Rattle.bd_machine.specs.Registry.{answer_to, close_answer, registry_after}
 use Rattle.bd_machine.specs.Scripts.{bound_after, posted}
 use Rattle.bd_thread.specs.declared.links.Links.{Links}
 use Rattle.bd_thread.specs.declared.thread.Thread.{Thread}
 use Rattle.bd_thread.specs.Seen.{longer}
+
+-- ---- what a line asks of the registry
+
+-- what the next line asks, while nothing decided it and no Shutdown stands
+abbrev pub job_now : Thread → Links → Option Job
+job_now t links = cond links.shut None (undecided_job t.setup.now t.me t.part)
+
+-- the open that a line asks for, where its name is free
+abbrev pub open_asked : Part → Option Job → Option RegEvent
+open_asked part (Some (jobs.Open handle dev write)) = cond (is_none (bound_to part handle)) (Some (events.Open dev write)) None
+open_asked part _ = None
+
+abbrev pub close_if_idle : Part → Option HandleId → Option RegEvent
+close_if_idle part None = None
+close_if_idle part (Some id) = cond (open_on part id == 0) (Some (events.Close id)) None
+
+-- the close that a line asks for, where its name is bound and no request is open on the handle
+abbrev pub close_asked : Part → Option Job → Option RegEvent
+close_asked part (Some (jobs.Close handle)) = close_if_idle part (bound_to part handle)
+close_asked part _ = None
+
+-- the registry answered an event: that decided the line, the registry is as the answer leaves it, one Reg has both, and all else stayed
+pub record IsAnswered (event : RegEvent) (old : Thread) (before : Links) (new : Thread) (after : Links) : Type 0 where
+  pub answer : Answer
+  pub given : answer_to old.setup.now before.registry old.me event ≡ Some answer
+  pub thread : new ≡ record old { part = record old.part { decided = decision_of answer } }
+  pub links : after ≡ record before {
+    registry = registry_after before.registry old.me (Some (record { event = event; answer = answer }));
+    entries = longer old.me before.entries (acts.Reg event answer);
+  }
+
+-- true where an event is asked, and it was answered; else nothing changes
+abbrev pub AsksBy : Thread → Links → Thread → Links → Bool → Option RegEvent → Type 0
+AsksBy old before new after asked None = (asked ≡ false) × (new ≡ old) × (after ≡ before)
+AsksBy old before new after asked (Some event) = (asked ≡ true) × IsAnswered event old before new after
+
+abbrev pub Opens : Thread → Links → Thread → Links → Bool → Type 0
+Opens old before new after asked = AsksBy old before new after asked (open_asked old.part (job_now old before))
+
+abbrev pub Closes : Thread → Links → Thread → Links → Bool → Type 0
+Closes old before new after asked = AsksBy old before new after asked (close_asked old.part (job_now old before))
+
+-- ---- a line's end
 
 -- the line that asks for this is done: the next one is to come, undecided
 abbrev pub IsDone : Setup → Job → Part → Part → Type 0
@@ -38,6 +86,8 @@ ScriptAdded t before after ended (Some outcome) =
 
 abbrev pub EndsLine : Thread → Links → Links → Bool → Type 0
 EndsLine t before after ended = ScriptAdded t before after ended (outcome_due t.setup.now t.me t.part)
+
+-- ---- a close
 
 -- the registry's answer to a close: granted without an errno, refused with this one
 abbrev pub close_answer_by : Option Errno → Answer

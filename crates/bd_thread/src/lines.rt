@@ -5,7 +5,7 @@ ghost use Rattle.bd_base.specs.Name.{same_name};
 ghost use Rattle.bd_machine.specs.Scripts.{bound_after, mark_to, posted};
 ghost use Rattle.bd_thread.specs.Acted.{Acted};
 ghost use Rattle.bd_machine.specs.Registry.{handle_of, is_own};
-ghost use Rattle.bd_thread.specs.Lines.{EndsLine, IsDone, RefusesClose};
+ghost use Rattle.bd_thread.specs.Lines.{Closes, EndsLine, IsDone, Opens, RefusesClose};
 ghost use Rattle.bd_thread.specs.Requests.{KeepsTickets};
 ghost use Rattle.bd_thread.specs.Seen.{longer};
 
@@ -141,11 +141,13 @@ impl<'a> Thread<'a> {
         add(&mut links.entries, self.me, Act::Reg { event, answer })
     }
 
-    /// Opens the device that the next line names, where it asks for that and the name is free.
+    /// Opens the device that the next line names, where it asks for that and the name is free: true,
+    /// and the registry's answer decides the line. Else, or behind a Shutdown, nothing changes.
     pub(crate) fn open(&mut self, links: &mut Links) -> Result<bool, OutOfMemory>
         requires me { self.old.me < vec_len links.old.queues }
         ensures acted { OnOk result (Acted self.old links.old self.new links.new) }
         ensures tickets { OnOk result (KeepsTickets self.old → KeepsTickets self.new) }
+        ensures opened { IfOk result (Opens self.old links.old self.new links.new) }
     {
         if links.shut {
             return Ok(false);
@@ -179,11 +181,14 @@ impl<'a> Thread<'a> {
         Ok(true)
     }
 
-    /// Closes the handle that the next line names, where it asks for that and no request is open on it.
+    /// Closes the handle that the next line names, where it asks for that, the name is bound and no
+    /// request is open on the handle: true, and the registry's answer decides the line. Else, or
+    /// behind a Shutdown, nothing changes.
     pub(crate) fn close(&mut self, links: &mut Links) -> Result<bool, OutOfMemory>
         requires me { self.old.me < vec_len links.old.queues }
         ensures acted { OnOk result (Acted self.old links.old self.new links.new) }
         ensures tickets { OnOk result (KeepsTickets self.old → KeepsTickets self.new) }
+        ensures closed { IfOk result (Closes self.old links.old self.new links.new) }
     {
         if links.shut {
             return Ok(false);

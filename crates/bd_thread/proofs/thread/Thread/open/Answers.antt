@@ -12,7 +12,8 @@ use Rattle.bd_machine.specs.Asked.{bound_to, is_job_open, undecided_job}
 use Rattle.bd_machine.specs.Registry.{open_answer}
 use Rattle.bd_thread.specs.declared.links.Links.{Links}
 use Rattle.bd_thread.specs.Seen.{longer}
-use Rattle.bd_thread.proofs.Registering.{asks_open, event_acted, none_there}
+use Rattle.bd_thread.specs.Lines.{job_now, open_asked}
+use Rattle.bd_thread.proofs.Registering.{answered, asked_by, asks_open, event_acted, none_there, opens_asked}
 use Rattle.bd_thread.proofs.thread.Thread.open.Goals as goal
 
 pub returns-in_default-device_named : goal.returns-in_default-device_named
@@ -24,13 +25,18 @@ returns-in_default-device_named c =
     let event = events.Open c.in-Some-Open.dev c.in-Some-Open.write in
     let answer = answers.Refused NoDev in
     let logged : List ℕ → Links = λ name. record links { entries = longer t.me links.entries (acts.Reg (events.Open name c.in-Some-Open.write) answer) } in
+    let given = ap (λ (o : Option ℕ). Some (open_answer links.registry o)) (sym c.device_named.ensures ∙ c.in_default-device_named.is) in
+    let logs = c.in_ok-decide.ensures.links ∙ ap logged c.in_ok-copy.ensures in
+    let asked = opens_asked t.part c.in-Some-Open.handle c.in-Some-Open.dev c.in-Some-Open.write links.shut (undecided_job t.setup.now t.me t.part) c.if-links.false job free in
     record {
+      opened = asked_by t links c.decide.new.self c.decide.new.links event (open_asked t.part (job_now t links)) asked
+          (answered t links c.decide.new.self c.decide.new.links event answer (decisions.Refused NoDev) links.registry c.in_ok-decide.ensures.thread logs refl refl given);
       tickets = λ keeps. c.in_ok-decide.ensures.tickets keeps;
       acted = event_acted t links c.decide.new.self c.decide.new.links event answer (decisions.Refused NoDev) links.registry
           c.in_ok-decide.ensures.thread
-          (c.in_ok-decide.ensures.links ∙ ap logged c.in_ok-copy.ensures)
+          logs
           refl c.if-links.false refl refl
-          (ap (λ (o : Option ℕ). Some (open_answer links.registry o)) (sym c.device_named.ensures ∙ c.in_default-device_named.is))
+          given
           refl
           (and_from (not links.shut) (is_job_open t.part c.in-Some-Open.dev c.in-Some-Open.write (undecided_job t.setup.now t.me t.part)) (ap not c.if-links.false)
           (asks_open t.part c.in-Some-Open.handle c.in-Some-Open.dev c.in-Some-Open.write (undecided_job t.setup.now t.me t.part) job free));
@@ -47,13 +53,18 @@ returns c =
     let dev : DevId = record { 0 = c.in-Ok.place } in
     let answer = answers.Opened id dev in
     let logged : List ℕ → Links = λ name. record links { registry = c.grant.new.registry; entries = longer t.me links.entries (acts.Reg (events.Open name c.in-Some-Open.write) answer) } in
+    let given = ap (λ (o : Option ℕ). Some (open_answer links.registry o)) (sym c.device_named.ensures ∙ c.in-Some.is ∙ ap Some (search rules)) in
+    let logs = c.in_ok-decide-2.ensures.links ∙ ap logged c.in_ok-copy.ensures in
+    let asked = opens_asked t.part c.in-Some-Open.handle c.in-Some-Open.dev c.in-Some-Open.write links.shut (undecided_job t.setup.now t.me t.part) c.if-links.false job free in
     record {
+      opened = asked_by t links c.decide-2.new.self c.decide-2.new.links event (open_asked t.part (job_now t links)) asked
+          (answered t links c.decide-2.new.self c.decide-2.new.links event answer (decisions.Opened id) c.grant.new.registry c.in_ok-decide-2.ensures.thread logs c.in_ok-grant.ensures refl given);
       tickets = λ keeps. c.in_ok-decide-2.ensures.tickets keeps;
       acted = event_acted t links c.decide-2.new.self c.decide-2.new.links event answer (decisions.Opened id) c.grant.new.registry
           c.in_ok-decide-2.ensures.thread
-          (c.in_ok-decide-2.ensures.links ∙ ap logged c.in_ok-copy.ensures)
+          logs
           c.in_ok-grant.ensures c.if-links.false refl refl
-          (ap (λ (o : Option ℕ). Some (open_answer links.registry o)) (sym c.device_named.ensures ∙ c.in-Some.is ∙ ap Some (search rules)))
+          given
           (and_from (links.registry.next == links.registry.next) (c.in-Ok.place == c.in-Ok.place) (eq-eqb links.registry.next links.registry.next refl) (eq-eqb c.in-Ok.place c.in-Ok.place refl))
           (and_from (not links.shut) (is_job_open t.part c.in-Some-Open.dev c.in-Some-Open.write (undecided_job t.setup.now t.me t.part)) (ap not c.if-links.false)
           (asks_open t.part c.in-Some-Open.handle c.in-Some-Open.dev c.in-Some-Open.write (undecided_job t.setup.now t.me t.part) job free));
