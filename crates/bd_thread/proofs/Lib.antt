@@ -21,3 +21,4 @@ pub mod Spliced
 pub mod FirstByte
 pub mod Destructs
 pub mod Starting
+pub mod Leftovers

@@ -10,3 +10,5 @@ pub mod Requests
 pub mod Destructs
 pub mod Moves
 pub mod Starts
+pub mod Endings
+pub mod Resting

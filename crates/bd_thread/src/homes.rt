@@ -205,8 +205,8 @@ fn is_unused(registry: &Registry, dev: DevId) -> bool
     !is_used(registry.handles.as_slice(), dev)
 }
 
-// The device is one of those that were destructed.
-fn has_destructed(destructed: &[DevId], dev: DevId) -> bool
+/// The device is one of those that were destructed.
+pub(crate) fn has_destructed(destructed: &[DevId], dev: DevId) -> bool
     ensures { result ≡ list_any (same_dev dev) destructed.now }
 {
     destructed.iter().any(|d| dev.0 == d.0)

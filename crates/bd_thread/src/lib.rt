@@ -3,6 +3,7 @@
 
 mod admission;
 mod completion;
+mod ending;
 mod held;
 mod homes;
 pub mod law;
@@ -11,6 +12,7 @@ mod links;
 mod messages;
 mod pieces;
 mod requests;
+mod resting;
 mod rules;
 mod start;
 mod store;

@@ -222,8 +222,8 @@ impl<'a> Thread<'a> {
     }
 }
 
-// Why the registry refuses a close, if it does.
-fn close_refusal(handles: &[Handle], thread: u32, id: HandleId) -> Option<Errno>
+/// Why the registry refuses a close, if it does.
+pub(crate) fn close_refusal(handles: &[Handle], thread: u32, id: HandleId) -> Option<Errno>
     ensures { RefusesClose thread (handle_of handles.now id) result }
 {
     match handle_of(handles, id) {
@@ -233,8 +233,8 @@ fn close_refusal(handles: &[Handle], thread: u32, id: HandleId) -> Option<Errno>
     }
 }
 
-// The handle of a thread is open no more.
-fn release(alloc: Global, registry: &mut Registry, thread: u32, id: HandleId)
+/// The handle of a thread is open no more.
+pub(crate) fn release(alloc: Global, registry: &mut Registry, thread: u32, id: HandleId)
     ensures { registry.new ≡ record registry.old { handles = filter (λ h. not (is_own thread id h)) registry.old.handles } }
 {
     let mut handles = replace(&mut registry.handles, Rows::new(alloc)).into_vec();

@@ -1,6 +1,7 @@
 //! What the threads share: a queue of messages to each, the registry, and the list of entries.
 ghost use Rattle.std.specs.Prelude.{◌≡◌, ◌<◌, ◌∷◌, [], ◌++◌, IfOk, OnOk, length, IfSome, IfNone, vec_len};
 ghost use Rattle.bd_thread.specs.Seen.{longer, queues_of, IsFirst, Pushed, Popped};
+ghost use Rattle.bd_thread.specs.Resting.{are_empty, shut_down};
 ghost use Rattle.bd_thread.specs.Starts.{IsNewLinks, empty_queues};
 
 use bd_base::{Act, Entry, OutOfMemory, Rows};
@@ -95,6 +96,22 @@ impl Links {
             entries: Rows::new(alloc),
             shut: false,
         })
+    }
+
+    /// Whether no message is on its way.
+    pub fn are_empty(&self) -> bool
+        ensures { result ≡ are_empty self.now.queues.items }
+    {
+        self.queues.iter().all(|queue| queue.len() == 0)
+    }
+
+    /// Thread 0 shuts down.
+    pub fn shut_down(&mut self) -> Result<(), OutOfMemory>
+        ensures { OnOk result (self.new ≡ shut_down self.old) }
+    {
+        add(&mut self.entries, 0, Act::Shutdown)?;
+        self.shut = true;
+        Ok(())
     }
 }
 

@@ -58,7 +58,8 @@ pub(crate) fn open_on(part: &Part, handle: HandleId) -> usize
         .count()
 }
 
-fn has_mark(part: &Part, mark: &Name) -> bool
+/// Whether the mark was taken.
+pub(crate) fn has_mark(part: &Part, mark: &Name) -> bool
     ensures { result ≡ has_mark part.now mark.now }
 {
     part.marks.as_slice().iter().any(|m| mark.is(m))

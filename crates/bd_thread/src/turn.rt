@@ -287,8 +287,8 @@ impl<'a> Thread<'a> {
         Ok(())
     }
 
-    /// A turn: at most 8 messages, at most 8 pieces of each store, at most 8 lines of the script, and
-    /// what is still to be put, until the queue that it goes to is full.
+    /// A turn: at most 8 messages, at most 8 pieces of each store, at most 8 lines of the script (behind
+    /// a Shutdown the closes and destructs that are left, in their place), and what is still to be put, until the queue that it goes to is full.
     pub fn turn(&mut self, links: &mut Links) -> Result<Turned, OutOfMemory>
         requires { self.old.me < vec_len links.old.queues }
         ensures acted { OnOk result (Acted self.old links.old self.new links.new) }
@@ -299,6 +299,7 @@ impl<'a> Thread<'a> {
         self.receive_all(links)?;
         self.serve_all(links)?;
         self.command_all(links)?;
+        self.end_all(links)?;
         self.put_outbox(links)?;
         self.put_marks(links)?;
         Ok(tell(before, links.entries.len()))

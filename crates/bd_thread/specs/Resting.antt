@@ -1,0 +1,36 @@
+-- When a thread has nothing under way.
+use Rattle.std.specs.Prelude.{◌≡◌, ℕ, Bool, true, not, ◌&&◌, ◌||◌, ◌==◌, ◌^◌, nat_lt, List, length}
+use Rattle.std.specs.List.{list_all, list_any, range_with_len}
+use Rattle.bd_base.specs.declared.act.Act.TheVariants as acts
+use Rattle.bd_base.specs.declared.id.DevId.{DevId}
+use Rattle.bd_base.specs.declared.setup.Setup.{Setup}
+use Rattle.bd_machine.specs.BlockMap.{home}
+use Rattle.bd_machine.specs.Same.{same_dev}
+use Rattle.bd_machine.specs.Start.{dev_of}
+use Rattle.bd_turns.specs.declared.queue.Message.{Message}
+use Rattle.bd_thread.specs.declared.links.Links.{Links}
+use Rattle.bd_thread.specs.declared.thread.Thread.{Thread}
+use Rattle.bd_thread.specs.Seen.{longer}
+
+-- no token is on the thread, and no mark of it is still to be put
+abbrev pub rests : Thread → Bool
+rests t = (length t.held.items == 0) && (length t.part.due == 0)
+
+-- another thread is the device's home, or it was destructed
+abbrev pub is_done_with : Setup → ℕ → List DevId → ℕ → Bool
+is_done_with setup me destructed n = not (home setup (dev_of n) == me) || list_any (same_dev (dev_of n)) destructed
+
+-- the thread destructed each device whose home it is
+abbrev pub has_destructed_all : Thread → Bool
+has_destructed_all t = nat_lt (length t.setup.now.devices) (2 ^ 32) && list_all (is_done_with t.setup.now t.me t.part.destructed) (range_with_len 0 (length t.setup.now.devices))
+
+abbrev pub is_empty : List Message → Bool
+is_empty messages = length messages == 0
+
+-- no message is on its way
+abbrev pub are_empty : List (List Message) → Bool
+are_empty queues = list_all is_empty queues
+
+-- the Shutdown stands, and the entry of thread 0 says so
+abbrev pub shut_down : Links → Links
+shut_down links = record links { entries = longer 0 links.entries acts.Shutdown; shut = true }

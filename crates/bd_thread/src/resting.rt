@@ -1,0 +1,80 @@
+//! When a thread has nothing under way.
+ghost use Rattle.std.specs.Prelude.{◌≡◌, ◌-◌};
+ghost use Rattle.std.specs.List.{list_all, list_any, range_with_len};
+ghost use Rattle.bd_machine.specs.Asked.{is_script_blocked, is_waiting_job};
+ghost use Rattle.bd_machine.specs.Same.{same_dev};
+ghost use Rattle.bd_thread.specs.Resting.{has_destructed_all, is_done_with, rests};
+
+use crate::homes::has_destructed;
+use crate::pieces::home;
+use crate::requests::MOST_REQUESTS;
+use crate::rules::{has_mark, next_line};
+use crate::thread::Thread;
+use bd_base::{DevId, Job, Setup};
+use bd_machine::Part;
+
+// Whether a line waits: for the open requests, for a mark, or for room.
+fn is_waiting_job(part: &Part, job: &Job) -> bool
+    ensures { result ≡ is_waiting_job part.now job.now }
+{
+    match job {
+        Job::Wait => 0 < part.requests.len(),
+        Job::Await(mark) => !has_mark(part, mark),
+        Job::Submit { .. } => MOST_REQUESTS <= part.requests.len(),
+        _ => false,
+    }
+}
+
+// Whether another thread is the device's home, or it was destructed.
+fn is_done_with(setup: &Setup, me: u32, destructed: &[DevId], n: u32) -> bool
+    ensures { result ≡ is_done_with setup.now me destructed.now n }
+{
+    home(setup, DevId(n)) != me || has_destructed(destructed, DevId(n))
+}
+
+#[tactic(auto, using(crate::proofs::Left::left_from))]
+fn are_done_with(setup: &Setup, me: u32, destructed: &[DevId], count: u32) -> bool
+    ensures { result ≡ list_all (is_done_with setup.now me destructed.now) (range_with_len 0 count) }
+{
+    for n in 0..count {
+        if !is_done_with(setup, me, destructed, n) {
+            return false;
+        }
+    }
+    true
+}
+
+impl<'a> Thread<'a> {
+    /// Whether no token is on the thread, and no mark of it is still to be put.
+    pub fn rests(&self) -> bool
+        ensures { result ≡ rests self.now }
+    {
+        self.held.len() == 0 && self.part.due.len() == 0
+    }
+
+    /// Whether its script is at its end, or the next line waits for a mark, for its open requests, or
+    /// for room.
+    pub fn is_blocked(&self) -> bool
+        ensures { result ≡ is_script_blocked self.now.setup.now self.now.me self.now.part }
+    {
+        match next_line(self.setup, self.me, &self.part) {
+            Some(line) => self.part.decided.is_none() && is_waiting_job(&self.part, &line.job),
+            None => true,
+        }
+    }
+
+    /// Whether each device whose home it is was destructed.
+    pub fn has_destructed_all(&self) -> bool
+        ensures { result ≡ has_destructed_all self.now }
+    {
+        let Ok(count) = u32::try_from(self.setup.devices.len()) else {
+            return false;
+        };
+        are_done_with(
+            self.setup,
+            self.me,
+            self.part.destructed.as_slice(),
+            count,
+        )
+    }
+}
