@@ -8,6 +8,7 @@ use Rattle.sha2.specs.Sha256.{sha256}
 use Rattle.bd_base.specs.declared.act.Act.TheVariants as acts
 use Rattle.bd_base.specs.declared.id.DevId.{DevId}
 use Rattle.bd_base.specs.declared.setup.Setup.{Setup}
+use Rattle.bd_home.specs.Destructs.{digest_at, digest_due, digest_in, may_go}
 use Rattle.bd_machine.specs.declared.state.Base.{Base}
 use Rattle.bd_machine.specs.declared.state.Content.{Content}
 use Rattle.bd_machine.specs.declared.state.Content.TheVariants.{Blocks, Zeros, Untold}
@@ -19,7 +20,6 @@ use Rattle.bd_machine.specs.BlockMap.{is_malloc}
 use Rattle.bd_machine.specs.Homes.{is_base, is_digest_at}
 use Rattle.bd_turns.specs.Local.{Local}
 use Rattle.bd_turns.specs.declared.queue.Message.{Message}
-use Rattle.bd_thread.specs.Destructs.{digest_at, digest_due, digest_in, may_go}
 use Rattle.bd_thread.specs.Seen.{local_at}
 use Rattle.bd_thread.proofs.Going.{Steps, steps, still_shut}
 

@@ -15,10 +15,6 @@ pub mod Moving
 pub mod Ends
 pub mod Registering
 pub mod Applies
-pub mod Bases
-pub mod Joined
-pub mod Spliced
-pub mod FirstByte
 pub mod Destructs
 pub mod Starting
 pub mod Leftovers

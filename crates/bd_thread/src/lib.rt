@@ -15,7 +15,6 @@ mod requests;
 mod resting;
 mod rules;
 mod start;
-mod store;
 mod table;
 mod thread;
 mod turn;

@@ -5,12 +5,12 @@ ghost use Rattle.bd_machine.specs.Asked.{is_script_blocked, is_waiting_job};
 ghost use Rattle.bd_machine.specs.Same.{same_dev};
 ghost use Rattle.bd_thread.specs.Resting.{has_destructed_all, is_done_with, rests};
 
-use crate::homes::has_destructed;
 use crate::pieces::home;
 use crate::requests::MOST_REQUESTS;
 use crate::rules::{has_mark, next_line};
 use crate::thread::Thread;
 use bd_base::{DevId, Job, Setup};
+use bd_home::has_destructed;
 use bd_machine::Part;
 
 // Whether a line waits: for the open requests, for a mark, or for room.

@@ -1,10 +1,10 @@
-use Rattle.std.proofs.Common.{◌≡◌, ℕ, Bool, true, List, Option, Some, refl, sym, ◌∙◌, ap, subst, length}
+use Rattle.std.proofs.Common.{◌≡◌, ℕ, true, List, Some, refl, sym, ◌∙◌, ap, subst, length}
 use Rattle.std.specs.List.{find}
 use Rattle.bd_base.specs.declared.act.Act.TheVariants as acts
+use Rattle.bd_home.specs.Destructs.{digest_due, may_go}
 use Rattle.bd_machine.specs.declared.state.Base.{Base}
 use Rattle.bd_machine.specs.BlockMap.{is_malloc}
 use Rattle.bd_machine.specs.Homes.{is_base}
-use Rattle.bd_thread.specs.Destructs.{digest_due, may_go}
 use Rattle.bd_thread.specs.Seen.{here_in, local_at, queues_of}
 use Rattle.bd_thread.proofs.Destructs.{destruct_steps}
 use Rattle.bd_thread.proofs.Ends.{length-longer}
@@ -23,10 +23,8 @@ returns-clause-acted c =
     let queues = queues_of links.queues.items in
     let stamp = length links.entries in
     let may : may_go setup t.me t.part links.registry links.shut dev ≡ true = sym c.may_go.ensures ∙ c.if-not-may_go.false in
-    let base = sym (c.find_base-base.ensures ∙ ap (λ (bs : List Base). find (is_base dev) bs) c.as_slice.ensures) in
     let due : digest_due (is_malloc setup dev) (find (is_base dev) t.part.bases) ≡ Some c.in-Some.digest =
-    ap (λ (b : Bool). digest_due b (find (is_base dev) t.part.bases)) (sym c.is_malloc.ensures)
-    ∙ ap (λ (o : Option Base). digest_due c.is_malloc.result o) base
+    ap (λ (bs : List Base). digest_due (is_malloc setup dev) (find (is_base dev) bs)) (sym c.as_slice.ensures)
     ∙ sym c.digest_due.ensures
     ∙ c.in-Some.is in
     let stepped = destruct_steps setup t.me t.part here links.registry links.shut stamp queues dev c.in-Some.digest c.push.new.self may due c.in_ok-push.ensures.ok in

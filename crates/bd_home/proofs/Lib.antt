@@ -1,0 +1,5 @@
+pub mod Spliced
+pub mod FirstByte
+pub mod Joined
+pub mod Places
+pub mod Ready
