@@ -7,6 +7,8 @@ mod destructing;
 mod devices;
 mod serving;
 mod store;
+#[cfg(test)]
+mod tests;
 
 pub use destructing::{digest_due, has_destructed, may_go};
 pub use devices::{home, is_home, size_of};
