@@ -3,7 +3,10 @@
 #![tactic(auto)]
 
 mod history;
+mod node;
 mod run;
+mod schedule;
 
 pub use history::History;
+pub use node::{Node, NodeState};
 pub use run::play;

@@ -4,6 +4,7 @@ use Rattle.std.specs.List.{list_all, list_any, range_with_len}
 use Rattle.bd_base.specs.declared.act.Act.TheVariants as acts
 use Rattle.bd_base.specs.declared.id.DevId.{DevId}
 use Rattle.bd_base.specs.declared.setup.Setup.{Setup}
+use Rattle.bd_machine.specs.Asked.{is_script_blocked}
 use Rattle.bd_machine.specs.BlockMap.{home}
 use Rattle.bd_machine.specs.Same.{same_dev}
 use Rattle.bd_machine.specs.Start.{dev_of}
@@ -15,6 +16,10 @@ use Rattle.bd_thread.specs.Seen.{longer}
 -- no token is on the thread, and no mark of it is still to be put
 abbrev pub rests : Thread → Bool
 rests t = (length t.held.items == 0) && (length t.part.due == 0)
+
+-- its script is at its end, or the next line waits
+abbrev pub is_blocked : Thread → Bool
+is_blocked t = is_script_blocked t.setup.now t.me t.part
 
 -- another thread is the device's home, or it was destructed
 abbrev pub is_done_with : Setup → ℕ → List DevId → ℕ → Bool

@@ -2,6 +2,7 @@
 use Rattle.std.specs.Prelude.{◌≡◌, ℕ, ◌+◌, Bool, cond, ◌==◌, List, [], ◌∷◌, ◌++◌, length, filter, drop, Option, slice_index_or}
 use Rattle.bd_base.specs.declared.act.Act.{Act}
 use Rattle.bd_base.specs.declared.act.Entry.{Entry}
+use Rattle.bd_base.specs.declared.setup.Setup.{Setup}
 use Rattle.bd_machine.specs.declared.state.Id.{Id}
 use Rattle.bd_machine.specs.declared.state.Kept.{Kept}
 use Rattle.bd_machine.specs.declared.state.Part.{Part}
@@ -45,6 +46,13 @@ local_at me part here registry shut stamp queues = record {
 -- what the thread sees and what is shared
 abbrev pub local : Thread → Links → Local
 local t links = local_at t.me t.part (here_in t.held.items) links.registry links.shut (length links.entries) (queues_of links.queues.items)
+
+-- which thread it is, and of which setup, for the crates above
+abbrev pub number_of : Thread → ℕ
+number_of t = t.me
+
+abbrev pub setup_of : Thread → Setup
+setup_of t = t.setup.now
 
 -- the entry of a thread with this stamp
 abbrev pub entry_at : ℕ → ℕ → Act → Entry

@@ -1,9 +1,9 @@
 //! When a thread has nothing under way.
 ghost use Rattle.std.specs.Prelude.{◌≡◌, ◌-◌};
 ghost use Rattle.std.specs.List.{list_all, list_any, range_with_len};
-ghost use Rattle.bd_machine.specs.Asked.{is_script_blocked, is_waiting_job};
+ghost use Rattle.bd_machine.specs.Asked.{is_waiting_job};
 ghost use Rattle.bd_machine.specs.Same.{same_dev};
-ghost use Rattle.bd_thread.specs.Resting.{has_destructed_all, is_done_with, rests};
+ghost use Rattle.bd_thread.specs.Resting.{has_destructed_all, is_blocked, is_done_with, rests};
 
 use crate::pieces::home;
 use crate::requests::MOST_REQUESTS;
@@ -55,7 +55,7 @@ impl<'a> Thread<'a> {
     /// Whether its script is at its end, or the next line waits for a mark, for its open requests, or
     /// for room.
     pub fn is_blocked(&self) -> bool
-        ensures { result ≡ is_script_blocked self.now.setup.now self.now.me self.now.part }
+        ensures { result ≡ is_blocked self.now }
     {
         match next_line(self.setup, self.me, &self.part) {
             Some(line) => self.part.decided.is_none() && is_waiting_job(&self.part, &line.job),

@@ -1,0 +1,5 @@
+pub mod Places
+pub mod Turns
+pub mod Turning
+pub mod Rest
+pub mod Starts

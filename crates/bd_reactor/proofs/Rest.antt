@@ -1,0 +1,139 @@
+-- When a node is at rest: a Shutdown may come, and behind it the run is complete.
+use Rattle.std.proofs.Common.{◌≡◌, ℕ, zero, suc, ◌+◌, ◌^◌, ◌<◌, ◌≤◌, ◌⊎◌, inl, inr, Bool, true, false, cond, not, ◌||◌, ◌==◌, List, [], ◌∷◌, length, Option, Some, None, refl, sym, ◌∙◌, ap, subst, eq-eqb, eqb-true, arith, nat_lt}
+use Rattle.std.specs.List.{list_all, list_any, range_with_len, slice_get}
+use Rattle.std.proofs.lemmas.Bool.{and_parts, cases_eq}
+use Rattle.std.proofs.lemmas.List.{length-append}
+use Rattle.std.proofs.lemmas.Nat.{mod_below}
+use Rattle.bd_base.specs.declared.setup.Setup.{Setup}
+use Rattle.bd_machine.specs.declared.state.Id.{Id}
+use Rattle.bd_machine.specs.declared.state.Kept.{Kept}
+use Rattle.bd_machine.specs.declared.state.State.{State}
+use Rattle.bd_machine.specs.Asked.{is_script_blocked}
+use Rattle.bd_machine.specs.BlockMap.{base_of, home}
+use Rattle.bd_machine.specs.Run.{IsCompleteRun, state_after}
+use Rattle.bd_machine.specs.Same.{same_dev}
+use Rattle.bd_machine.specs.Start.{dev_of, start}
+use Rattle.bd_machine.specs.Step.{after}
+use Rattle.bd_machine.specs.View.{View}
+use Rattle.bd_alone.proofs.Entries.{after_on, run_on}
+use Rattle.bd_turns.specs.Laws.{AreAtRest, AreBlocked, AreDestructed, IsShut, shutdown_at}
+use Rattle.bd_turns.specs.Tied.{IsTied}
+use Rattle.bd_turns.specs.declared.queue.Message.{Message}
+use Rattle.bd_turns.proofs.Rest.{rest_is_complete, shutdown_is_allowed}
+use Rattle.bd_thread.specs.declared.links.Links.{Links}
+use Rattle.bd_thread.specs.declared.thread.Thread.{Thread}
+use Rattle.bd_thread.specs.Resting.{are_empty, has_destructed_all, is_blocked, is_done_with, is_empty, rests, shut_down}
+use Rattle.bd_thread.specs.Seen.{here_in, local, number_of, queues_of, setup_of}
+use Rattle.bd_reactor.specs.declared.node.NodeState.TheVariants.{Idle, Done, Busy}
+use Rattle.bd_reactor.specs.Whole.{IsWhole, shared_of, view_or, views_of}
+use Rattle.bd_reactor.proofs.Places.{all_at, has_at}
+use Rattle.bd_reactor.proofs.Turns.{retie}
+
+-- ---- by parts
+
+nothing : {X : Type 0} (xs : List X) → (length xs == 0) ≡ true → xs ≡ []
+nothing [] h = refl
+nothing (x ∷ xs) h = absurd (let e : length (x ∷ xs) ≡ 0 = eqb-true (length (x ∷ xs)) 0 h in omega (arith, e))
+
+empty_at : (queues : List (List Message)) → are_empty queues ≡ true → (r : ℕ) → queues_of queues r ≡ []
+empty_at [] h r = none r
+  where
+    none : (r : ℕ) → queues_of [] r ≡ []
+    none zero = refl
+    none (suc r) = refl
+empty_at (q ∷ qs) h zero = nothing q (and_parts (is_empty q) (list_all is_empty qs) h).0
+empty_at (q ∷ qs) h (suc r) = empty_at qs (and_parts (is_empty q) (list_all is_empty qs) h).1 r
+
+none_held : (held : List (Id × Kept)) → held ≡ [] → (id : Id) → here_in held id ≡ None
+none_held held e id = ap (λ (h : List (Id × Kept)). here_in h id) e
+
+one_of : (b c : Bool) → (not b || c) ≡ true → b ≡ true → c ≡ true
+one_of true c h e = h
+one_of false c h e = cc
+
+range_at : (p : ℕ → Bool) (k a n : ℕ) → list_all p (range_with_len a k) ≡ true → a ≤ n → n < a + k → p n ≡ true
+range_at p zero a n h low high = absurd (omega (arith, low, high))
+range_at p (suc k) a n h low high =
+    let both = and_parts (p a) (list_all p (range_with_len (a + 1) k)) h in
+    go (cases_eq a n) both.0 (λ ne. range_at p k (a + 1) n both.1 (omega (arith, low, ne)) (omega (arith, high)))
+  where
+    go : (a ≡ n) ⊎ (a ≡ n → ⊥) → p a ≡ true → ((a ≡ n → ⊥) → p n ≡ true) → p n ≡ true
+    go (inl same) here rest = subst (λ (m : ℕ). p m ≡ true) same here
+    go (inr ne) here rest = rest ne
+
+pub idle_parts : (shut over idle : Bool) → cond shut (cond over Done Busy) (cond idle Idle Busy) ≡ Idle → (shut ≡ false) × (idle ≡ true)
+idle_parts true true idle h = cc
+idle_parts true false idle h = cc
+idle_parts false over true h = (refl, refl)
+idle_parts false over false h = cc
+
+pub done_parts : (shut over idle : Bool) → cond shut (cond over Done Busy) (cond idle Idle Busy) ≡ Done → (shut ≡ true) × (over ≡ true)
+done_parts true true idle h = (refl, refl)
+done_parts true false idle h = cc
+done_parts false over true h = cc
+done_parts false over false h = cc
+
+-- ---- the threads of a node
+
+module _ (setup : Setup) (threads : List Thread) (links : Links) (w : IsWhole setup threads links) where
+  abbrev seen : ℕ → View
+  seen = views_of setup threads links
+
+  -- what holds of each thread by what it sees holds of the views
+  of_each : (p : Thread → Bool) (q : ℕ → View → Type 0) → list_all p threads ≡ true → ((t : Thread) → setup_of t ≡ setup → p t ≡ true → q (number_of t) (local t links).view) → (t : ℕ) → t < setup.threads → q t (seen t)
+  of_each p q all gives t lt =
+      let u = has_at threads t (subst (λ (n : ℕ). t < n) (sym w.threads_are) lt) in
+      let own = w.each t u.0 u.1 in
+      subst (λ (v : View). q t v) (sym (ap (view_or setup t links) u.1))
+      (subst (λ (n : ℕ). q n (local u.0 links).view) own.number (gives u.0 own.given (all_at p threads t u.0 all u.1)))
+
+  pub at_rest : list_all rests threads ≡ true → are_empty links.queues.items ≡ true → AreAtRest setup seen (shared_of links)
+  at_rest rest empty = record {
+    none_queued = empty_at links.queues.items empty;
+    none_here = of_each rests (λ t v. (id : Id) → v.here id ≡ None) rest (λ t given h id. none_held t.held.items (nothing t.held.items (and_parts (length t.held.items == 0) (length t.part.due == 0) h).0) id);
+    none_due = of_each rests (λ t v. v.part.due ≡ []) rest (λ t given h. nothing t.part.due (and_parts (length t.held.items == 0) (length t.part.due == 0) h).1);
+  }
+
+  pub blocked : list_all is_blocked threads ≡ true → AreBlocked setup seen
+  blocked all = of_each is_blocked (λ t v. is_script_blocked setup t v.part ≡ true) all (λ t given h. subst (λ (s : Setup). is_script_blocked s (number_of t) t.part ≡ true) given h)
+
+  pub destructed : list_all has_destructed_all threads ≡ true → AreDestructed setup seen
+  destructed all n lt =
+      let at = home setup (dev_of n) in
+      of_each has_destructed_all (λ t v. (t ≡ at) → list_any (same_dev (dev_of n)) v.part.destructed ≡ true) all
+      (λ t given h same.
+      let every = (and_parts (nat_lt (length t.setup.now.devices) (2 ^ 32)) (list_all (is_done_with t.setup.now t.me t.part.destructed) (range_with_len 0 (length t.setup.now.devices))) h).1 in
+      let one = range_at (is_done_with t.setup.now t.me t.part.destructed) (length t.setup.now.devices) 0 n every (omega arith) (subst (λ (s : Setup). n < 0 + length s.devices) (sym given) (omega (arith, lt))) in
+      one_of (home t.setup.now (dev_of n) == t.me) (list_any (same_dev (dev_of n)) t.part.destructed) one
+      (eq-eqb (home t.setup.now (dev_of n)) t.me (ap (λ (s : Setup). home s (dev_of n)) given ∙ sym same)))
+      at (mod_below (base_of setup (dev_of n)).0 setup.threads w.some) refl
+
+  view_still : (i : ℕ) (o : Option Thread) → view_or setup i links o ≡ view_or setup i (shut_down links) o
+  view_still i None = refl
+  view_still i (Some t) = refl
+
+  -- **a node that is idle may be shut**
+  pub shut_whole : links.shut ≡ false → list_all rests threads ≡ true → are_empty links.queues.items ≡ true → list_all is_blocked threads ≡ true → IsWhole setup threads (shut_down links)
+  shut_whole unshut rest empty all =
+      let was = state_after setup [] links.entries in
+      let stamp = length links.entries + 1 in
+      let shuts : IsShut setup was seen (shared_of links) stamp =
+      shutdown_is_allowed setup was seen (shared_of links) stamp w.tied w.some (at_rest rest empty) (blocked all) unshut (omega arith) in
+      let longer : length (shut_down links).entries ≡ stamp = length-append links.entries (shutdown_at stamp ∷ []) in
+      record {
+        some = w.some;
+        threads_are = w.threads_are;
+        queues_are = w.queues_are;
+        each = w.each;
+        run = run_on setup (start setup []) links.entries (shutdown_at stamp ∷ []) w.run (shuts.allowed, tt);
+        tied =
+            subst (λ (s : State). IsTied setup s (views_of setup threads (shut_down links)) (shared_of (shut_down links))) (sym (after_on setup (start setup []) links.entries (shutdown_at stamp ∷ [])))
+            (retie setup (after setup was (shutdown_at stamp)) seen (views_of setup threads (shut_down links)) (shared_of (shut_down links))
+            (subst (λ (n : ℕ). IsTied setup (after setup was (shutdown_at stamp)) seen (record (shared_of links) { stamp = n; shut = true })) (sym longer) shuts.tied)
+            (λ t lt. (shuts.tied.views_are t lt) ∙ view_still t (slice_get threads t)));
+      }
+
+  -- **a node that is done has a complete run**
+  pub done_complete : links.shut ≡ true → list_all rests threads ≡ true → are_empty links.queues.items ≡ true → list_all has_destructed_all threads ≡ true → IsCompleteRun setup [] links.entries
+  done_complete shut rest empty all =
+      (w.run, rest_is_complete setup (state_after setup [] links.entries) seen (shared_of links) w.tied w.some (at_rest rest empty) shut (destructed all))
