@@ -18,3 +18,5 @@ pub mod Applies
 pub mod Destructs
 pub mod Starting
 pub mod Leftovers
+pub mod Idle
+pub mod Waiting

@@ -56,7 +56,7 @@ module _ (setup : Setup) (me : ℕ) (part : Part) (here : Id → Option Kept) (r
 
 -- ---- what a thread asks of the registry
 
-name_self : (xs : List ℕ) → same_name xs xs ≡ true
+pub name_self : (xs : List ℕ) → same_name xs xs ≡ true
 name_self [] = refl
 name_self (x ∷ xs) = and_from (nat_eq x x) (pointwise nat_eq xs xs) (eq-eqb x x refl) (name_self xs)
 

@@ -12,3 +12,4 @@ pub mod Moves
 pub mod Starts
 pub mod Endings
 pub mod Resting
+pub mod Waits

@@ -1,5 +1,5 @@
 -- What a line asks of the registry, and what the answer leaves; what a line's end changes, and when it comes.
-use Rattle.std.specs.Prelude.{◌≡◌, ℕ, ◌+◌, Bool, true, false, cond, not, ◌++◌, ◌==◌, Option, Some, None, is_none}
+use Rattle.std.specs.Prelude.{◌≡◌, ℕ, ◌+◌, Bool, true, false, cond, ◌++◌, ◌==◌, Option, Some, None, is_none}
 use Rattle.bd_base.specs.declared.act.Act.TheVariants as acts
 use Rattle.bd_base.specs.declared.act.Outcome.{Outcome}
 use Rattle.bd_base.specs.declared.job.Job.{Job}
@@ -74,18 +74,25 @@ IsDone setup job old new = new ≡ record old {
   due = old.due ++ posted setup (Some job);
 }
 
-abbrev pub number_if : Option Line → ℕ
-number_if None = 0
-number_if (Some line) = line.number
+-- the next line ended so: it is done, one Script says how it ended, and all else stayed
+pub record IsEnded (outcome : Outcome) (old : Thread) (before : Links) (new : Thread) (after : Links) : Type 0 where
+  pub line : Line
+  pub next : next_line old.setup.now old.me old.part ≡ Some line
+  pub part : IsDone old.setup.now line.job old.part new.part
+  pub thread : new ≡ record old { part = new.part }
+  pub links : after ≡ record before { entries = longer old.me before.entries (acts.Script line.number outcome) }
 
--- one Script entry exactly where the next line has an outcome and no Shutdown stands, else none
-abbrev pub ScriptAdded : Thread → Links → Links → Bool → Option Outcome → Type 0
-ScriptAdded t before after ended None = (ended ≡ false) × (after.entries ≡ before.entries)
-ScriptAdded t before after ended (Some outcome) =
-    (ended ≡ not before.shut) × (after.entries ≡ cond before.shut before.entries (longer t.me before.entries (acts.Script (number_if (next_line t.setup.now t.me t.part)) outcome)))
+-- true where there is an outcome, and the line ended so; else nothing changes
+abbrev pub EndsBy : Thread → Links → Thread → Links → Bool → Option Outcome → Type 0
+EndsBy old before new after ended None = (ended ≡ false) × (new ≡ old) × (after ≡ before)
+EndsBy old before new after ended (Some outcome) = (ended ≡ true) × IsEnded outcome old before new after
 
-abbrev pub EndsLine : Thread → Links → Links → Bool → Type 0
-EndsLine t before after ended = ScriptAdded t before after ended (outcome_due t.setup.now t.me t.part)
+-- the outcome that the next line has, where it goes on and no Shutdown stands
+abbrev pub outcome_now : Thread → Links → Option Outcome
+outcome_now t links = cond links.shut None (outcome_due t.setup.now t.me t.part)
+
+abbrev pub EndsLine : Thread → Links → Thread → Links → Bool → Type 0
+EndsLine old before new after ended = EndsBy old before new after ended (outcome_now old before)
 
 -- ---- a close
 

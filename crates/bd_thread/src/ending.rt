@@ -4,6 +4,7 @@ ghost use Rattle.std.specs.Prelude.{◌≡◌, ◌<◌, vec_len, IfOk, OnOk};
 ghost use Rattle.bd_thread.specs.Acted.{Acted};
 ghost use Rattle.bd_thread.specs.Endings.{ClosesLeft, first_own, is_of_if_any, left_over, links_closed, may_close};
 ghost use Rattle.bd_thread.specs.Requests.{KeepsTickets};
+ghost use Rattle.bd_thread.specs.Waits.{Idles, NoDestruct, NoHandle, NothingLeft};
 
 use crate::lines::release;
 use crate::links::{Links, add};
@@ -75,8 +76,9 @@ impl<'a> Thread<'a> {
         requires { self.old.me < vec_len links.old.queues }
         ensures acted { OnOk result (Acted self.old links.old self.new links.new) }
         ensures tickets { OnOk result (KeepsTickets self.old → KeepsTickets self.new) }
+        ensures quiet { OnOk result (Idles NoHandle self.old links.old self.new links.new) }
     {
-        for _ in 0..links.registry.handles.len() {
+        for _round in 0..links.registry.handles.len() {
             if !self.close_left(links)? {
                 break;
             }
@@ -88,6 +90,7 @@ impl<'a> Thread<'a> {
         requires { self.old.me < vec_len links.old.queues }
         ensures acted { OnOk result (Acted self.old links.old self.new links.new) }
         ensures tickets { OnOk result (KeepsTickets self.old → KeepsTickets self.new) }
+        ensures quiet { OnOk result (Idles NoDestruct self.old links.old self.new links.new) }
     {
         for place in 0..self.setup.devices.len() {
             let Ok(dev) = u32::try_from(place) else {
@@ -104,6 +107,7 @@ impl<'a> Thread<'a> {
         requires { self.old.me < vec_len links.old.queues }
         ensures acted { OnOk result (Acted self.old links.old self.new links.new) }
         ensures tickets { OnOk result (KeepsTickets self.old → KeepsTickets self.new) }
+        ensures quiet { OnOk result (Idles NothingLeft self.old links.old self.new links.new) }
     {
         if !links.shut {
             return Ok(());

@@ -95,15 +95,19 @@ fn go_on(alloc: Global, part: &mut Part, setup: &Setup, job: &Job) -> Result<(),
 }
 
 impl<'a> Thread<'a> {
-    /// Ends the next line, where it goes on.
+    /// Ends the next line, where it goes on: true. Else, or behind a Shutdown, nothing changes. More
+    /// open requests than 32 bits count are want of memory.
     pub(crate) fn end_line(&mut self, links: &mut Links) -> Result<bool, OutOfMemory>
         requires me { self.old.me < vec_len links.old.queues }
         ensures acted { OnOk result (Acted self.old links.old self.new links.new) }
         ensures tickets { OnOk result (KeepsTickets self.old → KeepsTickets self.new) }
-        ensures ended { length self.old.part.requests < 2 ^ 32 → IfOk result (EndsLine self.old links.old links.new) }
+        ensures ended { IfOk result (EndsLine self.old links.old self.new links.new) }
     {
-        if links.shut || u32::try_from(self.part.requests.len()).is_err() {
+        if links.shut {
             return Ok(false);
+        }
+        if u32::try_from(self.part.requests.len()).is_err() {
+            return Err(OutOfMemory);
         }
         let setup = self.setup;
         let Some(line) = next_line(setup, self.me, &self.part) else {

@@ -3,6 +3,7 @@ ghost use Rattle.std.specs.Prelude.{◌≡◌, ◌<◌, ◌∷◌, [], ◌++◌,
 ghost use Rattle.bd_thread.specs.Seen.{longer, queues_of, IsFirst, Pushed, Popped};
 ghost use Rattle.bd_thread.specs.Resting.{are_empty, shut_down};
 ghost use Rattle.bd_thread.specs.Starts.{IsNewLinks, empty_queues};
+ghost use Rattle.bd_thread.specs.Waits.{is_full};
 
 use bd_base::{Act, Entry, OutOfMemory, Rows};
 use bd_machine::Registry;
@@ -158,7 +159,9 @@ pub(crate) fn add(entries: &mut Rows<Entry>, thread: u32, act: Act) -> Result<()
 }
 
 /// Whether as many messages are on their way to the thread as may be.
-pub(crate) fn is_full(queues: &[Queue], to: u32) -> bool {
+pub(crate) fn is_full(queues: &[Queue], to: u32) -> bool
+    ensures { result ≡ is_full queues.now to }
+{
     match queues.get(to as usize) {
         Some(queue) => queue.len() >= MOST_MESSAGES,
         None => false,

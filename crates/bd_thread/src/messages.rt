@@ -310,8 +310,8 @@ impl<'a> Thread<'a> {
         Ok(Some(id))
     }
 
-    // Whether there is a queue to the thread, and the token may go there.
-    fn may_put(&self, links: &Links, to: u32, what: &Token) -> bool
+    /// Whether there is a queue to the thread, and the token may go there.
+    pub(crate) fn may_put(&self, links: &Links, to: u32, what: &Token) -> bool
         ensures { result ≡ may_put self.now links.now to what.now }
     {
         if to as usize >= links.queues.len() {

@@ -3,6 +3,7 @@ ghost use Rattle.std.specs.Prelude.{◌≡◌, ◌+◌, ◌<◌, ◌≤◌, Some
 ghost use Rattle.bd_thread.specs.Acted.{Acted};
 ghost use Rattle.bd_thread.specs.Requests.{IsAsked, IsFresh, KeepsTickets};
 ghost use Rattle.bd_thread.specs.Moves.{turned_of, AddsMore, IsNextTicket};
+ghost use Rattle.bd_thread.specs.Waits.{first_due, may_send, Idles, IsFilled, NoLine, NoMessage, NoPiece, NoPieceOn, NoSubmission, NothingToPost, NothingToSend, Quiets};
 
 use crate::admission::{Asked, has_range};
 use crate::links::{Links, is_full};
@@ -22,7 +23,7 @@ const BATCH: u32 = 8;
 pub enum Turned {
     /// So many acts were made.
     Moved(usize),
-    /// No act was made.
+    /// No act was made, and nothing changed: the thread waits for others.
     Quiet,
 }
 
@@ -63,6 +64,7 @@ impl<'a> Thread<'a> {
         requires asked { IsAsked self.old links.old (Some handle) asked }
         ensures acted { OnOk result (Acted self.old links.old self.new links.new) }
         ensures tickets { OnOk result (KeepsTickets self.old → KeepsTickets self.new) }
+        ensures quiet { OnOk result (Idles IsFilled self.old links.old self.new links.new) }
     {
         let Some(ticket) = next_ticket(self.me, self.part.next_request) else {
             return Err(OutOfMemory);
@@ -88,6 +90,7 @@ impl<'a> Thread<'a> {
         requires me { self.old.me < vec_len links.old.queues }
         ensures acted { OnOk result (Acted self.old links.old self.new links.new) }
         ensures tickets { OnOk result (KeepsTickets self.old → KeepsTickets self.new) }
+        ensures quiet { OnOk result (Idles NoSubmission self.old links.old self.new links.new) }
     {
         if links.shut || MOST_REQUESTS <= self.part.requests.len() {
             return Ok(false);
@@ -125,6 +128,7 @@ impl<'a> Thread<'a> {
         requires { self.old.me < vec_len links.old.queues }
         ensures acted { OnOk result (Acted self.old links.old self.new links.new) }
         ensures tickets { OnOk result (KeepsTickets self.old → KeepsTickets self.new) }
+        ensures quiet { OnOk result (Idles NoMessage self.old links.old self.new links.new) }
     {
         let Some(id) = self.take(links)? else {
             return Ok(false);
@@ -141,8 +145,9 @@ impl<'a> Thread<'a> {
         requires { self.old.me < vec_len links.old.queues }
         ensures acted { OnOk result (Acted self.old links.old self.new links.new) }
         ensures tickets { OnOk result (KeepsTickets self.old → KeepsTickets self.new) }
+        ensures quiet { OnOk result (Idles NoMessage self.old links.old self.new links.new) }
     {
-        for _ in 0..BATCH {
+        for _round in 0..BATCH {
             if !self.receive(links)? {
                 break;
             }
@@ -155,6 +160,7 @@ impl<'a> Thread<'a> {
         requires { self.old.me < vec_len links.old.queues }
         ensures acted { OnOk result (Acted self.old links.old self.new links.new) }
         ensures tickets { OnOk result (KeepsTickets self.old → KeepsTickets self.new) }
+        ensures quiet { OnOk result (Idles (NoPieceOn dev) self.old links.old self.new links.new) }
     {
         let Some(id) = self.apply(links, dev)? else {
             return Ok(false);
@@ -169,8 +175,9 @@ impl<'a> Thread<'a> {
         requires { self.old.me < vec_len links.old.queues }
         ensures acted { OnOk result (Acted self.old links.old self.new links.new) }
         ensures tickets { OnOk result (KeepsTickets self.old → KeepsTickets self.new) }
+        ensures quiet { OnOk result (Idles (NoPieceOn dev) self.old links.old self.new links.new) }
     {
-        for _ in 0..BATCH {
+        for _round in 0..BATCH {
             if !self.serve(links, dev)? {
                 break;
             }
@@ -182,6 +189,7 @@ impl<'a> Thread<'a> {
         requires { self.old.me < vec_len links.old.queues }
         ensures acted { OnOk result (Acted self.old links.old self.new links.new) }
         ensures tickets { OnOk result (KeepsTickets self.old → KeepsTickets self.new) }
+        ensures quiet { OnOk result (Idles NoPiece self.old links.old self.new links.new) }
     {
         for place in 0..self.setup.devices.len() {
             let Ok(dev) = u32::try_from(place) else {
@@ -197,6 +205,7 @@ impl<'a> Thread<'a> {
         requires { self.old.me < vec_len links.old.queues }
         ensures acted { OnOk result (Acted self.old links.old self.new links.new) }
         ensures tickets { OnOk result (KeepsTickets self.old → KeepsTickets self.new) }
+        ensures quiet { OnOk result (Idles NoLine self.old links.old self.new links.new) }
     {
         self.open(links)?;
         self.close(links)?;
@@ -208,8 +217,9 @@ impl<'a> Thread<'a> {
         requires { self.old.me < vec_len links.old.queues }
         ensures acted { OnOk result (Acted self.old links.old self.new links.new) }
         ensures tickets { OnOk result (KeepsTickets self.old → KeepsTickets self.new) }
+        ensures quiet { OnOk result (Idles NoLine self.old links.old self.new links.new) }
     {
-        for _ in 0..BATCH {
+        for _round in 0..BATCH {
             if !self.command(links)? {
                 break;
             }
@@ -217,16 +227,27 @@ impl<'a> Thread<'a> {
         Ok(())
     }
 
-    // Puts what stands first in the outbox on its way, unless the queue that it goes to is full.
+    // Whether what stands first in the outbox may go where it is to go, and there is room.
+    fn may_send(&self, links: &Links) -> bool
+        ensures { result ≡ may_send self.now links.now self.now.outbox.items }
+    {
+        match self.outbox.front() {
+            Some((to, what)) => {
+                !is_full(links.queues.as_slice(), *to) && self.may_put(links, *to, what)
+            }
+            None => false,
+        }
+    }
+
+    // Puts what stands first in the outbox on its way, where it may go and there is room. Else it
+    // stays there.
     fn put_next(&mut self, links: &mut Links) -> Result<bool, OutOfMemory>
         requires { self.old.me < vec_len links.old.queues }
         ensures acted { OnOk result (Acted self.old links.old self.new links.new) }
         ensures tickets { OnOk result (KeepsTickets self.old → KeepsTickets self.new) }
+        ensures quiet { OnOk result (Idles NothingToSend self.old links.old self.new links.new) }
     {
-        let Some(&(to, _)) = self.outbox.front() else {
-            return Ok(false);
-        };
-        if is_full(links.queues.as_slice(), to) {
+        if !self.may_send(links) {
             return Ok(false);
         }
         match self.outbox.pop_front() {
@@ -236,7 +257,9 @@ impl<'a> Thread<'a> {
     }
 
     // The first mark that is due, and its receiver.
-    fn first_due(&self) -> Result<Option<(u32, Token)>, OutOfMemory> {
+    fn first_due(&self) -> Result<Option<(u32, Token)>, OutOfMemory>
+        ensures { IfOk result (λ due. due ≡ first_due self.now.part.due) }
+    {
         match self.part.due.as_slice().first() {
             Some(due) => {
                 let News::Mark(mark) = &due.news;
@@ -251,6 +274,7 @@ impl<'a> Thread<'a> {
         requires { self.old.me < vec_len links.old.queues }
         ensures acted { OnOk result (Acted self.old links.old self.new links.new) }
         ensures tickets { OnOk result (KeepsTickets self.old → KeepsTickets self.new) }
+        ensures quiet { OnOk result (Idles NothingToPost self.old links.old self.new links.new) }
     {
         let Some((to, what)) = self.first_due()? else {
             return Ok(false);
@@ -265,8 +289,9 @@ impl<'a> Thread<'a> {
         requires { self.old.me < vec_len links.old.queues }
         ensures acted { OnOk result (Acted self.old links.old self.new links.new) }
         ensures tickets { OnOk result (KeepsTickets self.old → KeepsTickets self.new) }
+        ensures quiet { OnOk result (Idles NothingToSend self.old links.old self.new links.new) }
     {
-        for _ in 0..self.outbox.len() {
+        for _round in 0..self.outbox.len() {
             if !self.put_next(links)? {
                 break;
             }
@@ -278,8 +303,9 @@ impl<'a> Thread<'a> {
         requires { self.old.me < vec_len links.old.queues }
         ensures acted { OnOk result (Acted self.old links.old self.new links.new) }
         ensures tickets { OnOk result (KeepsTickets self.old → KeepsTickets self.new) }
+        ensures quiet { OnOk result (Idles NothingToPost self.old links.old self.new links.new) }
     {
-        for _ in 0..self.part.due.len() {
+        for _round in 0..self.part.due.len() {
             if !self.put_due(links)? {
                 break;
             }
@@ -288,12 +314,14 @@ impl<'a> Thread<'a> {
     }
 
     /// A turn: at most 8 messages, at most 8 pieces of each store, at most 8 lines of the script (behind
-    /// a Shutdown the closes and destructs that are left, in their place), and what is still to be put, until the queue that it goes to is full.
+    /// a Shutdown the closes and destructs that are left, in their place), and what is still to be put,
+    /// until the queue that it goes to is full. `Quiet` only where none of this could be done.
     pub fn turn(&mut self, links: &mut Links) -> Result<Turned, OutOfMemory>
         requires { self.old.me < vec_len links.old.queues }
         ensures acted { OnOk result (Acted self.old links.old self.new links.new) }
         ensures tickets { OnOk result (KeepsTickets self.old → KeepsTickets self.new) }
         ensures turned { IfOk result (AddsMore links.old links.new) }
+        ensures quiet { IfOk result (Quiets self.old links.old self.new links.new) }
     {
         let before = links.entries.len();
         self.receive_all(links)?;

@@ -1,9 +1,11 @@
-use Rattle.std.proofs.Common.{ℕ, ◌≤◌, sym, subst, le_refl}
+use Rattle.std.proofs.Common.{ℕ, ◌≤◌, sym, ap, subst, le_refl}
 use Rattle.bd_base.specs.declared.id.ReqId.{ReqId}
+use Rattle.bd_thread.specs.declared.links.Links.{Links}
 use Rattle.bd_thread.specs.declared.thread.Thread.{Thread}
 use Rattle.bd_thread.specs.Moves.{IsNextTicket}
 use Rattle.bd_thread.specs.Requests.{IsFresh}
 use Rattle.bd_thread.proofs.Going.{acted_then}
+use Rattle.bd_thread.proofs.Idle.{more_then}
 use Rattle.bd_thread.proofs.thread.Thread.submit_through.Goals as goal
 
 fresh_next : (t : Thread) (id : ReqId) → IsNextTicket t.me t.part.next_request id → IsFresh t id
@@ -16,4 +18,5 @@ pub returns-in_ok-cut-in-Ok : goal.returns-in_ok-cut-in-Ok
 returns-in_ok-cut-in-Ok c = record {
   acted = acted_then _ _ _ _ _ _ c.in-Ok.ensures.acted c.in_ok-cut-in-Ok.ensures.acted;
   tickets = λ keeps. c.in_ok-cut-in-Ok.ensures.tickets (c.in-Ok.ensures.tickets keeps);
+  quiet = λ few. absurd (more_then c.args.self.now.me c.args.links.now c.submit.new.links _ c.submit.new.self c.cut.new.self c.cut.new.links (ap (λ (l : Links). l.entries) c.in-Ok.ensures.accepted.1.opens.links) c.in_ok-cut-in-Ok.ensures.acted few);
 }

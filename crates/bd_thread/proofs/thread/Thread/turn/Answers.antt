@@ -1,4 +1,7 @@
+use Rattle.std.proofs.Common.{length, ◌∙◌, ap}
+use Rattle.bd_thread.specs.Moves.{turned_of}
 use Rattle.bd_thread.proofs.Going.{acted_then}
+use Rattle.bd_thread.proofs.Waiting.{quiet_by, turn_idle}
 use Rattle.bd_thread.proofs.thread.Thread.turn.Goals as goal
 
 pub returns-clause-acted : goal.returns-clause-acted
@@ -12,3 +15,13 @@ returns-clause-acted c =
 pub returns-clause-tickets : goal.returns-clause-tickets
 returns-clause-tickets c = λ keeps.
     c.in_ok-put_marks.ensures.tickets (c.in_ok-put_outbox.ensures.tickets (c.in_ok-end_all.ensures.tickets (c.in_ok-command_all.ensures.tickets (c.in_ok-serve_all.ensures.tickets (c.in_ok-receive_all.ensures.tickets keeps)))))
+
+pub returns-clause-quiet : goal.returns-clause-quiet
+returns-clause-quiet c =
+    let before = c.args.links.now in
+    let after = c.put_marks.new.links in
+    let answer = c.tell.ensures ∙ ap (λ n. turned_of n c.len.result) c.len-before.ensures ∙ ap (λ n. turned_of (length before.entries) n) c.len.ensures in
+    quiet_by c.args.self.now before c.put_marks.new.self after c.tell.result answer
+    (turn_idle _ _ _ _ _ _ _ _ _ _ _ _ _ _
+    c.in_ok-receive_all.ensures.acted c.in_ok-serve_all.ensures.acted c.in_ok-command_all.ensures.acted c.in_ok-end_all.ensures.acted c.in_ok-put_outbox.ensures.acted c.in_ok-put_marks.ensures.acted
+    c.in_ok-receive_all.ensures.quiet c.in_ok-serve_all.ensures.quiet c.in_ok-command_all.ensures.quiet c.in_ok-end_all.ensures.quiet c.in_ok-put_outbox.ensures.quiet c.in_ok-put_marks.ensures.quiet)

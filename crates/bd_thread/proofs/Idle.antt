@@ -1,0 +1,170 @@
+-- What adds no entry changes nothing.
+use Rattle.std.proofs.Common.{◌≡◌, ℕ, ◌≤◌, Bool, true, false, List, length, Option, Some, None, Result, Ok, Err, OnOk, IfOk, refl, ◌∙◌, ap, subst, arith, find}
+use Rattle.std.proofs.lemmas.List.{length-append}
+use Rattle.bd_base.specs.declared.act.Act.{Act}
+use Rattle.bd_base.specs.declared.act.Act.TheVariants as acts
+use Rattle.bd_base.specs.declared.act.ApplyEnd.TheVariants as apply_ends
+use Rattle.bd_base.specs.declared.act.Outcome.{Outcome}
+use Rattle.bd_base.specs.declared.act.Token.{Token}
+use Rattle.bd_base.specs.declared.event.Answer.TheVariants as answers
+use Rattle.bd_base.specs.declared.event.RegEvent.{RegEvent}
+use Rattle.bd_base.specs.declared.event.RegEvent.TheVariants as events
+use Rattle.bd_base.specs.declared.id.DevId.{DevId}
+use Rattle.bd_base.specs.declared.id.HandleId.{HandleId}
+use Rattle.bd_base.specs.declared.id.ReqId.{ReqId}
+use Rattle.bd_machine.specs.declared.state.Id.{Id}
+use Rattle.bd_machine.specs.declared.state.Id.TheVariants as ids
+use Rattle.bd_machine.specs.BlockMap.{is_malloc}
+use Rattle.bd_machine.specs.Homes.{is_base}
+use Rattle.bd_machine.specs.Messages.{count_at}
+use Rattle.bd_turns.specs.declared.queue.Message.{Message}
+use Rattle.bd_thread.specs.declared.completion.Ending.{Ending}
+use Rattle.bd_thread.specs.declared.links.Links.{Links}
+use Rattle.bd_thread.specs.declared.thread.Thread.{Thread}
+use Rattle.bd_thread.specs.Acted.{Acted}
+use Rattle.bd_thread.specs.Completions.{ending_of, Completes, CompletesBy}
+use Rattle.bd_home.specs.Destructs.{digest_due, may_go}
+use Rattle.bd_thread.specs.Destructs.{DestructAdded, Destructs}
+use Rattle.bd_thread.specs.Endings.{left_over, ClosesIfAny, ClosesLeft}
+use Rattle.bd_thread.specs.Lines.{close_asked, job_now, open_asked, outcome_now, AsksBy, Closes, EndsBy, EndsLine, Opens}
+use Rattle.bd_thread.specs.Seen.{longer, queues_of}
+use Rattle.bd_thread.specs.Sent.{first_brought, may_put, Puts, PutsBy, Takes, TakesBy}
+use Rattle.bd_thread.specs.Served.{Applies}
+use Rattle.bd_thread.specs.Waits.{Idles, IsIdle, NoDestructOn, NoHandle, NoLine, NoMessage, NoSubmission}
+use Rattle.bd_thread.proofs.Ends.{length-longer}
+use Rattle.bd_thread.proofs.Going.{acted_then}
+
+-- ---- entries are only added
+
+pub grown : (o : Thread) (a : Links) (n : Thread) (c : Links) → Acted o a n c → length a.entries ≤ length c.entries
+grown o a n c h = omega (arith, ap length h.added, length-append a.entries h.entries)
+
+-- one entry was added
+pub more : (me : ℕ) (a b : Links) (act : Act) → b.entries ≡ longer me a.entries act → length b.entries ≤ length a.entries → ⊥
+more me a b act added few = omega (arith, ap length added, length-longer me a.entries act)
+
+-- one entry was added, and then others maybe
+pub more_then : (me : ℕ) (a b : Links) (act : Act) (m : Thread) (n : Thread) (c : Links) → b.entries ≡ longer me a.entries act → Acted m b n c → length c.entries ≤ length a.entries → ⊥
+more_then me a b act m n c added h few = omega (arith, ap length added, length-longer me a.entries act, grown m b n c h)
+
+-- ---- steps
+
+pub idle_here : {P : Thread → Links → Type 0} (t : Thread) (a : Links) → P t a → Idles P t a t a
+idle_here t a p = λ few. record { thread = refl; links = refl; waits = p }
+
+-- it waits for this, so for that
+pub idle_so : {P Q : Thread → Links → Type 0} (o : Thread) (a : Links) (n : Thread) (c : Links) → (P o a → Q o a) → Idles P o a n c → Idles Q o a n c
+idle_so o a n c so h = λ few. let i = h few in record { thread = i.thread; links = i.links; waits = so i.waits }
+
+-- one step behind the other
+pub idle_then : {P Q R : Thread → Links → Type 0} (o : Thread) (a : Links) (m : Thread) (b : Links) (n : Thread) (c : Links)
+    → Acted o a m b
+    → Acted m b n c
+    → (P o a → Q o a → R o a)
+    → Idles P o a m b
+    → Idles Q m b n c
+    → Idles R o a n c
+idle_then {P = P} {Q = Q} {R = R} o a m b n c g h both f s few =
+    let first : IsIdle P o a m b = f (omega (arith, grown m b n c h)) in
+    let second : IsIdle Q m b n c = s (omega (arith, grown o a m b g)) in
+    record {
+      thread = second.thread ∙ first.thread;
+      links = second.links ∙ first.links;
+      waits = both first.waits (subst (λ (t : Thread). Q t a) first.thread (subst (λ (l : Links). Q m l) first.links second.waits));
+    }
+
+-- ---- the exact clauses of the steps
+
+pub takes_idle : (old : Thread) (before : Links) (new : Thread) (after : Links) (id : Option Id) → Takes old before new after id → Idles NoMessage old before new after
+takes_idle old before new after id h few = go (first_brought (queues_of before.queues.items old.me)) refl h
+  where
+    go : (o : Option Message) → first_brought (queues_of before.queues.items old.me) ≡ o → TakesBy old before new after id o → IsIdle NoMessage old before new after
+    go None e k = record { thread = k.1; links = k.2; waits = e }
+    go (Some m) e k = absurd (more old.me before after (acts.Took m.sender (count_at old.part.taken m.sender) m.what) k.1 few)
+
+pub completes_idle : {P : Thread → Links → Type 0} (req : ReqId) (old : Thread) (before : Links) (new : Thread) (after : Links) (done : Bool) → P old before → Completes req old before new after done → Idles P old before new after
+completes_idle {P = P} req old before new after done p h few = go (ending_of old.me old.held.items req) h
+  where
+    go : (o : Option Ending) → CompletesBy req old before new after done o → IsIdle P old before new after
+    go None k = record { thread = k.1; links = k.2; waits = p }
+    go (Some e) k = absurd (more old.me before after (acts.Complete req e.status e.shown) (ap (λ (l : Links). l.entries) k.1.links) few)
+
+asks_idle : {P : Thread → Links → Type 0} (old : Thread) (before : Links) (new : Thread) (after : Links) (asked : Bool) (o : Option RegEvent) → (o ≡ None → P old before) → AsksBy old before new after asked o → Idles P old before new after
+asks_idle old before new after asked None so h few = record { thread = h.1; links = h.2; waits = so refl }
+asks_idle old before new after asked (Some event) so h few = absurd (more old.me before after (acts.Reg event h.1.answer) (ap (λ (l : Links). l.entries) h.1.links) few)
+
+pub opens_idle : (old : Thread) (before : Links) (new : Thread) (after : Links) (asked : Bool) → Opens old before new after asked → Idles (λ t links. open_asked t.part (job_now t links) ≡ None) old before new after
+opens_idle old before new after asked h = asks_idle old before new after asked (open_asked old.part (job_now old before)) (λ e. e) h
+
+pub closes_idle : (old : Thread) (before : Links) (new : Thread) (after : Links) (asked : Bool) → Closes old before new after asked → Idles (λ t links. close_asked t.part (job_now t links) ≡ None) old before new after
+closes_idle old before new after asked h = asks_idle old before new after asked (close_asked old.part (job_now old before)) (λ e. e) h
+
+ends_by_idle : {P : Thread → Links → Type 0} (old : Thread) (before : Links) (new : Thread) (after : Links) (ended : Bool) (o : Option Outcome) → (o ≡ None → P old before) → EndsBy old before new after ended o → Idles P old before new after
+ends_by_idle old before new after ended None so h few = record { thread = h.1; links = h.2; waits = so refl }
+ends_by_idle old before new after ended (Some outcome) so h few = absurd (more old.me before after (acts.Script h.1.line.number outcome) (ap (λ (l : Links). l.entries) h.1.links) few)
+
+pub ends_idle : (old : Thread) (before : Links) (new : Thread) (after : Links) (ended : Bool) → EndsLine old before new after ended → Idles (λ t links. outcome_now t links ≡ None) old before new after
+ends_idle old before new after ended h = ends_by_idle old before new after ended (outcome_now old before) (λ e. e) h
+
+-- nothing can be done for the line
+pub line_idle : (o : Thread) (a : Links) (p : Thread) (b : Links) (q : Thread) (d : Links) (r : Thread) (e : Links) (n : Thread) (f : Links)
+    → Acted o a p b
+    → Acted p b q d
+    → Acted q d r e
+    → Acted r e n f
+    → Idles (λ t links. open_asked t.part (job_now t links) ≡ None) o a p b
+    → Idles (λ t links. close_asked t.part (job_now t links) ≡ None) p b q d
+    → Idles NoSubmission q d r e
+    → Idles (λ t links. outcome_now t links ≡ None) r e n f
+    → Idles NoLine o a n f
+line_idle o a p b q d r e n f open-acted close-acted submit-acted end-acted opens closes submits ends =
+    let two : Idles (λ t links. (open_asked t.part (job_now t links) ≡ None) × (close_asked t.part (job_now t links) ≡ None)) o a q d =
+    idle_then o a p b q d open-acted close-acted (λ opening closing. (opening, closing)) opens closes in
+    let two-acted = acted_then o a p b q d open-acted close-acted in
+    let three : Idles (λ t links. (open_asked t.part (job_now t links) ≡ None) × (close_asked t.part (job_now t links) ≡ None) × NoSubmission t links) o a r e =
+    idle_then o a q d r e two-acted submit-acted (λ asked submission. (asked.0, asked.1, submission)) two submits in
+    idle_then o a r e n f (acted_then o a q d r e two-acted submit-acted) end-acted
+    (λ asked outcome. record { opening = asked.0; closing = asked.1; submission = asked.2; outcome = outcome }) three ends
+
+-- a piece was served
+pub applies_more : (old : Thread) (before : Links) (new : Thread) (after : Links) (dev : DevId) (id : Id) → Applies old before new after dev (Some id) → length after.entries ≤ length before.entries → ⊥
+applies_more old before new after dev (ids.Piece req k) h few = more old.me before after (acts.Apply req k dev apply_ends.Done) h.1 few
+applies_more old before new after dev (ids.Request req) h few = h.1
+applies_more old before new after dev (ids.Notice s r n) h few = h.1
+
+pub leaves_idle : (old : Thread) (before : Links) (new : Thread) (after : Links) (done : Bool) → ClosesLeft old before new after done → Idles NoHandle old before new after
+leaves_idle old before new after done h few = go (left_over old before) refl h
+  where
+    go : (o : Option HandleId) → left_over old before ≡ o → ClosesIfAny old before new after done o → IsIdle NoHandle old before new after
+    go None e k = record { thread = k.1; links = k.2; waits = e }
+    go (Some id) e k = absurd (more old.me before after (acts.Reg (events.Close id) (answers.Closed None)) (ap (λ (l : Links). l.entries) k.2) few)
+
+pub destructs_idle : (old : Thread) (before : Links) (new : Thread) (after : Links) (dev : DevId) (done : Bool) → Destructs old before new after dev done → Idles (NoDestructOn dev) old before new after
+destructs_idle old before new after dev done h few =
+    go (may_go old.setup.now old.me old.part before.registry before.shut dev) (digest_due (is_malloc old.setup.now dev) (find (is_base dev) old.part.bases)) refl refl h
+  where
+    go : (may : Bool) (shown : Option (Option (List ℕ)))
+        → may_go old.setup.now old.me old.part before.registry before.shut dev ≡ may
+        → digest_due (is_malloc old.setup.now dev) (find (is_base dev) old.part.bases) ≡ shown
+        → DestructAdded old before new after dev done may shown
+        → IsIdle (NoDestructOn dev) old before new after
+    go true (Some digest) m s k = absurd (more old.me before after (acts.Destruct dev digest) k.1 few)
+    go true None m s k = record { thread = k.1.0; links = k.1.1; waits = cc }
+    go false (Some digest) m s k = record { thread = k.1.0; links = k.1.1; waits = cc }
+    go false None m s k = record { thread = k.1.0; links = k.1.1; waits = cc }
+
+pub puts_idle : {P : Thread → Links → Type 0} (old : Thread) (before : Links) (new : Thread) (after : Links) (to : ℕ) (what : Token) (put : Bool) → (may_put old before to what ≡ false → P old before) → Puts old before new after to what put → Idles P old before new after
+puts_idle {P = P} old before new after to what put so h few = go (may_put old before to what) refl h
+  where
+    go : (may : Bool) → may_put old before to what ≡ may → PutsBy old before new after to what put may → IsIdle P old before new after
+    go false e k = record { thread = k.1; links = k.2; waits = so e }
+    go true e k = absurd (more old.me before after (acts.Put to (count_at old.part.put to) what) k.1 few)
+
+-- of a last call, whose answer is the function's own
+pub both_ok : {T E A Q : Type 0} {P : T → Type 0} (r : Result T E) → (A → (x : T) → P x → Q) → OnOk r A → IfOk r P → OnOk r Q
+both_ok (Ok x) f a p = f a x p
+both_ok (Err e) f a p = tt
+
+pub all_ok : {T E A B Q : Type 0} (r : Result T E) → (A → B → Q) → OnOk r A → OnOk r B → OnOk r Q
+all_ok (Ok x) f a b = f a b
+all_ok (Err e) f a b = tt

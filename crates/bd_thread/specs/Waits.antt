@@ -1,0 +1,172 @@
+-- What a thread waits for where its turn added no entry.
+use Rattle.std.specs.Prelude.{◌≡◌, ℕ, ◌<◌, ◌≤◌, ◌^◌, Bool, true, false, not, ◌&&◌, ◌||◌, nat_le, nat_lt, List, [], ◌∷◌, length, find, vec_len, Option, Some, None, is_some}
+use Rattle.bd_base.specs.declared.act.Token.{Token}
+use Rattle.bd_base.specs.declared.act.Token.TheVariants as tokens
+use Rattle.bd_base.specs.declared.id.DevId.{DevId}
+use Rattle.bd_base.specs.declared.job.Job.{Job}
+use Rattle.bd_base.specs.declared.job.Job.TheVariants as jobs
+use Rattle.bd_home.specs.Destructs.{digest_due, may_go as may_device_go}
+use Rattle.bd_machine.specs.declared.state.Due.{Due}
+use Rattle.bd_machine.specs.declared.state.News.{News}
+use Rattle.bd_machine.specs.declared.state.News.TheVariants.{Mark}
+use Rattle.bd_machine.specs.Admission.{has_range}
+use Rattle.bd_machine.specs.Asked.{is_script_blocked, most_requests, undecided_job}
+use Rattle.bd_machine.specs.BlockMap.{is_malloc}
+use Rattle.bd_machine.specs.Homes.{is_base}
+use Rattle.bd_machine.specs.Messages.{may_go}
+use Rattle.bd_turns.specs.declared.queue.Message.{Message}
+use Rattle.bd_thread.specs.declared.links.Links.{Links}
+use Rattle.bd_thread.specs.declared.thread.Thread.{Thread}
+use Rattle.bd_thread.specs.declared.turn.Turned.{Turned}
+use Rattle.bd_thread.specs.declared.turn.Turned.TheVariants.{Moved, Quiet}
+use Rattle.bd_thread.specs.Endings.{left_over}
+use Rattle.bd_thread.specs.Lines.{close_asked, job_now, open_asked, outcome_now}
+use Rattle.bd_thread.specs.Seen.{local, queues_of}
+use Rattle.bd_thread.specs.Sent.{first_brought}
+use Rattle.bd_thread.specs.Served.{next_due}
+
+-- ---- messages and pieces
+
+-- no message that could be taken stands first in the thread's queue
+abbrev pub NoMessage : Thread → Links → Type 0
+NoMessage t links = first_brought (queues_of links.queues.items t.me) ≡ None
+
+-- no piece can be served on a device
+abbrev pub NoPieceOn : DevId → Thread → Links → Type 0
+NoPieceOn dev t links = next_due t dev ≡ None
+
+-- nor on any device with a number below this one
+abbrev pub NoPieceBelow : ℕ → Thread → Links → Type 0
+NoPieceBelow n t links = (dev : DevId) → dev.0 < n → NoPieceOn dev t links
+
+-- nor on any; their numbers have 32 bits
+abbrev pub NoPiece : Thread → Links → Type 0
+NoPiece = NoPieceBelow (2 ^ 32)
+
+-- ---- the next line
+
+-- it asks for a submission on a range
+abbrev pub is_submission : Option Job → Bool
+is_submission (Some (jobs.Submit handle op lba count)) = has_range op
+is_submission _ = false
+
+-- as many requests are open as may be
+abbrev pub IsFilled : Thread → Links → Type 0
+IsFilled t links = most_requests ≤ length t.part.requests
+
+-- nothing can be submitted
+abbrev pub NoSubmission : Thread → Links → Type 0
+NoSubmission t links = is_submission (job_now t links) && nat_lt (length t.part.requests) most_requests ≡ false
+
+-- no act can be made for the line: nothing can be opened, closed or submitted, and it has no outcome
+pub record NoLine (t : Thread) (links : Links) : Type 0 where
+  pub opening : open_asked t.part (job_now t links) ≡ None
+  pub closing : close_asked t.part (job_now t links) ≡ None
+  pub submission : NoSubmission t links
+  pub outcome : outcome_now t links ≡ None
+
+-- what no thread does yet: a claim, a removal, a reset, an abort, a sleep, and a wait for a removal
+abbrev pub is_unbuilt : Job → Bool
+is_unbuilt (jobs.Claim handle kind) = true
+is_unbuilt (jobs.Submit handle op lba count) = not (has_range op)
+is_unbuilt (jobs.Remove dev) = true
+is_unbuilt (jobs.Sleep time) = true
+is_unbuilt (jobs.Gone handle) = true
+is_unbuilt _ = false
+
+abbrev pub asks_unbuilt : Option Job → Bool
+asks_unbuilt None = false
+asks_unbuilt (Some job) = is_unbuilt job
+
+-- a Shutdown stands, the script is at its end or blocked, or its next line asks for what no thread does yet
+abbrev pub is_line_waiting : Thread → Links → Bool
+is_line_waiting t links = links.shut || is_script_blocked t.setup.now t.me t.part || asks_unbuilt (undecided_job t.setup.now t.me t.part)
+
+-- ---- behind a Shutdown
+
+-- no handle that is left to the thread may be closed
+abbrev pub NoHandle : Thread → Links → Type 0
+NoHandle t links = left_over t links ≡ None
+
+-- the device may be destructed, and what its entry shows is here
+abbrev pub may_destruct : Thread → Links → DevId → Bool
+may_destruct t links dev = may_device_go t.setup.now t.me t.part links.registry links.shut dev && is_some (digest_due (is_malloc t.setup.now dev) (find (is_base dev) t.part.bases))
+
+abbrev pub NoDestructOn : DevId → Thread → Links → Type 0
+NoDestructOn dev t links = may_destruct t links dev ≡ false
+
+-- no device with a number below this one can be destructed
+abbrev pub NoDestructBelow : ℕ → Thread → Links → Type 0
+NoDestructBelow n t links = (dev : DevId) → dev.0 < n → NoDestructOn dev t links
+
+abbrev pub NoDestruct : Thread → Links → Type 0
+NoDestruct = NoDestructBelow (2 ^ 32)
+
+-- no handle can be closed, and no device destructed
+pub record NothingLeft (t : Thread) (links : Links) : Type 0 where
+  pub handle : NoHandle t links
+  pub device : NoDestruct t links
+
+-- ---- what is still to be put
+
+-- the most messages on their way to one thread
+abbrev pub most_messages : ℕ
+most_messages = 1024
+
+-- as many messages are on their way to a thread as may be
+abbrev pub is_full : List (List Message) → ℕ → Bool
+is_full queues to = nat_le most_messages (length (queues_of queues to))
+
+-- there is a queue to the thread, and it isn't full
+abbrev pub has_room : Links → ℕ → Bool
+has_room links to = nat_lt to (vec_len links.queues) && not (is_full links.queues.items to)
+
+-- what stands first in the outbox may go where it is to go, and there is room
+abbrev pub may_send : Thread → Links → List (ℕ × Token) → Bool
+may_send t links [] = false
+may_send t links (x ∷ xs) = has_room links x.0 && may_go t.setup.now t.me (local t links).view x.0 x.1
+
+abbrev pub NothingToSend : Thread → Links → Type 0
+NothingToSend t links = may_send t links t.outbox.items ≡ false
+
+-- there is room where the first mark that is due is to go
+abbrev pub may_post : Links → List Due → Bool
+may_post links [] = false
+may_post links (d ∷ ds) = has_room links d.receiver
+
+abbrev pub NothingToPost : Thread → Links → Type 0
+NothingToPost t links = may_post links t.part.due ≡ false
+
+abbrev pub token_of : News → Token
+token_of (Mark mark) = tokens.Mark mark
+
+-- the first mark that is due, and where it is to go
+abbrev pub first_due : List Due → Option (ℕ × Token)
+first_due [] = None
+first_due (d ∷ ds) = Some (d.receiver, token_of d.news)
+
+-- ---- a turn
+
+-- nothing changed, and the thread waits for this
+pub record IsIdle (Waits : Thread → Links → Type 0) (old : Thread) (before : Links) (new : Thread) (after : Links) : Type 0 where
+  pub thread : new ≡ old
+  pub links : after ≡ before
+  pub waits : Waits old before
+
+-- what adds no entry changes nothing, and then the thread waits for this
+abbrev pub Idles : (Thread → Links → Type 0) → Thread → Links → Thread → Links → Type 0
+Idles Waits old before new after = length after.entries ≤ length before.entries → IsIdle Waits old before new after
+
+-- all that a thread waits for: a message that it can take, a piece that it can serve on a device whose home it is, a line that can go on, behind a Shutdown a handle that it can close or a device that it can destruct, and room for what stands first in its outbox, if that may go there, and for the first mark that is due
+pub record IsWaiting (t : Thread) (links : Links) : Type 0 where
+  pub message : NoMessage t links
+  pub piece : NoPiece t links
+  pub line : is_line_waiting t links ≡ true
+  pub left : NothingLeft t links
+  pub outbox : NothingToSend t links
+  pub mark : NothingToPost t links
+
+-- a quiet turn changed nothing, and the thread waits for all this
+abbrev pub Quiets : Thread → Links → Thread → Links → Turned → Type 0
+Quiets old before new after Quiet = IsIdle IsWaiting old before new after
+Quiets old before new after (Moved n) = Unit {0}
