@@ -6,6 +6,8 @@ mod history;
 mod node;
 mod run;
 mod schedule;
+#[cfg(test)]
+mod tests;
 
 pub use history::History;
 pub use node::{Node, NodeState};

@@ -1,5 +1,5 @@
 //! A node: the threads of a setup, and what they share.
-ghost use Rattle.std.specs.Prelude.{◌≡◌, ◌<◌, [], length, vec_len, IfOk, OnOk};
+ghost use Rattle.std.specs.Prelude.{◌≡◌, ◌<◌, ◌≤◌, [], length, nat_lt, IfOk, OnOk};
 ghost use Rattle.std.specs.List.{list_all};
 ghost use Rattle.bd_machine.specs.Run.{IsCompleteRun};
 ghost use Rattle.bd_thread.specs.Moves.{AddsMore};
@@ -110,6 +110,7 @@ impl<'a> Node<'a> {
         ensures setup { OnOk result (self.new.setup ≡ self.old.setup) }
         ensures schedule { OnOk result (self.new.schedule ≡ self.old.schedule) }
         ensures turned { IfOk result (AddsMore self.old.links self.new.links) }
+        ensures none { self.old.setup.now.threads ≤ thread → OnOk result (self.new ≡ self.old) }
     {
         let place = thread as usize;
         if place >= self.threads.len() {
@@ -137,6 +138,7 @@ impl<'a> Node<'a> {
         requires { IsNode self.old }
         ensures node { OnOk result (IsNode self.new) }
         ensures setup { OnOk result (self.new.setup ≡ self.old.setup) }
+        ensures moved { IfOk result (λ moved. moved ≡ nat_lt (length self.old.links.entries) (length self.new.links.entries)) }
         ensures schedule { OnOk result (self.new.schedule.state ≡ advance_by 256 self.old.schedule.state) }
     {
         let before = self.links.entries.len();
