@@ -1,10 +1,22 @@
--- What came of a turn.
-use Rattle.std.specs.Prelude.{◌≡◌, ℕ, ◌-◌, ◌<◌, ◌==◌, cond, length}
+-- What came of a turn, and of two steps of it.
+use Rattle.std.specs.Prelude.{◌≡◌, ℕ, ◌-◌, ◌<◌, ◌==◌, Bool, true, false, cond, List, [], ◌∷◌, ◌++◌, length, Option, Some, None}
+use Rattle.bd_base.specs.declared.act.Act.TheVariants as acts
+use Rattle.bd_base.specs.declared.act.ApplyEnd.TheVariants as ends
+use Rattle.bd_base.specs.declared.act.Token.{Token}
+use Rattle.bd_base.specs.declared.act.Token.TheVariants as tokens
+use Rattle.bd_base.specs.declared.id.DevId.{DevId}
 use Rattle.bd_base.specs.declared.id.ReqId.{ReqId}
+use Rattle.bd_machine.specs.declared.state.Id.{Id}
+use Rattle.bd_machine.specs.declared.state.Id.TheVariants as ids
 use Rattle.bd_machine.specs.Asked.{no_request}
+use Rattle.bd_machine.specs.Messages.{count_at}
 use Rattle.bd_thread.specs.declared.links.Links.{Links}
+use Rattle.bd_thread.specs.declared.thread.Thread.{Thread}
 use Rattle.bd_thread.specs.declared.turn.Turned.{Turned}
 use Rattle.bd_thread.specs.declared.turn.Turned.TheVariants.{Moved, Quiet}
+use Rattle.bd_thread.specs.Seen.{longer}
+use Rattle.bd_thread.specs.Served.{next_due}
+use Rattle.bd_thread.specs.Waits.{may_send}
 
 abbrev pub turned_of : ℕ → ℕ → Turned
 turned_of before after = cond (before == after) Quiet (Moved (after - before))
@@ -18,3 +30,26 @@ pub record IsNextTicket (thread next : ℕ) (id : ReqId) : Type 0 where
   pub own : id.thread ≡ thread
   pub next_is : id.seq ≡ next
   pub names : id.seq < no_request
+
+-- ---- a home serves a piece
+
+-- the piece is served, and to be put to its own thread, once, behind all else; without one nothing changes
+abbrev pub ServesBy : Thread → Links → Thread → Links → DevId → Bool → Option Id → Type 0
+ServesBy old before new after dev served None = (served ≡ false) × (new ≡ old) × (after ≡ before)
+ServesBy old before new after dev served (Some (ids.Piece req k)) =
+    (served ≡ true) × (new.outbox.items ≡ old.outbox.items ++ (req.thread, tokens.Piece req k) ∷ []) × (after.entries ≡ longer old.me before.entries (acts.Apply req k dev ends.Done))
+ServesBy old before new after dev served (Some _) = ⊥
+
+-- the piece that is next on the device is served
+abbrev pub Serves : Thread → Links → Thread → Links → DevId → Bool → Type 0
+Serves old before new after dev served = ServesBy old before new after dev served (next_due old dev)
+
+-- ---- what stands first in the outbox is put
+
+-- one Put of it, and the others stay; where it can't be put nothing changes
+abbrev pub SendsBy : Thread → Links → Thread → Links → Bool → List (ℕ × Token) → Bool → Type 0
+SendsBy old before new after sent (x ∷ xs) true = (sent ≡ true) × (new.outbox.items ≡ xs) × (after.entries ≡ longer old.me before.entries (acts.Put x.0 (count_at old.part.put x.0) x.1))
+SendsBy old before new after sent _ _ = (sent ≡ false) × (new ≡ old) × (after ≡ before)
+
+abbrev pub SendsFirst : Thread → Links → Thread → Links → Bool → Type 0
+SendsFirst old before new after sent = SendsBy old before new after sent old.outbox.items (may_send old before old.outbox.items)

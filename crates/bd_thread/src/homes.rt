@@ -9,6 +9,7 @@ ghost use Rattle.bd_thread.specs.Destructs.{Destructs};
 ghost use Rattle.bd_thread.specs.Next.{IsNext, id_of};
 ghost use Rattle.bd_thread.specs.Requests.{KeepsTickets};
 ghost use Rattle.bd_thread.specs.Seen.{here_in};
+ghost use Rattle.bd_thread.specs.Sent.{KeepsRequests};
 ghost use Rattle.bd_thread.specs.Served.{Applies, next_due, next_in};
 
 use crate::held::{held, hold};
@@ -58,6 +59,7 @@ impl<'a> Thread<'a> {
         requires { self.old.me < vec_len links.old.queues }
         ensures acted { OnOk result (Acted self.old links.old self.new links.new) }
         ensures tickets { OnOk result (KeepsTickets self.old → KeepsTickets self.new) }
+        ensures keeps { OnOk result (KeepsRequests self.old links.old self.new links.new) }
         ensures applied { IfOk result (Applies self.old links.old self.new links.new dev) }
     {
         if !is_home(self.setup, self.me, dev) {

@@ -2,7 +2,7 @@
 ghost use Rattle.std.specs.Prelude.{◌≡◌, ◌+◌, ◌<◌, ◌≤◌, Some, true, vec_len, IfOk, IfSome, OnOk};
 ghost use Rattle.bd_thread.specs.Acted.{Acted};
 ghost use Rattle.bd_thread.specs.Requests.{IsAsked, IsFresh, KeepsTickets};
-ghost use Rattle.bd_thread.specs.Moves.{turned_of, AddsMore, IsNextTicket};
+ghost use Rattle.bd_thread.specs.Moves.{turned_of, AddsMore, IsNextTicket, SendsFirst, Serves};
 ghost use Rattle.bd_thread.specs.Waits.{first_due, may_send, Idles, IsFilled, NoLine, NoMessage, NoPiece, NoPieceOn, NoSubmission, NothingToPost, NothingToSend, Quiets};
 
 use crate::admission::{Asked, has_range};
@@ -161,6 +161,7 @@ impl<'a> Thread<'a> {
         ensures acted { OnOk result (Acted self.old links.old self.new links.new) }
         ensures tickets { OnOk result (KeepsTickets self.old → KeepsTickets self.new) }
         ensures quiet { OnOk result (Idles (NoPieceOn dev) self.old links.old self.new links.new) }
+        ensures serves { IfOk result (Serves self.old links.old self.new links.new dev) }
     {
         let Some(id) = self.apply(links, dev)? else {
             return Ok(false);
@@ -246,6 +247,7 @@ impl<'a> Thread<'a> {
         ensures acted { OnOk result (Acted self.old links.old self.new links.new) }
         ensures tickets { OnOk result (KeepsTickets self.old → KeepsTickets self.new) }
         ensures quiet { OnOk result (Idles NothingToSend self.old links.old self.new links.new) }
+        ensures sends { IfOk result (SendsFirst self.old links.old self.new links.new) }
     {
         if !self.may_send(links) {
             return Ok(false);
