@@ -70,11 +70,6 @@ impl<'a> Thread<'a> {
         let Ok(count) = u32::try_from(self.setup.devices.len()) else {
             return false;
         };
-        are_done_with(
-            self.setup,
-            self.me,
-            self.part.destructed.as_slice(),
-            count,
-        )
+        are_done_with(self.setup, self.me, self.part.destructed.as_slice(), count)
     }
 }
