@@ -93,6 +93,7 @@ impl<'a> Thread<'a> {
         requires { self.old.me < vec_len links.old.queues }
         ensures acted { OnOk result (Acted self.old links.old self.new links.new) }
         ensures tickets { OnOk result (KeepsTickets self.old → KeepsTickets self.new) }
+        ensures keeps { OnOk result (KeepsRequests self.old links.old self.new links.new) }
         ensures destructed { IfOk result (Destructs self.old links.old self.new links.new dev) }
     {
         let setup = self.setup;
