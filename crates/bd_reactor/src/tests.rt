@@ -403,10 +403,10 @@ fn open_line(alloc: Global, handle: &str, write: bool) -> Result<Job, OutOfMemor
 fn numbered<const N: usize>(
     alloc: Global,
     thread: u32,
-    jobs: [Job; N],
+    jobs: [(u32, Job); N],
 ) -> Result<Script, OutOfMemory> {
     let mut lines = Rows::new(alloc);
-    for (number, job) in (0..N as u32).zip(jobs) {
+    for (number, job) in jobs {
         lines.push(Line { number, job })?;
     }
     Ok(Script { thread, lines })
@@ -423,13 +423,13 @@ fn refused_lines(alloc: Global) -> Result<Setup, OutOfMemory>
     ensures { IfOk result (λ setup. setup.threads ≡ 2) }
 {
     let own = [
-        open_line(alloc, "a", true)?,
-        handle_line(alloc, "a", Op::Write(SEED), 60, 5)?,
-        handle_line(alloc, "a", Op::Read, 0, 0)?,
-        open_line(alloc, "b", false)?,
-        handle_line(alloc, "b", Op::Write(SEED), 0, 1)?,
+        (1, open_line(alloc, "a", true)?),
+        (2, handle_line(alloc, "a", Op::Write(SEED), 60, 5)?),
+        (3, handle_line(alloc, "a", Op::Read, 0, 0)?),
+        (4, open_line(alloc, "b", false)?),
+        (5, handle_line(alloc, "b", Op::Write(SEED), 0, 1)?),
     ];
-    let others = [handle_line(alloc, "a", Op::Read, 0, 1)?];
+    let others = [(6, handle_line(alloc, "a", Op::Read, 0, 1)?)];
     let mut scripts = Rows::new(alloc);
     scripts.push(numbered(alloc, 0, own)?)?;
     scripts.push(numbered(alloc, 1, others)?)?;

@@ -16,6 +16,8 @@ mod resting;
 mod rules;
 mod start;
 mod table;
+#[cfg(test)]
+mod tests;
 mod thread;
 mod turn;
 

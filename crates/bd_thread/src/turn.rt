@@ -38,8 +38,8 @@ fn tell(before: usize, after: usize) -> Turned
     }
 }
 
-// A ticket with the number that the thread gives next, while there are numbers.
-fn next_ticket(thread: u32, next: u64) -> Option<Ticket>
+/// A ticket with the number that the thread gives next, while there are numbers.
+pub(crate) fn next_ticket(thread: u32, next: u64) -> Option<Ticket>
     ensures { IfSome result (λ ticket. IsNextTicket thread next ticket) }
 {
     if next >= 1 << 62 {
