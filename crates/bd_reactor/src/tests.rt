@@ -400,16 +400,8 @@ fn open_line(alloc: Global, handle: &str, write: bool) -> Result<Job, OutOfMemor
     })
 }
 
-fn numbered<const N: usize>(
-    alloc: Global,
-    thread: u32,
-    jobs: [(u32, Job); N],
-) -> Result<Script, OutOfMemory> {
-    let mut lines = Rows::new(alloc);
-    for (number, job) in jobs {
-        lines.push(Line { number, job })?;
-    }
-    Ok(Script { thread, lines })
+fn add_line(lines: &mut Rows<Line>, number: u32, job: Job) -> Result<(), OutOfMemory> {
+    lines.push(Line { number, job })
 }
 
 const SEED: Fill = Fill {
@@ -422,17 +414,23 @@ const SEED: Fill = Fill {
 fn refused_lines(alloc: Global) -> Result<Setup, OutOfMemory>
     ensures { IfOk result (λ setup. setup.threads ≡ 2) }
 {
-    let own = [
-        (1, open_line(alloc, "a", true)?),
-        (2, handle_line(alloc, "a", Op::Write(SEED), 60, 5)?),
-        (3, handle_line(alloc, "a", Op::Read, 0, 0)?),
-        (4, open_line(alloc, "b", false)?),
-        (5, handle_line(alloc, "b", Op::Write(SEED), 0, 1)?),
-    ];
-    let others = [(6, handle_line(alloc, "a", Op::Read, 0, 1)?)];
+    let mut own = Rows::new(alloc);
+    add_line(&mut own, 1, open_line(alloc, "a", true)?)?;
+    add_line(&mut own, 2, handle_line(alloc, "a", Op::Write(SEED), 60, 5)?)?;
+    add_line(&mut own, 3, handle_line(alloc, "a", Op::Read, 0, 0)?)?;
+    add_line(&mut own, 4, open_line(alloc, "b", false)?)?;
+    add_line(&mut own, 5, handle_line(alloc, "b", Op::Write(SEED), 0, 1)?)?;
+    let mut others = Rows::new(alloc);
+    add_line(&mut others, 6, handle_line(alloc, "a", Op::Read, 0, 1)?)?;
     let mut scripts = Rows::new(alloc);
-    scripts.push(numbered(alloc, 0, own)?)?;
-    scripts.push(numbered(alloc, 1, others)?)?;
+    scripts.push(Script {
+        thread: 0,
+        lines: own,
+    })?;
+    scripts.push(Script {
+        thread: 1,
+        lines: others,
+    })?;
     setup_of(alloc, scripts)
 }
 

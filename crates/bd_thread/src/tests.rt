@@ -78,11 +78,22 @@ fn readers(alloc: Global, count: u32) -> Result<Setup, OutOfMemory> {
     setup_of(alloc, lines)
 }
 
-fn lines_of<const N: usize>(alloc: Global, jobs: [(u32, Job); N]) -> Result<Setup, OutOfMemory> {
+// An open, and a submission behind it.
+fn open_and_submit(
+    alloc: Global,
+    write: bool,
+    op: Op,
+    lba: u64,
+) -> Result<Setup, OutOfMemory> {
     let mut lines = Rows::new(alloc);
-    for (number, job) in jobs {
-        lines.push(Line { number, job })?;
-    }
+    lines.push(Line {
+        number: 1,
+        job: open(alloc, write)?,
+    })?;
+    lines.push(Line {
+        number: 2,
+        job: submit(alloc, op, lba)?,
+    })?;
     setup_of(alloc, lines)
 }
 
@@ -217,19 +228,13 @@ fn a_handle_for_reading_and_a_range_past_the_end_are_refused(rt: HostRuntime) ->
         seed: 5,
         flip: false,
     };
-    let reading = [
-        (1, open(alloc, false)?),
-        (2, submit(alloc, Op::Write(fill), 0)?),
-    ];
-    let found = second_line(alloc, &lines_of(alloc, reading)?)?;
+    let found = second_line(alloc, &open_and_submit(alloc, false, Op::Write(fill), 0)?)?;
     assert!(rt; found.0 == Some(Err(Refused::Errno(Errno::BadDesc))));
     assert!(rt; found.1 == Some(Errno::BadDesc));
-    let past = [(1, open(alloc, true)?), (2, submit(alloc, Op::Read, 64)?)];
-    let found = second_line(alloc, &lines_of(alloc, past)?)?;
+    let found = second_line(alloc, &open_and_submit(alloc, true, Op::Read, 64)?)?;
     assert!(rt; found.0 == Some(Err(Refused::Errno(Errno::Inval))));
     assert!(rt; found.1 == Some(Errno::Inval));
-    let last = [(1, open(alloc, true)?), (2, submit(alloc, Op::Read, 63)?)];
-    let found = second_line(alloc, &lines_of(alloc, last)?)?;
+    let found = second_line(alloc, &open_and_submit(alloc, true, Op::Read, 63)?)?;
     assert!(rt; found.0 == Some(Ok(ReqId { thread: 1, seq: 0 })));
     assert!(rt; found.1 == None);
     Ok(())
@@ -261,8 +266,12 @@ fn by_the_handle_of_another(
 
 #[test]
 fn the_handle_of_another_thread_is_refused(rt: HostRuntime) -> Result<(), Fail> {
-    let line = [(1, submit(rt.alloc(), Op::Read, 0)?)];
-    let setup = lines_of(rt.alloc(), line)?;
+    let mut lines = Rows::new(rt.alloc());
+    lines.push(Line {
+        number: 1,
+        job: submit(rt.alloc(), Op::Read, 0)?,
+    })?;
+    let setup = setup_of(rt.alloc(), lines)?;
     let found = by_the_handle_of_another(rt.alloc(), &setup)?;
     assert!(rt; found.0 == Some(Err(Refused::Errno(Errno::BadDesc))));
     assert!(rt; found.1 == Some(Errno::BadDesc));
