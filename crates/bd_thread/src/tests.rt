@@ -79,12 +79,7 @@ fn readers(alloc: Global, count: u32) -> Result<Setup, OutOfMemory> {
 }
 
 // An open, and a submission behind it.
-fn open_and_submit(
-    alloc: Global,
-    write: bool,
-    op: Op,
-    lba: u64,
-) -> Result<Setup, OutOfMemory> {
+fn open_and_submit(alloc: Global, write: bool, op: Op, lba: u64) -> Result<Setup, OutOfMemory> {
     let mut lines = Rows::new(alloc);
     lines.push(Line {
         number: 1,
