@@ -44,4 +44,11 @@ impl History {
     {
         self.entries.as_slice()
     }
+
+    /// The entries as rows. It takes no memory.
+    pub fn into_rows(self) -> Rows<Entry>
+        ensures { result ≡ self }
+    {
+        self.entries
+    }
 }
