@@ -11,3 +11,4 @@ mod word;
 pub use command::Command;
 pub use generator::generate;
 pub use read::{JobNo, read_jobs};
+pub use word::number;

@@ -61,7 +61,7 @@ fn value(digits: &[u8]) -> Option<u64>
 }
 
 /// The number that a word is: `0`, or digits without a leading zero, up to 2^64 - 1.
-pub(crate) fn number(word: &[u8]) -> Option<u64>
+pub fn number(word: &[u8]) -> Option<u64>
     ensures { result ≡ number_of word.now }
 {
     if is_number(word) { value(word) } else { None }
