@@ -1,8 +1,8 @@
-//! The histories of whole runs over files in memory, judged. Stamps and guards are worked out by
-//! hand from the machine's table.
+//! The histories of whole runs over files in memory, judged. Guards are worked out by hand from the
+//! machine's table.
 use crate::judging::{Verdict, judge};
 use bd_base::{
-    Bytes, DevRow, Entry, Fill, Job, Kind, Line, Name, Op, OutOfMemory, Rows, Script, Setup,
+    Act, Bytes, DevRow, Entry, Fill, Job, Kind, Line, Name, Op, OutOfMemory, Rows, Script, Setup,
 };
 use bd_machine::guard::OUTCOME_DUE;
 use bd_outside::{MemHost, MemSink, OpenGate, StillClock};
@@ -22,6 +22,8 @@ enum Word {
     Write(u8, u64, u64),
     Wait,
     Close(u8),
+    Post(&'static str),
+    Await(&'static str),
 }
 
 const FIRST: &str =
@@ -51,6 +53,27 @@ const REFUSALS_WORDS: [Word; 8] = [
     Word::Read(b'h', 63),
 ];
 
+// Each thread writes a block and tells the other.
+const BOTH: &str =
+    "0 open h Malloc0 w\n0 write h 0 1 5\n0 wait\n0 post x\n0 await y\n1 open k Malloc0 w\n1 write k 1 1 9\n1 wait\n1 post y\n1 await x\n";
+
+const BOTH_WORDS: [&[Word]; 2] = [
+    &[
+        Word::Open(b'h', "Malloc0", true),
+        Word::Write(b'h', 0, 5),
+        Word::Wait,
+        Word::Post("x"),
+        Word::Await("y"),
+    ],
+    &[
+        Word::Open(b'k', "Malloc0", true),
+        Word::Write(b'k', 1, 9),
+        Word::Wait,
+        Word::Post("y"),
+        Word::Await("x"),
+    ],
+];
+
 fn submit(alloc: Global, handle: u8, op: Op, lba: u64) -> Result<Job, OutOfMemory> {
     Ok(Job::Submit {
         handle: Name::from_slice(alloc, &[handle])?,
@@ -73,6 +96,8 @@ fn job(alloc: Global, word: Word) -> Result<Job, OutOfMemory> {
             submit(alloc, handle, op, lba)
         }
         Word::Wait => Ok(Job::Wait),
+        Word::Post(mark) => Ok(Job::Post(Name::from_slice(alloc, mark.as_bytes())?)),
+        Word::Await(mark) => Ok(Job::Await(Name::from_slice(alloc, mark.as_bytes())?)),
         Word::Close(handle) => Ok(Job::Close {
             handle: Name::from_slice(alloc, &[handle])?,
         }),
@@ -94,21 +119,28 @@ fn device(alloc: Global) -> Result<DevRow, OutOfMemory> {
     })
 }
 
-// One thread with these lines, and that device.
-fn setup(alloc: Global, words: &[Word]) -> Result<Setup, OutOfMemory> {
-    let mut lines = Rows::new(alloc);
+// A thread for each list of lines, numbered one behind the other, and that device.
+fn setup(alloc: Global, words: &[&[Word]]) -> Result<Setup, OutOfMemory> {
+    let mut scripts = Rows::new(alloc);
     let mut number: u32 = 0;
-    for word in words {
-        number = number.saturating_add(1);
-        let job = job(alloc, *word)?;
-        lines.push(Line { number, job })?;
+    let mut threads: u32 = 0;
+    for words in words {
+        let mut lines = Rows::new(alloc);
+        for word in *words {
+            number = number.saturating_add(1);
+            let job = job(alloc, *word)?;
+            lines.push(Line { number, job })?;
+        }
+        scripts.push(Script {
+            thread: threads,
+            lines,
+        })?;
+        threads = threads.saturating_add(1);
     }
     let mut devices = Rows::new(alloc);
     devices.push(device(alloc)?)?;
-    let mut scripts = Rows::new(alloc);
-    scripts.push(Script { thread: 0, lines })?;
     Ok(Setup {
-        threads: 1,
+        threads,
         devices,
         rates: Rows::new(alloc),
         injections: Rows::new(alloc),
@@ -123,8 +155,9 @@ fn file(alloc: Global, name: &str, text: &str) -> Result<(Name, Bytes), Fail> {
     Ok((name, bytes))
 }
 
-// The history of the run over CONFIG and a script; none where the run has a fault.
-fn history(alloc: Global, script: &str) -> Result<Option<Vec<Entry>>, Fail> {
+// The history of the run over CONFIG and a script with these options; empty where the run has a
+// fault.
+fn history(alloc: Global, script: &str, options: &[&str]) -> Result<Vec<Entry>, Fail> {
     let mut files = Vec::new(alloc);
     files.push(file(alloc, "c", CONFIG)?)?;
     files.push(file(alloc, "j", script)?)?;
@@ -132,6 +165,9 @@ fn history(alloc: Global, script: &str) -> Result<Option<Vec<Entry>>, Fail> {
     let mut out = MemSink::new(alloc, 10_000)?;
     let mut words = Vec::new(alloc);
     for word in ["run", "c", "j"] {
+        words.push(String::from_str(alloc, word)?)?;
+    }
+    for word in options {
         words.push(String::from_str(alloc, word)?)?;
     }
     let clock = StillClock::new(0);
@@ -143,42 +179,70 @@ fn history(alloc: Global, script: &str) -> Result<Option<Vec<Entry>>, Fail> {
         &clock,
         &OpenGate,
     ) {
-        Ok(ran) => Ok(Some(ran.trace)),
-        Err(_) => Ok(None),
+        Ok(ran) => Ok(ran.trace.into_rows().into_vec()),
+        Err(_) => Ok(Vec::new(alloc)),
     }
 }
 
-// A script, its words, the stamp of an entry to take out (there is no stamp 0), and the verdict.
-const CASES: [(&str, &[Word], u128, Verdict); 5] = [
-    (FIRST, &FIRST_WORDS, 0, Verdict::Complete),
-    (REFUSALS, &REFUSALS_WORDS, 0, Verdict::Complete),
-    ("", &[], 0, Verdict::Complete),
-    // the last entry, which destructs the device
-    (FIRST, &FIRST_WORDS, 26, Verdict::Unfinished),
-    // the completion of the write: the wait is done while a request is open
+// A script, its words by thread, and the options of the run.
+const COMPLETE: [(&str, &[&[Word]], &[&str]); 6] = [
+    (FIRST, &[&FIRST_WORDS], &[]),
+    (REFUSALS, &[&REFUSALS_WORDS], &[]),
+    ("", &[&[]], &[]),
+    ("", &[&[], &[], &[]], &["--threads", "3"]),
+    (BOTH, &BOTH_WORDS, &["--threads", "2"]),
     (
-        FIRST,
-        &FIRST_WORDS,
-        10,
-        Verdict::Illegal {
-            guard: OUTCOME_DUE,
-            stamp: 12,
-        },
+        BOTH,
+        &BOTH_WORDS,
+        &["--schedule", "7", "--threads", "2"],
     ),
 ];
 
 #[test]
-fn histories_of_runs(rt: HostRuntime) -> Result<(), Fail> {
+fn histories_of_runs_are_complete(rt: HostRuntime) -> Result<(), Fail> {
     let alloc = rt.alloc();
-    for (script, words, left_out, verdict) in CASES {
-        let mut trace = history(alloc, script)?.unwrap_or(Vec::new(alloc));
-        trace.retain(|entry| entry.stamp != left_out);
+    for (script, words, options) in COMPLETE {
+        let trace = history(alloc, script, options)?;
         let setup = setup(alloc, words)?;
         let judged = judge(alloc, &setup, trace.as_slice());
-        assert!(rt;
-            judged == Ok(verdict),
-            "{script} without {left_out}: {judged:?}"
-        );
+        assert!(rt; judged == Ok(Verdict::Complete), "{script}: {judged:?}");
     }
+    Ok(())
+}
+
+// The last entry destructs the device: without it the run isn't over.
+#[test]
+fn without_its_end_a_run_is_unfinished(rt: HostRuntime) -> Result<(), Fail> {
+    let alloc = rt.alloc();
+    let mut trace = history(alloc, FIRST, &[])?;
+    let last = trace.pop();
+    assert!(rt; last.is_some_and(|entry| matches!(entry.act, Act::Destruct { .. })));
+    let setup = setup(alloc, &[&FIRST_WORDS])?;
+    let judged = judge(alloc, &setup, trace.as_slice());
+    assert!(rt; judged == Ok(Verdict::Unfinished), "{judged:?}");
+    Ok(())
+}
+
+// Without the completion of the write, the wait of line 3 is done while a request is open.
+#[test]
+fn without_a_completion_a_wait_is_not_due(rt: HostRuntime) -> Result<(), Fail> {
+    let alloc = rt.alloc();
+    let mut trace = history(alloc, FIRST, &[])?;
+    let completed = trace
+        .iter()
+        .find(|entry| matches!(entry.act, Act::Complete { .. }))
+        .map_or(0, |entry| entry.stamp);
+    let waited = trace
+        .iter()
+        .find(|entry| matches!(entry.act, Act::Script { line: 3, .. }))
+        .map_or(0, |entry| entry.stamp);
+    trace.retain(|entry| entry.stamp != completed);
+    let setup = setup(alloc, &[&FIRST_WORDS])?;
+    let judged = judge(alloc, &setup, trace.as_slice());
+    let expected = Verdict::Illegal {
+        guard: OUTCOME_DUE,
+        stamp: waited,
+    };
+    assert!(rt; judged == Ok(expected), "{judged:?}");
     Ok(())
 }

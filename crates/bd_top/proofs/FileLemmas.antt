@@ -3,9 +3,9 @@ use Rattle.std.proofs.Common.{◌≡◌, ℕ, ◌+◌, ◌-◌, ◌<◌, ◌≤�
 use Rattle.std.proofs.Math.Seq.{take-add}
 use Rattle.std.proofs.lemmas.List.{length-take, length-drop, append-nil, take_all, take-take}
 use Rattle.bd_outside.specs.Count.{Rises}
-use Rattle.bd_outside.specs.File.{Told, Untold, NoFile, Content, GivesPiece, ReadsAt}
+use Rattle.bd_outside.specs.File.{Told, Untold, NoFile, Content, GivesPiece, ReadsAt, IsWhole}
 use Rattle.bd_outside.specs.Sink.{Appends}
-use Rattle.bd_top.specs.Files.{IsRead, IsReadOf}
+use Rattle.bd_top.specs.Files.{IsRead, IsTooLong}
 
 -- these bytes are the front of the file, where it is told
 abbrev pub IsFront : Told → List ℕ → Type 0
@@ -36,30 +36,29 @@ front_more t u all chunk n m e front given le =
     let P : Told → Type 0 = λ x. GivesPiece x (length all) n chunk in
     front_more_at t all chunk n m front (subst P e given) le
 
-front_end_at : (t : Told) (all chunk : List ℕ) (n m : ℕ) → IsFront t all → GivesPiece t (length all) n chunk → n ≡ 0 → m ≤ n → 0 < length chunk → length all ≤ 8388608 → IsRead t (all ++ take m chunk)
-front_end_at Untold all chunk n m front given zero le some short = omega (arith, length-append all (take m chunk), length-take m chunk)
-front_end_at NoFile all chunk n m front given zero le some short = given
-front_end_at (Content file) all chunk n m front given zero le some short =
-    let nothing : m ≡ 0 = omega arith in
-    let P : ℕ → Type 0 = λ k. IsReadOf file (all ++ take k chunk) in
-    let Q : List ℕ → Type 0 = IsReadOf file in
-    let read : IsReadOf file all = record { front = front; short = omega arith; whole = λ _. front ∙ take_all (length all) file (given.end_only zero some) } in
-    subst P (sym nothing) (subst Q (sym (append-nil all)) read)
+front_end_at : (t : Told) (all chunk : List ℕ) (n : ℕ) → IsFront t all → GivesPiece t (length all) n chunk → n ≡ 0 → 0 < length chunk → IsWhole t all
+front_end_at Untold all chunk n front given zero some = tt
+front_end_at NoFile all chunk n front given zero some = given
+front_end_at (Content file) all chunk n front given zero some = front ∙ take_all (length all) file (given.end_only zero some)
 
 -- the file's end
 pub front_end : (t u : Told) (all chunk : List ℕ) (n m : ℕ) → u ≡ t → IsFront t all → GivesPiece u (length all) n chunk → n ≡ 0 → m ≤ n → 0 < length chunk → length all ≤ 8388608 → IsRead t (all ++ take m chunk)
 front_end t u all chunk n m e front given zero le some short =
     let P : Told → Type 0 = λ x. GivesPiece x (length all) n chunk in
-    front_end_at t all chunk n m front (subst P e given) zero le some short
+    let nothing : m ≡ 0 = omega arith in
+    let Q : List ℕ → Type 0 = IsRead t in
+    let R : ℕ → Type 0 = λ k. IsRead t (all ++ take k chunk) in
+    let read : IsRead t all = record { whole = front_end_at t all chunk n front (subst P e given) zero some; short = omega arith } in
+    subst R (sym nothing) (subst Q (sym (append-nil all)) read)
 
 -- a front that is longer than a file may be, of a file that some piece came from
-pub front_over : (t u : Told) (all chunk : List ℕ) (at n : ℕ) → u ≡ t → GivesPiece u at n chunk → IsFront t all → length all ≡ 8388609 → IsRead t all
+pub front_over : (t u : Told) (all chunk : List ℕ) (at n : ℕ) → u ≡ t → GivesPiece u at n chunk → IsFront t all → length all ≡ 8388609 → IsTooLong t
 front_over t u all chunk at n e given front size = front_over_at t all chunk at n (let P : Told → Type 0 = λ x. GivesPiece x at n chunk in subst P e given) front size
   where
-    front_over_at : (t : Told) (all chunk : List ℕ) (at n : ℕ) → GivesPiece t at n chunk → IsFront t all → length all ≡ 8388609 → IsRead t all
-    front_over_at Untold all chunk at n given front size = omega arith
+    front_over_at : (t : Told) (all chunk : List ℕ) (at n : ℕ) → GivesPiece t at n chunk → IsFront t all → length all ≡ 8388609 → IsTooLong t
+    front_over_at Untold all chunk at n given front size = tt
     front_over_at NoFile all chunk at n given front size = given
-    front_over_at (Content file) all chunk at n given front size = record { front = front; short = omega arith; whole = λ le. absurd (omega (arith, le)) }
+    front_over_at (Content file) all chunk at n given front size = omega (arith, ap length front, length-take (length all) file)
 
 pub appends_more : (a b c : Option (List ℕ)) (xs ys : List ℕ) → Appends a b xs → Appends b c ys → Appends a c (xs ++ ys)
 appends_more None None c xs ys p q = q

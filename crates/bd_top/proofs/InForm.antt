@@ -1,83 +1,123 @@
 -- Where both files are in form and nothing fails, a run ends well but for want of memory.
-use Rattle.std.proofs.Common.{◌≡◌, ℕ, ◌≤◌, List, length, None, Some, refl, sym, ◌∙◌, ap, subst, arith}
-use Rattle.std.proofs.lemmas.List.{length-take}
+use Rattle.std.proofs.Common.{◌≡◌, ℕ, ◌+◌, ◌≤◌, ◌<◌, Bool, true, false, ◌==◌, not, ◌||◌, ◌⊎◌, inl, inr, List, [], ◌∷◌, ◌++◌, length, take, drop, None, Some, refl, sym, ◌∙◌, ap, subst, arith}
+use Rattle.std.specs.Prelude.{option_map}
+use Rattle.std.specs.List.{list_all, list_any}
+use Rattle.std.proofs.lemmas.Bool.{and_parts}
+use Rattle.std.proofs.lemmas.List.{take-append-drop}
 use Rattle.bd_base.specs.declared.device.DevRow.{DevRow}
 use Rattle.bd_base.specs.declared.job.Line.{Line}
-use Rattle.bd_player.specs.Solo.{IsMalloc, ArePlayable}
+use Rattle.bd_base.specs.declared.job.Script.{Script}
+use Rattle.bd_jobs.specs.ScriptGrammar.{commands_from, commands_of, scripts_below, scripts_of, IsFirstOutside, text_lines}
+use Rattle.bd_jobs.proofs.ReadLemmas.{from-append, from-none}
 use Rattle.bd_outside.specs.File.{Told, Content}
 use Rattle.bd_top.specs.declared.fault.Fault.{Fault}
 use Rattle.bd_top.specs.declared.fault.Fault.TheVariants as faults
+use Rattle.bd_top.specs.Built.{lines_in, AreBuilt, is_built_line, is_not_built_at, IsFirstNotBuilt}
 use Rattle.bd_top.specs.Config.{IsConfig}
-use Rattle.bd_top.specs.Files.{IsRead, IsReadOf}
-use Rattle.bd_top.specs.Run.{AreInForm, Cause, FileCause, IsDevice, IsNoText, IsOutside, IsScript, Moved, NothingFails}
-use Rattle.bd_top.specs.Script.{script_of}
-use Rattle.bd_top.specs.Words.{Files, files_of}
-use Rattle.bd_top.proofs.Playable.{malloc_of_config, playable_of_script}
+use Rattle.bd_top.specs.Files.{IsRead, IsTooLong, max_file}
+use Rattle.bd_top.specs.Run.{AreInForm, Cause, FileCause, IsNoText, IsNotSupported, IsOutside, Moved, NothingFails}
+use Rattle.bd_top.specs.Words.{Arguments, arguments_of}
 
--- ---- what can be played
+-- ---- what is read of a file that is told
 
-pub malloc_of_device : (config : Told) (row : DevRow) → IsDevice config row → IsMalloc row
-malloc_of_device config row device = malloc_of_config device.bytes row device.means
-
-pub playable_of_file : (jobs : Told) (lines : List Line) → IsScript jobs lines → ArePlayable lines
-playable_of_file jobs lines script = playable_of_script script.bytes lines script.means
-
--- ---- what is read of a file that isn't too long
-
-read_whole : (file bytes : List ℕ) → IsReadOf file bytes → length file ≤ 8388608 → bytes ≡ file
-read_whole file bytes read short =
-    let count : length bytes ≤ length file = omega (arith, ap length read.front, length-take (length bytes) file) in
-    read.whole (omega (arith, count))
-
-read_told : (t : Told) (file bytes : List ℕ) → t ≡ Content file → IsRead t bytes → length file ≤ 8388608 → bytes ≡ file
-read_told t file bytes e read short =
+read_told : (t : Told) (file bytes : List ℕ) → t ≡ Content file → IsRead t bytes → bytes ≡ file
+read_told t file bytes e read =
     let P : Told → Type 0 = λ u. IsRead u bytes in
-    read_whole file bytes (subst P e read) short
-
-script_short : (bytes : List ℕ) (lines : List Line) → script_of bytes ≡ Some lines → length bytes ≤ 8388608
-script_short bytes lines e = grind (arith, e)
+    let known : IsRead (Content file) bytes = subst P e read in
+    known.whole
 
 -- ---- no other fault
 
 config_inside : (t : Told) (file : List ℕ) (row : DevRow) → t ≡ Content file → IsConfig file row → IsOutside t → ⊥
 config_inside t file row e means out =
     let P : List ℕ → Type 0 = λ bytes. IsConfig bytes row in
-    out.outside row (subst P (sym (read_told t file out.bytes e out.read means.short)) means)
+    out.outside row (subst P (sym (read_told t file out.bytes e out.read)) means)
 
-script_inside : (t : Told) (file : List ℕ) (lines : List Line) → t ≡ Content file → script_of file ≡ Some lines → IsNoText t → ⊥
-script_inside t file lines e mean out =
-    let same : out.bytes ≡ file = read_told t file out.bytes e out.read (script_short file lines mean) in
-    let none : script_of file ≡ None = ap script_of (sym same) ∙ out.outside in
+not_too_long : (t : Told) (file : List ℕ) → t ≡ Content file → length file ≤ max_file → IsTooLong t → ⊥
+not_too_long t file e short long =
+    let above : max_file < length file = subst IsTooLong e long in
+    omega arith
+
+-- no line of a script in the grammar is the first outside
+none_outside : (threads : ℕ) (bytes : List ℕ) (scripts : List Script) (line : ℕ) → scripts_of threads bytes ≡ Some scripts → IsFirstOutside threads bytes line → ⊥
+none_outside threads bytes scripts line mean first =
+    let lines : List (List ℕ) = text_lines bytes in
+    let parted : commands_of threads (take line lines ++ drop line lines) ≡ commands_of threads lines = ap (commands_of threads) (take-append-drop line lines) in
+    let none : commands_of threads lines ≡ None =
+    sym parted
+    ∙ from-append threads (Some []) 1 (take line lines) (drop line lines)
+    ∙ ap (λ s. commands_from threads s (1 + length (take line lines)) (drop line lines)) first.outside
+    ∙ from-none threads (1 + length (take line lines)) (drop line lines) in
+    let both : Some scripts ≡ None = sym mean ∙ ap (option_map (λ commands. scripts_below commands threads)) none in
     absurd (cc)
 
+script_inside : (threads : ℕ) (t : Told) (file : List ℕ) (scripts : List Script) (line : ℕ) → t ≡ Content file → scripts_of threads file ≡ Some scripts → IsNoText threads t line → ⊥
+script_inside threads t file scripts line e mean out =
+    let P : List ℕ → Type 0 = λ bytes. IsFirstOutside threads bytes line in
+    none_outside threads file scripts line mean (subst P (read_told t file out.bytes e out.read) out.outside)
+
+not_both : (b : Bool) → b ≡ true → not b ≡ true → ⊥
+not_both true h k = cc
+not_both false h k = cc
+
+-- where every command is carried out, none is not
+none_at : (number : ℕ) (lines : List Line) → list_all is_built_line lines ≡ true → list_any (is_not_built_at number) lines ≡ true → ⊥
+none_at number [] all some = absurd (cc)
+none_at number (line ∷ lines) all some = go (is_not_built_at number line) refl (and_parts (is_built_line line) (list_all is_built_line lines) all) (none_at number lines)
+  where
+    go : (here : Bool) → is_not_built_at number line ≡ here → (is_built_line line ≡ true) × (list_all is_built_line lines ≡ true)
+        → (list_all is_built_line lines ≡ true → list_any (is_not_built_at number) lines ≡ true → ⊥) → ⊥
+    go true e built later = not_both (is_built_line line) built.0 (and_parts (line.number == number) (not (is_built_line line)) e).1
+    go false e built later = later built.1 (ap (λ b. b || list_any (is_not_built_at number) lines) (sym e) ∙ some)
+
+script_supported : (threads : ℕ) (t : Told) (file : List ℕ) (scripts : List Script) (line : ℕ) → t ≡ Content file → scripts_of threads file ≡ Some scripts → AreBuilt (lines_in scripts) → IsNotSupported threads t line → ⊥
+script_supported threads t file scripts line e mean built out =
+    let same : scripts_of threads out.bytes ≡ scripts_of threads file = ap (scripts_of threads) (read_told t file out.bytes e out.read) in
+    let both : Some out.scripts ≡ Some scripts = sym out.means ∙ same ∙ mean in
+    let one : out.scripts ≡ scripts = cc in
+    let P : List Script → Type 0 = λ s. IsFirstNotBuilt (lines_in s) line in
+    let first : IsFirstNotBuilt (lines_in scripts) line = subst P one out.first in
+    none_at line (lines_in scripts) built first.here
+
 module _ (words : List (List ℕ)) (told : List ℕ → Told) (m : Moved) (form : AreInForm words told) (quiet : NothingFails m) where
-  same_files : (files : Files) → files_of words ≡ Some files → form.files ≡ files
-  same_files files named =
-      let both : Some form.files ≡ Some files = sym form.named ∙ named in
+  same_arguments : (asked : Arguments) → arguments_of words ≡ Some asked → form.arguments ≡ asked
+  same_arguments asked named =
+      let both : Some form.arguments ≡ Some asked = sym form.named ∙ named in
       cc
 
   -- neither file gives a fault
-  pub file_gives_none : (files : Files) (fault : Fault) → files_of words ≡ Some files → FileCause told files.config files.jobs m.host fault → fault ≡ faults.OutOfMemory
-  file_gives_none files faults.Usage named cause = absurd cause
-  file_gives_none files (faults.NoFile name) named cause = absurd (quiet.files cause.2)
-  file_gives_none files (faults.ReadFault name) named cause = absurd (quiet.host cause.1)
-  file_gives_none files faults.WriteFault named cause = absurd cause
-  file_gives_none files (faults.ConfigShape place) named cause =
-      let e : told files.config ≡ Content form.config = ap (λ fs. told fs.config) (sym (same_files files named)) ∙ form.config_told in
-      absurd (config_inside (told files.config) form.config form.row e form.config_means cause.1)
-  file_gives_none files (faults.JobText line) named cause =
-      let e : told files.jobs ≡ Content form.jobs = ap (λ fs. told fs.jobs) (sym (same_files files named)) ∙ form.jobs_told in
-      absurd (script_inside (told files.jobs) form.jobs form.lines e form.jobs_mean cause.2)
-  file_gives_none files faults.OutOfMemory named cause = refl
+  pub file_gives_none : (fault : Fault) → FileCause told form.arguments.config form.arguments.jobs form.arguments.threads m.host fault → fault ≡ faults.OutOfMemory
+  file_gives_none faults.Usage cause = absurd cause
+  file_gives_none (faults.NoFile name) cause = absurd (quiet.files cause.2)
+  file_gives_none (faults.TooLong name) cause = absurd (neither cause.0)
+    where
+      neither : (name ≡ form.arguments.config) ⊎ (name ≡ form.arguments.jobs) → ⊥
+      neither (inl e) = not_too_long (told name) form.config (ap told e ∙ form.config_told) form.config_means.short cause.1
+      neither (inr e) = not_too_long (told name) form.jobs (ap told e ∙ form.jobs_told) form.jobs_short cause.1
+  file_gives_none (faults.ReadFault name) cause = absurd (quiet.host cause.1)
+  file_gives_none faults.WriteFault cause = absurd cause
+  file_gives_none (faults.ConfigShape place) cause = absurd (config_inside (told form.arguments.config) form.config form.row form.config_told form.config_means cause.1)
+  file_gives_none (faults.JobText line) cause =
+      absurd (script_inside form.arguments.threads (told form.arguments.jobs) form.jobs form.scripts line form.jobs_told form.jobs_mean cause.1)
+  file_gives_none (faults.NotSupported line) cause =
+      absurd (script_supported form.arguments.threads (told form.arguments.jobs) form.jobs form.scripts line form.jobs_told form.jobs_mean form.built cause.1)
+  file_gives_none faults.OutOfMemory cause = refl
+
+  of_files : (asked : Arguments) (fault : Fault) → arguments_of words ≡ Some asked → FileCause told asked.config asked.jobs asked.threads m.host fault → fault ≡ faults.OutOfMemory
+  of_files asked fault named cause =
+      let P : Arguments → Type 0 = λ a. FileCause told a.config a.jobs a.threads m.host fault in
+      file_gives_none fault (subst P (sym (same_arguments asked named)) cause)
 
   -- the cause of a fault is want of memory
   pub only_memory : (fault : Fault) → Cause words told m fault → fault ≡ faults.OutOfMemory
   only_memory faults.Usage cause =
-      let both : Some form.files ≡ None = sym form.named ∙ cause in
+      let both : Some form.arguments ≡ None = sym form.named ∙ cause in
       absurd (cc)
-  only_memory (faults.NoFile name) cause = file_gives_none cause.files (faults.NoFile name) cause.named cause.of_file
-  only_memory (faults.ReadFault name) cause = file_gives_none cause.files (faults.ReadFault name) cause.named cause.of_file
+  only_memory (faults.NoFile name) cause = of_files cause.arguments (faults.NoFile name) cause.named cause.of_file
+  only_memory (faults.TooLong name) cause = of_files cause.arguments (faults.TooLong name) cause.named cause.of_file
+  only_memory (faults.ReadFault name) cause = of_files cause.arguments (faults.ReadFault name) cause.named cause.of_file
   only_memory faults.WriteFault cause = absurd (quiet.output cause.failed)
-  only_memory (faults.ConfigShape place) cause = file_gives_none cause.files (faults.ConfigShape place) cause.named cause.of_file
-  only_memory (faults.JobText line) cause = file_gives_none cause.files (faults.JobText line) cause.named cause.of_file
+  only_memory (faults.ConfigShape place) cause = of_files cause.arguments (faults.ConfigShape place) cause.named cause.of_file
+  only_memory (faults.JobText line) cause = of_files cause.arguments (faults.JobText line) cause.named cause.of_file
+  only_memory (faults.NotSupported line) cause = of_files cause.arguments (faults.NotSupported line) cause.named cause.of_file
   only_memory faults.OutOfMemory cause = refl

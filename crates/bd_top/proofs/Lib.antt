@@ -1,7 +1,6 @@
+pub mod BuiltLemmas
 pub mod ConfigLemmas
 pub mod FileLemmas
 pub mod Histories
 pub mod InForm
-pub mod Playable
-pub mod ScriptLemmas
 pub mod WordLemmas

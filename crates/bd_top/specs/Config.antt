@@ -8,6 +8,7 @@ use Rattle.serde_json.specs.Find.{get, as_number, as_u64, as_str, as_array, as_o
 use Rattle.bd_base.specs.Name.{same_name}
 use Rattle.bd_base.specs.declared.device.DevRow.{DevRow}
 use Rattle.bd_base.specs.declared.device.Kind.TheVariants.{Malloc}
+use Rattle.bd_top.specs.Files.{max_file}
 
 -- ---- looking into the value
 
@@ -87,10 +88,6 @@ abbrev pub device_of : Data → Option DevRow
 device_of p = row_from (text_in (codes "name") p) (number_in (codes "num_blocks") p) (number_in (codes "block_size") p)
 
 -- ---- the file
-
--- the most bytes that a file may have
-abbrev pub max_file : ℕ
-max_file = 8388608
 
 -- the bytes ask for this device
 pub record IsConfig (bytes : List ℕ) (row : DevRow) : Type 0 where

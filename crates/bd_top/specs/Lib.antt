@@ -1,6 +1,7 @@
+pub mod Built
 pub mod Config
 pub mod Fault
 pub mod Files
 pub mod Run
-pub mod Script
+pub mod Setup
 pub mod Words

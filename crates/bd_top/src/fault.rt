@@ -13,14 +13,19 @@ pub enum Fault {
     Usage,
     /// There is no file of this name.
     NoFile(Name),
+    /// This file has more than 8,388,608 bytes.
+    TooLong(Name),
     /// The host failed to read this file.
     ReadFault(Name),
     /// The output failed; what was written before is a front of the report.
     WriteFault,
     /// The configuration is outside the form that is read today (0).
     ConfigShape(u32),
-    /// The script is outside the grammar that is read today (0).
+    /// The script's line of this number, from 1, is the first outside the grammar.
     JobText(u32),
+    /// The script is in the grammar, and its line of this number, from 1, is the first whose command
+    /// isn't carried out today.
+    NotSupported(u32),
     OutOfMemory,
 }
 
@@ -31,7 +36,10 @@ impl Fault {
         ensures { result ≡ status_of self.now }
     {
         match self {
-            Fault::ConfigShape(_) | Fault::JobText(_) => 1,
+            Fault::TooLong(_)
+            | Fault::ConfigShape(_)
+            | Fault::JobText(_)
+            | Fault::NotSupported(_) => 1,
             Fault::Usage => 2,
             Fault::NoFile(_) | Fault::ReadFault(_) | Fault::WriteFault => 3,
             Fault::OutOfMemory => 4,
@@ -43,12 +51,17 @@ impl Fault {
 impl fmt::Display for Fault {
     fn fmt<W: fmt::Write>(&self, f: &mut fmt::Formatter<W>) -> fmt::Result {
         match self {
-            Fault::Usage => write!(f, "usage: bdevrun run CONFIG JOBS"),
+            Fault::Usage => write!(
+                f,
+                "usage: bdevrun run CONFIG JOBS; options --threads N --schedule N"
+            ),
             Fault::NoFile(name) => write!(f, "no file: {name}"),
+            Fault::TooLong(name) => write!(f, "file too long: {name}"),
             Fault::ReadFault(name) => write!(f, "read fault: {name}"),
             Fault::WriteFault => write!(f, "write fault"),
             Fault::ConfigShape(place) => write!(f, "configuration shape: {place}"),
             Fault::JobText(line) => write!(f, "script line {line}"),
+            Fault::NotSupported(line) => write!(f, "script line {line} not supported"),
             Fault::OutOfMemory => write!(f, "out of memory"),
         }
     }

@@ -1,9 +1,8 @@
 //! Whole files, and whole texts.
-ghost use Rattle.std.specs.Prelude.{◌≡◌, ◌≤◌, ◌<◌, ℕ, List, length, IfOk, OnOk, OnErr, IsErrOf};
+ghost use Rattle.std.specs.Prelude.{◌≡◌, ◌≤◌, ◌<◌, ℕ, List, length, IfOk, IfErr, OnOk, OnErr};
 ghost use Rattle.bd_outside.specs.Count.{Rises};
-ghost use Rattle.bd_outside.specs.File.{IsAbsent};
 ghost use Rattle.bd_outside.specs.Sink.{Appends};
-ghost use Rattle.bd_top.specs.Files.{IsRead, AppendsFront};
+ghost use Rattle.bd_top.specs.Files.{IsRead, host_moved, ReadCause, AppendsFront};
 
 use crate::config::MAX_FILE;
 use bd_base::{Bytes, OutOfMemory};
@@ -20,6 +19,8 @@ pub(crate) enum ReadNo {
     Absent,
     /// The host failed.
     Failed,
+    /// The file has more than 8,388,608 bytes.
+    TooLong,
     OutOfMemory,
 }
 
@@ -41,16 +42,13 @@ fn buffer(alloc: Global, size: usize) -> Result<Vec<u8>, AllocError>
     vec![in alloc; 0; size]
 }
 
-/// Reads a file whole, or its first 8,388,609 bytes where it has more: one more than a file may have.
+/// Reads a file whole, which has at most 8,388,608 bytes.
 pub(crate) fn read_file<H: Host>(alloc: Global, host: &mut H, name: &str) -> Result<Bytes, ReadNo>
     ensures read { IfOk result (IsRead (H.told host.old name.now)) }
-    ensures absent_told { IsErrOf result ReadNo.Absent → IsAbsent (H.told host.old name.now) }
+    ensures cause { IfErr result (ReadCause (H.told host.old name.now) (host_moved (H.faults host.old) (H.faults host.new) (H.absences host.old) (H.absences host.new))) }
     ensures same_files { (other : List ℕ) → H.told host.new other ≡ H.told host.old other }
-
     ensures fault_count { H.faults host.old ≤ H.faults host.new }
     ensures absence_count { H.absences host.old ≤ H.absences host.new }
-    ensures failed { IsErrOf result ReadNo.Failed → Rises (H.faults host.old) (H.faults host.new) }
-    ensures absent { IsErrOf result ReadNo.Absent → Rises (H.absences host.old) (H.absences host.new) }
 {
     let mut all = Bytes::new(alloc);
     let Ok(mut chunk) = buffer(alloc, CHUNK) else {
@@ -69,7 +67,7 @@ pub(crate) fn read_file<H: Host>(alloc: Global, host: &mut H, name: &str) -> Res
             return Ok(all);
         }
         if all.len() > MAX_FILE {
-            return Ok(all);
+            return Err(ReadNo::TooLong);
         }
     }
     unreachable!()

@@ -1,14 +1,15 @@
 //! The top call: two files in, a report out.
 #![tactic(auto)]
 
+mod built;
 mod config;
 mod fault;
 mod files;
-mod script;
+mod inputs;
+mod setup;
 #[cfg(test)]
 mod tests;
 mod top;
-mod word;
 mod words;
 
 pub use fault::Fault;

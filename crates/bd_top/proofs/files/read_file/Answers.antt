@@ -24,8 +24,8 @@ returns-then-n-eq0-clause-read g c =
     let given = rw c.len.ensures at c.in-Ok-read_at.ensures.given in
     rw c.in_ok-append.ensures.ok (front_end _ _ c.loop-turn.all _ c.in-Ok-read_at.n c.min-wanted.result (c.loop-turn.invariant.1 c.args.name.now) c.loop-turn.invariant.0 given c.if-n-eq0.true le (omega arith) (omega (arith, c.loop-turn.invariant.5)))
 
-pub returns-then-len-gt-MAX_FILE-clause-read : goal.returns-then-len-gt-MAX_FILE-clause-read
-returns-then-len-gt-MAX_FILE-clause-read g c =
+pub returns-then-len-gt-MAX_FILE-clause-cause : goal.returns-then-len-gt-MAX_FILE-clause-cause
+returns-then-len-gt-MAX_FILE-clause-cause g c =
     let le : c.min-wanted.result ≤ c.in-Ok-read_at.n = omega (arith, c.min-wanted.ensures) in
     let front = front_more _ _ c.loop-turn.all _ c.in-Ok-read_at.n c.min-wanted.result (c.loop-turn.invariant.1 c.args.name.now) c.loop-turn.invariant.0 (rw c.len.ensures at c.in-Ok-read_at.ensures.given) le in
     let grown : length c.append.new.self ≡ length c.loop-turn.all + c.min-wanted.result =

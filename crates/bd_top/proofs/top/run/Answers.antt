@@ -1,13 +1,33 @@
-use Rattle.std.proofs.Common.{rules}
+use Rattle.std.proofs.Common.{◌∙◌, sym, rules, map, string_bytes}
 use Rattle.std.proofs.lemmas.Result.{IfErr-weaker}
-use Rattle.bd_top.proofs.InForm.{only_memory, malloc_of_device, playable_of_file}
+use Rattle.bd_top.specs.Words.{Arguments}
+use Rattle.bd_top.proofs.Histories.{played}
+use Rattle.bd_top.proofs.InForm.{only_memory}
 use Rattle.bd_top.proofs.top.run.Goals as goal
 
 pub returns-in_err-row-clause-complete : goal.returns-in_err-row-clause-complete
 returns-in_err-row-clause-complete g c form quiet = IfErr-weaker _ _ _ (only_memory _ _ _ form quiet) (search rules)
 
-pub play_and_report-requires-clause-malloc : goal.play_and_report-requires-clause-malloc
-play_and_report-requires-clause-malloc g c = malloc_of_device _ _ c.in_ok-row.ensures.device
+pub returns-in-Ok-write_all-clause-run : goal.returns-in-Ok-write_all-clause-run
+returns-in-Ok-write_all-clause-run g c =
+    let asked : Arguments = record { config = c.in-Some.asked.config.now; jobs = c.in-Some.asked.jobs.now; threads = c.in-Some.asked.threads; schedule = c.in-Some.asked.schedule } in
+    record {
+      report = c.as_slice.result.now;
+      played =
+          played (map string_bytes c.args.words.now) (g.H.Host.told c.args.host.now) asked c.in_ok-row.field-0.row c.in_ok-row.field-0.scripts c.in-Ok.setup c.in-Ok-play_and_report.field-0.trace c.as_slice.result.now
+          (sym c.in-Some.ensures.meaning) c.in_ok-row.ensures.device c.in_ok-row.ensures.script c.in-Ok.ensures c.in-Ok-play_and_report.ensures.complete (c.as_slice.ensures.value ∙ c.in-Ok-play_and_report.ensures.report);
+      output = c.in-Ok-write_all.ensures.ok;
+    }
 
-pub play_and_report-requires-clause-playable : goal.play_and_report-requires-clause-playable
-play_and_report-requires-clause-playable g c = playable_of_file _ _ c.in_ok-row.ensures.script
+pub returns-clause-cause : goal.returns-clause-cause
+returns-clause-cause g c =
+    let asked : Arguments = record { config = c.in-Some.asked.config.now; jobs = c.in-Some.asked.jobs.now; threads = c.in-Some.asked.threads; schedule = c.in-Some.asked.schedule } in
+    record {
+      trace = c.in-Ok-play_and_report.field-0.trace;
+      report = c.as_slice.result.now;
+      played =
+          played (map string_bytes c.args.words.now) (g.H.Host.told c.args.host.now) asked c.in_ok-row.field-0.row c.in_ok-row.field-0.scripts c.in-Ok.setup c.in-Ok-play_and_report.field-0.trace c.as_slice.result.now
+          (sym c.in-Some.ensures.meaning) c.in_ok-row.ensures.device c.in_ok-row.ensures.script c.in-Ok.ensures c.in-Ok-play_and_report.ensures.complete (c.as_slice.ensures.value ∙ c.in-Ok-play_and_report.ensures.report);
+      front = c.in-Err.ensures.front;
+      failed = c.in-Err.ensures.err;
+    }

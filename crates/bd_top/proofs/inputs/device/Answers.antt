@@ -1,9 +1,9 @@
 use Rattle.std.proofs.Common.{◌∙◌, ap, sym, subst, List, ℕ, Err}
 use Rattle.bd_top.specs.Config.{IsConfig}
-use Rattle.bd_top.proofs.top.device.Goals as goal
+use Rattle.bd_top.proofs.inputs.device.Goals as goal
 
-pub returns-in-Err-Shape-clause-outside : goal.returns-in-Err-Shape-clause-outside
-returns-in-Err-Shape-clause-outside g c = λ _. record {
+pub returns-in-Err-Shape-clause-cause : goal.returns-in-Err-Shape-clause-cause
+returns-in-Err-Shape-clause-cause g c = record {
   bytes = c.in-Ok.bytes;
   read = c.in-Ok.ensures.read;
   outside =

@@ -1,6 +1,0 @@
-use Rattle.std.proofs.Common.{◌≡◌, ◌<◌, ◌^◌, drop}
-use Rattle.bd_top.specs.Script.{value_from}
-use Rattle.bd_top.proofs.word.value.Given as goal
-
-abbrev pub invariant-loop-b : goal.invariant-loop-b
-invariant-loop-b l = (value_from l.n (drop l.b-index l.digits) ≡ value_from 0 l.digits) × (l.n < 2 ^ 64)
