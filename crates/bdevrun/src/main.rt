@@ -1,4 +1,5 @@
-//! Plays a job script over the block devices of a configuration: `bdevrun run CONFIG JOBS`.
+//! Plays a job script over the block devices of a configuration, on one thread or several:
+//! `bdevrun run CONFIG JOBS`.
 #![tactic(auto)]
 
 mod clock;
@@ -20,10 +21,14 @@ const VERSION: &str = "bdevrun 0.1.0";
 const HELP: &str = "\
 bdevrun: plays a job script over block devices and reports what they did
 
-usage: bdevrun run CONFIG JOBS    reads the configuration CONFIG (JSON) and the
-                                  script JOBS, and prints the report
-       bdevrun --help             prints this
-       bdevrun --version          prints the version
+usage: bdevrun run CONFIG JOBS [--threads N] [--schedule N]
+                           reads the configuration CONFIG (JSON) and the
+                           script JOBS, and prints the report
+       bdevrun --help      prints this
+       bdevrun --version   prints the version
+
+  --threads N    plays on N threads, 1 to 16 (1)
+  --schedule N   lets them take turns as the number N says, 0 to 2^64 - 1 (0)
 
 A configuration, a script, a report and every fault are described in the file
 docs/FORMATS.md of the repository.";
