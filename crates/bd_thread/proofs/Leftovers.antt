@@ -1,5 +1,5 @@
 -- A close of a handle that is left behind a Shutdown, by the local rules.
-use Rattle.std.proofs.Common.{◌≡◌, ℕ, ◌+◌, Bool, true, false, cond, not, ◌&&◌, ◌==◌, List, [], ◌∷◌, filter, find, length, Option, Some, None, is_some, refl, sym, ◌∙◌, ap, subst, eq-eqb}
+use Rattle.std.proofs.Common.{◌≡◌, ℕ, ◌+◌, Bool, true, false, cond, ◌==◌, List, [], ◌∷◌, filter, find, length, Option, Some, None, is_some, refl, sym, ◌∙◌, ap, subst, eq-eqb}
 use Rattle.std.specs.Option.{option_map}
 use Rattle.std.proofs.lemmas.Bool.{and_from, and_parts}
 use Rattle.bd_base.specs.declared.act.Act.{Act}
@@ -21,7 +21,7 @@ use Rattle.bd_thread.specs.declared.links.Links.{Links}
 use Rattle.bd_thread.specs.declared.thread.Thread.{Thread}
 use Rattle.bd_thread.specs.Acted.{Acted}
 use Rattle.bd_thread.specs.Endings.{first_own, id_of_handle, if_closable, is_of_if_any, left_over, links_closed, may_close}
-use Rattle.bd_thread.specs.Seen.{here_in, local, local_at, longer, queues_of}
+use Rattle.bd_thread.specs.Seen.{here_in, local, local_at, queues_of}
 use Rattle.bd_thread.proofs.Ends.{length-longer}
 use Rattle.bd_thread.proofs.Going.{Steps, acted_step}
 use Rattle.bd_thread.proofs.Registering.{event_steps}
