@@ -1,0 +1,5 @@
+pub mod Alone
+pub mod Places
+pub mod Runs
+pub mod Steps
+pub mod Tables

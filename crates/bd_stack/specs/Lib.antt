@@ -1,0 +1,5 @@
+pub mod Agreement
+pub mod BlockMap
+pub mod Cuts
+pub mod Layers
+pub mod Paths
