@@ -1,0 +1,216 @@
+//! The pieces of a range of a device, one after the other.
+ghost use Rattle.std.specs.Prelude.{◌≡◌, ◌<◌, ◌≤◌, ◌+◌, ◌^◌, length};
+ghost use Rattle.std.specs.Iterator.{YieldsFirst, item_count};
+ghost use Rattle.bd_cut.specs.Spans.{spans};
+
+use bd_base::DevId;
+use bd_stack::Stack;
+use std::marker::Model;
+
+/// Blocks one behind another on a base device, which lie under blocks one behind another of a device.
+#[derive(Clone, Copy, Debug, PartialEq, Eq)]
+pub struct Span {
+    pub base: DevId,
+    /// The first of them, on the base device.
+    pub lba: u64,
+    /// How many they are, at least 1.
+    pub count: u64,
+    /// The block of the device under which the first of them lies.
+    pub first: u64,
+}
+
+/// The pieces of a range that are left, seen as their list.
+#[derive(Debug, Drop)]
+pub struct Pieces<'a> {
+    stack: &'a Stack,
+    dev: DevId,
+    lba: u64,
+    count: u64,
+}
+
+impl<'a> Model for Pieces<'a> {
+    ghost use Rattle.std.specs.Prelude.{◌<◌, ◌≤◌, ◌+◌, ◌^◌, List, length};
+    ghost use Rattle.bd_cut.specs.Spans.{spans};
+    ghost use Rattle.bd_cut.specs.declared.pieces.Span.{Span};
+
+    ghost Value = { List Span };
+
+    ghost view = { λ p. spans p.stack.now p.dev p.lba p.count };
+
+    ghost invariant = { λ p. (p.dev.0 < length p.stack.now) × (p.lba + p.count ≤ 2 ^ 40) };
+}
+
+impl<'a> Pieces<'a> {
+    /// The pieces of a range of a device: it begins at block `lba`, has `count` blocks, and ends at
+    /// block 2^40 or before. They begin at the range's first block and wherever it is cut, and go on to
+    /// the next cut or the range's end. A range without blocks has none.
+    pub fn of(stack: &'a Stack, dev: DevId, lba: u64, count: u64) -> Pieces<'a>
+        requires dev { dev.0 < length stack.now }
+        requires range { lba + count ≤ 2 ^ 40 }
+        ensures { result ≡ spans stack.now dev lba count }
+    {
+        Pieces {
+            stack,
+            dev,
+            lba,
+            count,
+        }
+    }
+}
+
+impl<'a> Iterator for Pieces<'a> {
+    type Item = Span;
+
+    ghost next_gives = { YieldsFirst (λ left. left) };
+
+    ghost remaining = { item_count (λ left. left) };
+
+    fn next(&mut self) -> Option<Span> {
+        if self.count == 0 {
+            return None;
+        }
+        let (base, lba, run) = self.stack.run_from(self.dev, self.lba);
+        let count = run.min(self.count);
+        let span = Span {
+            base,
+            lba,
+            count,
+            first: self.lba,
+        };
+        self.lba += count;
+        self.count -= count;
+        Some(span)
+    }
+}
+
+#[cfg(test)]
+mod tests {
+    use super::*;
+    use bd_base::{DevRow, Kind, Name, Rows, Setup};
+    use bd_stack::is_stacked;
+    use std::alloc::Global;
+    use std::process::Abort;
+    use std::test::Fail;
+
+    // A device of a test: its kind, what it stands on, and its boundary.
+    type Given = (Kind, Option<u32>, u64);
+
+    // A memory device with boundary 8, a part of it from block 3, a device without boundary, and one
+    // with boundary 10 over the first one.
+    const DEVICES: [Given; 4] = [
+        (Kind::Malloc, None, 8),
+        (Kind::Part { shift: 3 }, Some(0), 0),
+        (Kind::Null, None, 0),
+        (Kind::Passthru, Some(0), 10),
+    ];
+
+    // Block 2^40, behind the last one.
+    const END: u64 = 1 << 40;
+
+    fn row_of(alloc: Global, given: &Given) -> DevRow {
+        let (kind, base, boundary) = *given;
+        DevRow {
+            name: Name::new(alloc),
+            kind,
+            base: base.map(DevId),
+            blocks: 1024,
+            size: 512,
+            boundary,
+            depth: 0,
+            file: None,
+            group: 0,
+        }
+    }
+
+    fn stack_of(rt: &impl Abort, alloc: Global, devices: &[Given]) -> Result<Stack, Fail> {
+        let mut rows = Rows::new(alloc);
+        for given in devices {
+            rows.push(row_of(alloc, given))?;
+        }
+        let setup = Setup {
+            threads: 1,
+            devices: rows,
+            rates: Rows::new(alloc),
+            injections: Rows::new(alloc),
+            waiting: Rows::new(alloc),
+            scripts: Rows::new(alloc),
+        };
+        assert!(rt; is_stacked(&setup));
+        Ok(Stack::new(alloc, &setup)?)
+    }
+
+    // The pieces of a range are these, each as base device, base block, blocks and first block.
+    fn are_pieces(
+        rt: &impl Abort,
+        stack: &Stack,
+        (dev, lba, count): (u32, u64, u64),
+        expected: &[(u32, u64, u64, u64)],
+    ) {
+        let dev = DevId(dev);
+        assert!(rt; stack.has(dev) && lba <= END && count <= END - lba);
+        let mut pieces = Pieces::of(stack, dev, lba, count);
+        for (base, lba, count, first) in expected {
+            let span = Span {
+                base: DevId(*base),
+                lba: *lba,
+                count: *count,
+                first: *first,
+            };
+            assert!(rt; pieces.next() == Some(span), "{span:?}");
+        }
+        assert!(rt; pieces.next() == None);
+    }
+
+    // Blocks 0 to 20 of the part lie on base blocks 3 to 23, which are cut at 8 and 16.
+    #[test]
+    fn part_over_a_boundary(rt: HostRuntime) -> Result<(), Fail> {
+        let stack = stack_of(&rt, rt.alloc(), &DEVICES)?;
+        are_pieces(
+            &rt,
+            &stack,
+            (1, 0, 21),
+            &[(0, 3, 5, 0), (0, 8, 8, 5), (0, 16, 8, 13)],
+        );
+        Ok(())
+    }
+
+    #[test]
+    fn ends_of_a_range(rt: HostRuntime) -> Result<(), Fail> {
+        let stack = stack_of(&rt, rt.alloc(), &DEVICES)?;
+        are_pieces(&rt, &stack, (0, 0, 16), &[(0, 0, 8, 0), (0, 8, 8, 8)]);
+        are_pieces(
+            &rt,
+            &stack,
+            (0, 0, 17),
+            &[(0, 0, 8, 0), (0, 8, 8, 8), (0, 16, 1, 16)],
+        );
+        are_pieces(&rt, &stack, (0, 7, 2), &[(0, 7, 1, 7), (0, 8, 1, 8)]);
+        are_pieces(&rt, &stack, (0, 8, 8), &[(0, 8, 8, 8)]);
+        are_pieces(&rt, &stack, (0, 1, 3), &[(0, 1, 3, 1)]);
+        are_pieces(&rt, &stack, (0, 5, 0), &[]);
+        Ok(())
+    }
+
+    #[test]
+    fn without_boundary_and_at_the_last_block(rt: HostRuntime) -> Result<(), Fail> {
+        let stack = stack_of(&rt, rt.alloc(), &DEVICES)?;
+        are_pieces(&rt, &stack, (2, 5, 100), &[(2, 5, 100, 5)]);
+        are_pieces(&rt, &stack, (2, END - 1, 1), &[(2, END - 1, 1, END - 1)]);
+        are_pieces(&rt, &stack, (2, 0, END), &[(2, 0, END, 0)]);
+        are_pieces(&rt, &stack, (2, END, 0), &[]);
+        Ok(())
+    }
+
+    // Boundaries of 10 above and 8 below: cuts at 8, 10 and 16.
+    #[test]
+    fn two_boundaries(rt: HostRuntime) -> Result<(), Fail> {
+        let stack = stack_of(&rt, rt.alloc(), &DEVICES)?;
+        are_pieces(
+            &rt,
+            &stack,
+            (3, 0, 20),
+            &[(0, 0, 8, 0), (0, 8, 2, 8), (0, 10, 6, 10), (0, 16, 4, 16)],
+        );
+        Ok(())
+    }
+}
