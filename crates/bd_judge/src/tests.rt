@@ -191,11 +191,7 @@ const COMPLETE: [(&str, &[&[Word]], &[&str]); 6] = [
     ("", &[&[]], &[]),
     ("", &[&[], &[], &[]], &["--threads", "3"]),
     (BOTH, &BOTH_WORDS, &["--threads", "2"]),
-    (
-        BOTH,
-        &BOTH_WORDS,
-        &["--schedule", "7", "--threads", "2"],
-    ),
+    (BOTH, &BOTH_WORDS, &["--schedule", "7", "--threads", "2"]),
 ];
 
 #[test]

@@ -416,7 +416,11 @@ fn refused_lines(alloc: Global) -> Result<Setup, OutOfMemory>
 {
     let mut own = Rows::new(alloc);
     add_line(&mut own, 1, open_line(alloc, "a", true)?)?;
-    add_line(&mut own, 2, handle_line(alloc, "a", Op::Write(SEED), 60, 5)?)?;
+    add_line(
+        &mut own,
+        2,
+        handle_line(alloc, "a", Op::Write(SEED), 60, 5)?,
+    )?;
     add_line(&mut own, 3, handle_line(alloc, "a", Op::Read, 0, 0)?)?;
     add_line(&mut own, 4, open_line(alloc, "b", false)?)?;
     add_line(&mut own, 5, handle_line(alloc, "b", Op::Write(SEED), 0, 1)?)?;
