@@ -1,4 +1,5 @@
 pub mod Alone
+pub mod Numbered
 pub mod Places
 pub mod Runs
 pub mod Steps

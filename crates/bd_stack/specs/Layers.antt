@@ -13,7 +13,7 @@ shift_of_kind (kinds.Part shift) = shift
 shift_of_kind _ = 0
 
 abbrev pub layer_of : DevRow → Layer
-layer_of row = record { base = row.base; shift = shift_of_kind row.kind; boundary = row.boundary }
+layer_of row = record { base = row.base; shift = shift_of_kind row.kind; boundary = row.boundary; group = row.group }
 
 -- the devices of a setup, by number
 abbrev pub layers_of : Setup → List Layer

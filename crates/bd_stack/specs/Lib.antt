@@ -3,3 +3,4 @@ pub mod BlockMap
 pub mod Cuts
 pub mod Layers
 pub mod Paths
+pub mod Users

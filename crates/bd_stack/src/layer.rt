@@ -17,6 +17,8 @@ pub struct Layer {
     pub shift: u64,
     /// Requests are cut at multiples of so many of its blocks; 0 for no such cut.
     pub boundary: u64,
+    /// The same number for the parts of one split, and another for every other device.
+    pub group: u32,
 }
 
 impl Layer {
@@ -28,6 +30,7 @@ impl Layer {
             base: row.base,
             shift: shift_of(row.kind),
             boundary: row.boundary,
+            group: row.group,
         }
     }
 

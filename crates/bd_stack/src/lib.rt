@@ -6,6 +6,7 @@ mod law;
 mod layer;
 mod path;
 mod stack;
+mod user_table;
 
 pub use law::agrees_with_machine;
 pub use layer::Layer;

@@ -3,10 +3,12 @@ ghost use Rattle.std.specs.Prelude.{◌≡◌, ◌<◌, ◌≤◌, ◌+◌, ◌*
 ghost use Rattle.bd_stack.specs.BlockMap.{at, below};
 ghost use Rattle.bd_stack.specs.Cuts.{IsClear, IsRun, is_at_boundary};
 ghost use Rattle.bd_stack.specs.Layers.{AreLaid, IsStacked, layer_of, layers_of};
+ghost use Rattle.bd_stack.specs.Users.{users};
 
 use crate::layer::{LAST_BLOCK, Layer};
 use crate::path::{Path, paths_of};
-use bd_base::{DevId, DevRow, OutOfMemory, Setup};
+use crate::user_table::users_of;
+use bd_base::{DevId, DevRow, HandleId, OutOfMemory, Setup};
 use std::alloc::Global;
 use std::marker::Model;
 
@@ -18,10 +20,11 @@ const MOST_DEVICES: usize = 256;
 pub struct Stack {
     layers: Vec<Layer>,
     paths: Vec<Path>,
+    users: Vec<Vec<DevId>>,
 }
 
 impl Model for Stack {
-    ghost use Rattle.std.specs.Prelude.{◌≡◌, List, length};
+    ghost use Rattle.std.specs.Prelude.{◌≡◌, List, length, map};
     ghost use Rattle.bd_stack.specs.Layers.{IsStacked};
     ghost use Rattle.bd_stack.specs.Paths.{IsTable};
     ghost use Rattle.bd_stack.specs.declared.layer.Layer.{Layer};
@@ -30,7 +33,7 @@ impl Model for Stack {
 
     ghost view = { λ s. s.layers.items };
 
-    ghost invariant = { λ s. IsTable s.layers.items s.paths.items };
+    ghost invariant = { λ s. IsTable s.layers.items s.paths.items (map (λ devs. devs.items) s.users.items) };
 }
 
 /// Whether a stack can be made of a setup: it has at most 256 devices, and each stands on an earlier
@@ -73,7 +76,12 @@ impl Stack {
     {
         let layers = layers_of(alloc, setup.devices.as_slice())?;
         let paths = paths_of(alloc, layers.as_slice())?;
-        Ok(Stack { layers, paths })
+        let users = users_of(alloc, layers.as_slice())?;
+        Ok(Stack {
+            layers,
+            paths,
+            users,
+        })
     }
 
     /// Whether it has the device.
@@ -99,6 +107,18 @@ impl Stack {
         ensures { result.now ≡ below self.now dev }
     {
         self.paths[dev.0 as usize].below.as_slice()
+    }
+
+    /// The devices whose base handle this is, none for any other handle. Each group of devices that
+    /// stand on another has one base handle; they are numbered from 0 by the first device of each.
+    pub fn users(&self, handle: HandleId) -> &[DevId]
+        ensures { result.now ≡ users self.now handle.0 }
+    {
+        if handle.0 < self.users.len() as u128 {
+            self.users[handle.0 as usize].as_slice()
+        } else {
+            &[]
+        }
     }
 
     /// The base device and its block that lie under a block, 0 to 2^40 - 1, of a device, and how many
@@ -223,6 +243,38 @@ mod tests {
             );
         }
         assert!(rt; !stack.has(DevId(7)));
+        Ok(())
+    }
+
+    // A base device, two parts of it of one split, a device over the first part, another base device
+    // and a device over that: three base handles. The groups of base devices have none.
+    #[test]
+    fn users_of_base_handles(rt: HostRuntime) -> Result<(), Fail> {
+        let alloc = rt.alloc();
+        let part = (Kind::Part { shift: 8 }, Some(0), 0);
+        let base = (Kind::Malloc, None, 0);
+        let devices = [
+            base,
+            (Kind::Part { shift: 0 }, Some(0), 0),
+            (Kind::Error, Some(1), 0),
+            part,
+            base,
+            (Kind::Passthru, Some(4), 0),
+        ];
+        let mut setup = setup_of(alloc, &[])?;
+        for (given, group) in devices.iter().zip([5, 1, 2, 1, 5, 3]) {
+            let mut row = row_of(alloc, given);
+            row.group = group;
+            setup.devices.push(row)?;
+        }
+        assert!(rt; is_stacked(&setup));
+        let stack = Stack::new(alloc, &setup)?;
+        let first: &[DevId] = &[DevId(1), DevId(3)];
+        assert!(rt; stack.users(HandleId(0)) == first);
+        assert!(rt; stack.users(HandleId(1)) == [DevId(2)].as_slice());
+        assert!(rt; stack.users(HandleId(2)) == [DevId(5)].as_slice());
+        assert!(rt; stack.users(HandleId(3)).is_empty());
+        assert!(rt; stack.users(HandleId(u128::MAX)).is_empty());
         Ok(())
     }
 

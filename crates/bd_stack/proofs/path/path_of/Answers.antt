@@ -12,14 +12,14 @@ use Rattle.bd_stack.proofs.path.path_of.Goals as goal
 
 pub bounds-paths-base : goal.bounds-paths-base
 bounds-paths-base c =
-    let layer : Layer = slice_index_or c.args.layers.now c.args.number (record { base = None; shift = 0; boundary = 0 }) in
+    let layer : Layer = slice_index_or c.args.layers.now c.args.number (record { base = None; shift = 0; boundary = 0; group = 0 }) in
     let found : slice_get c.args.layers.now c.args.number ≡ Some layer = slice_get-get_or c.args.layers.now c.args.number _ c.requires.number in
     let earlier : c.in-Some.base.0 < c.args.number = base_is_earlier c.args.layers.now c.requires.stacked (record { 0 = c.args.number }) c.in-Some.base (ap base_of_layer found ∙ c.in-Some.is) in
     omega arith
 
 pub overflow_add-result : goal.overflow_add-result
 overflow_add-result c =
-    let layer : Layer = slice_index_or c.args.layers.now c.args.number (record { base = None; shift = 0; boundary = 0 }) in
+    let layer : Layer = slice_index_or c.args.layers.now c.args.number (record { base = None; shift = 0; boundary = 0; group = 0 }) in
     let found : slice_get c.args.layers.now c.args.number ≡ Some layer = slice_get-get_or c.args.layers.now c.args.number _ c.requires.number in
     let earlier : c.in-Some.base.0 < c.args.number = base_is_earlier c.args.layers.now c.requires.stacked (record { 0 = c.args.number }) c.in-Some.base (ap base_of_layer found ∙ c.in-Some.is) in
     let small : layer.shift ≤ 2 ^ 40 = subst (λ (o : Option Layer). shift_of_layer o ≤ 2 ^ 40) found (shift_is_small c.args.layers.now c.requires.stacked (record { 0 = c.args.number })) in
@@ -30,13 +30,13 @@ overflow_add-result c =
 
 pub returns-in-None : goal.returns-in-None
 returns-in-None c =
-    let found = slice_get-get_or c.args.layers.now c.args.number (record { base = None; shift = 0; boundary = 0 }) c.requires.number in
+    let found = slice_get-get_or c.args.layers.now c.args.number (record { base = None; shift = 0; boundary = 0; group = 0 }) c.requires.number in
     base_path c.args.layers.now c.requires.stacked (record { 0 = c.args.number }) _ c.requires.number found c.in-None.is _ refl refl
     (c.in_ok-push.ensures.items ∙ ap (λ (devs : List DevId). devs ++ record { 0 = c.args.number } ∷ []) c.new-below.ensures.items)
 
 pub returns-in_ok-extend_from_slice-in-Some : goal.returns-in_ok-extend_from_slice-in-Some
 returns-in_ok-extend_from_slice-in-Some c =
-    let found = slice_get-get_or c.args.layers.now c.args.number (record { base = None; shift = 0; boundary = 0 }) c.requires.number in
+    let found = slice_get-get_or c.args.layers.now c.args.number (record { base = None; shift = 0; boundary = 0; group = 0 }) c.requires.number in
     let earlier : c.in-Some.base.0 < c.args.number = base_is_earlier c.args.layers.now c.requires.stacked (record { 0 = c.args.number }) c.in-Some.base (ap base_of_layer found ∙ c.in-Some.is) in
     let down : IsPath c.args.layers.now c.in-Some.base.0 c.index-paths-base.result =
     subst (IsPath c.args.layers.now c.in-Some.base.0) (sym c.index-paths-base.is) (c.requires.paths.each c.in-Some.base.0 c.index-paths-base.result (omega arith)) in
