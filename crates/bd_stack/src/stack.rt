@@ -37,8 +37,7 @@ impl Model for Stack {
 }
 
 /// Whether a stack can be made of a setup: it has at most 256 devices, and each stands on an earlier
-/// one, if on any, in which it begins at block 2^40 at most. A setup that a configuration gave has
-/// that.
+/// one, if on any, in which it begins at block 2^40 at most.
 pub fn is_stacked(setup: &Setup) -> bool
     ensures { IsTrue result ↔ IsStacked (layers_of setup.now) }
 {
