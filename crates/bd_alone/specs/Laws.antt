@@ -86,12 +86,12 @@ lines_done t es = filter_map (line_by t) es
 abbrev pub number_of : Line → ℕ
 number_of line = line.number
 
--- in a run, the lines that a thread did are a front of its script, up to the line that it is at
+-- in a run, the lines that a thread did are a prefix of its script, up to the line that it is at
 abbrev pub LinesAreFront : Type 0
 LinesAreFront = (setup : Setup) (told : Told) (es : List Entry) (t : ℕ) → IsRun setup told es
     → lines_done t es ≡ map number_of (take (part_of (state_after setup told es) t).next (lines_of setup t))
 
--- a thread's script at the one Shutdown of a history: it is at its end or at a line that waits; the lines before that one are the lines done, and none is done behind the Shutdown
+-- a thread's script at the one Shutdown of a history: it is at its end or at a line that waits; the lines before that one are the lines done, and none is done after Shutdown
 pub record GoesAsFar (setup : Setup) (told : Told) (es : List Entry) (t : ℕ) : Type 0 where
   pub front : List Entry
   pub stamp : ℕ
@@ -115,7 +115,7 @@ abbrev pub is_opening_of : DevId → Act → Bool
 is_opening_of d (acts.Reg event answer) = is_opening_answer d answer
 is_opening_of d _ = false
 
--- at a destruct no handle of the device is open, and none is opened behind it: it comes after the device's last close
+-- at a destruct no handle of the device is open, and none is opened afterwards: it comes after the device's last close
 pub record IsAfterLastClose (setup : Setup) (told : Told) (d : DevId) (before : List Entry) (behind : List Entry) : Type 0 where
   pub unused : is_unused (state_after setup told before).registry d ≡ true
   pub no_opening : AllByRecursion (λ e. is_opening_of d e.act ≡ false) behind

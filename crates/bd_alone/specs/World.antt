@@ -18,7 +18,7 @@ use Rattle.bd_machine.specs.Step.{first_failing, is_shutdown, place_after}
 use Rattle.bd_machine.specs.Table.{look_up}
 use Rattle.bd_machine.specs.View.{View, Came, Change, Move, here_of, message_of, id_of, is_of, took, asked, destructed_by, part_of}
 
--- the stamp of the last entry; whether a Shutdown stands; the registry; the thread's part; the tokens that aren't closed, with their places
+-- the stamp of the last entry; whether the Shutdown came; the registry; the thread's part; the tokens that aren't closed, with their places
 pub record World : Type 0 where
   pub stamp : ℕ
   pub shut : Bool

@@ -17,13 +17,13 @@ pub fn played_alone_is_complete()
     ensures { PlayedAloneIsComplete }
 {}
 
-/// In a run the lines that a thread did are a front of its script.
+/// In a run the lines that a thread did are a prefix of its script.
 pub fn lines_are_front()
     ensures { LinesAreFront }
 {}
 
 /// In a complete run each script goes to its end or to a line that waits, and no line is done
-/// behind the Shutdown.
+/// after Shutdown.
 pub fn scripts_go_as_far()
     ensures { ScriptsGoAsFar }
 {}

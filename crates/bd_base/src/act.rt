@@ -32,12 +32,12 @@ pub enum ApplyEnd {
     Fault,
 }
 
-/// What became of a script's line.
+/// The outcome of a script's line.
 #[derive(Clone, Copy, Debug, PartialEq, Eq)]
 pub enum Outcome {
     Done,
     Errno(Errno),
-    /// A close with so many open requests.
+    /// A close while this number of requests is open.
     BusyOpen(u32),
     Accepted(ReqId),
 }
@@ -95,7 +95,7 @@ pub enum Act {
         dev: DevId,
         now: u64,
     },
-    /// A request was cut into so many pieces.
+    /// A request was cut into this number of pieces.
     Cut {
         req: ReqId,
         pieces: u32,

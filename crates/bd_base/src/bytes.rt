@@ -29,7 +29,7 @@ impl Bytes {
         }
     }
 
-    /// The bytes of a slice, or want of memory.
+    /// The bytes of a slice, or out of memory.
     pub fn from_slice(alloc: Global, bytes: &[u8]) -> Result<Bytes, OutOfMemory>
         ensures { IfOk result (λ b. b ≡ bytes.now) }
     {
@@ -51,7 +51,7 @@ impl Bytes {
         self.items
     }
 
-    /// So many zeros, or want of memory.
+    /// Zeros of this length, or out of memory.
     pub fn zeros(alloc: Global, n: usize) -> Result<Bytes, OutOfMemory>
         ensures { IfOk result (λ b. b ≡ replicate n 0) }
     {
@@ -59,7 +59,7 @@ impl Bytes {
         Ok(Bytes { items })
     }
 
-    /// Adds a byte; want of memory leaves the bytes as they were.
+    /// Adds a byte; out of memory, the bytes stay as they were.
     pub fn push(&mut self, byte: u8) -> Result<(), OutOfMemory>
         ensures ok { OnOk result (self.new ≡ self.old ++ byte ∷ []) }
         ensures err { OnErr result (self.new ≡ self.old) }
@@ -68,7 +68,7 @@ impl Bytes {
         Ok(())
     }
 
-    /// Puts bytes behind the others; want of memory leaves them as they were.
+    /// Appends bytes; out of memory, the others stay as they were.
     pub fn append(&mut self, more: &[u8]) -> Result<(), OutOfMemory>
         ensures ok { OnOk result (self.new ≡ self.old ++ more.now) }
         ensures err { OnErr result (self.new ≡ self.old) }
@@ -89,7 +89,7 @@ impl Bytes {
         self.items.as_slice()
     }
 
-    /// Equal bytes, or want of memory.
+    /// Equal bytes, or out of memory.
     pub fn copy(&self) -> Result<Bytes, OutOfMemory>
         ensures { IfOk result (λ b. b ≡ self.now) }
     {

@@ -58,7 +58,7 @@ pub struct DevRow {
     pub blocks: u64,
     /// Bytes of a block: 512 or 4,096.
     pub size: u32,
-    /// Requests are cut at multiples of so many blocks; 0 for no such cut, else 8 and more.
+    /// Requests are cut at multiples of this number of blocks: 8 or more, or 0 for no cut.
     pub boundary: u64,
     /// How many pieces its work queue takes: 1 to 1,024 for a base device, else 0.
     pub depth: u32,

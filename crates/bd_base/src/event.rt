@@ -18,7 +18,7 @@ pub enum ClaimKind {
     Shared(u64),
 }
 
-/// What became of a channel that was to be dropped.
+/// The outcome of a call that drops a channel.
 #[derive(Clone, Copy, Debug, PartialEq, Eq)]
 pub enum Dropped {
     /// It has a reference, or there was none.

@@ -1,4 +1,4 @@
-//! Want of memory, the one error that every call which takes memory may answer.
+//! Out of memory, the one error that every call which takes memory may answer.
 use std::alloc::{AllocError, AllocFailed};
 use std::error::Error;
 use std::fmt;

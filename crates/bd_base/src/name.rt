@@ -29,7 +29,7 @@ impl Name {
         }
     }
 
-    /// The bytes of a slice as a name, or want of memory.
+    /// The bytes of a slice as a name, or out of memory.
     pub fn from_slice(alloc: Global, bytes: &[u8]) -> Result<Name, OutOfMemory>
         ensures { IfOk result (λ n. n ≡ bytes.now) }
     {
@@ -51,7 +51,7 @@ impl Name {
         self.items
     }
 
-    /// Adds a byte; want of memory leaves the name as it was.
+    /// Adds a byte; out of memory, the name stays as it was.
     pub fn push(&mut self, byte: u8) -> Result<(), OutOfMemory>
         ensures ok { OnOk result (self.new ≡ self.old ++ byte ∷ []) }
         ensures err { OnErr result (self.new ≡ self.old) }
@@ -66,7 +66,7 @@ impl Name {
         self.items.as_slice()
     }
 
-    /// An equal name, or want of memory.
+    /// An equal name, or out of memory.
     pub fn copy(&self) -> Result<Name, OutOfMemory>
         ensures { IfOk result (λ n. n ≡ self.now) }
     {

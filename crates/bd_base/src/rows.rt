@@ -79,7 +79,7 @@ impl<T> Rows<T> {
         &mut self.items[i]
     }
 
-    /// Takes a row out; those behind it move up.
+    /// Takes a row out; the later ones move up.
     pub fn remove(&mut self, i: usize) -> T
         requires { i < length self.old }
         ensures row { result ≡ slice_index_or self.old i result }
@@ -90,7 +90,7 @@ impl<T> Rows<T> {
 }
 
 impl<T: Drop> Rows<T> {
-    /// Adds a row behind the others; want of memory leaves the rows as they were.
+    /// Appends a row; out of memory, the rows stay as they were.
     pub fn push(&mut self, row: T) -> Result<(), OutOfMemory>
         ensures ok { OnOk result (self.new ≡ self.old ++ row ∷ []) }
         ensures err { OnErr result (self.new ≡ self.old) }
@@ -109,7 +109,7 @@ impl<T: Drop> Rows<T> {
 }
 
 impl<T: Copy> Rows<T> {
-    /// Equal rows, or want of memory.
+    /// Equal rows, or out of memory.
     pub fn copy(&self) -> Result<Rows<T>, OutOfMemory>
         ensures { IfOk result (λ r. r ≡ self.now) }
     {

@@ -10,7 +10,7 @@ pub enum Command {
         blocks: u64,
         /// Bytes of a block: 512 or 4,096.
         size: u32,
-        /// Requests are cut at multiples of so many blocks; 0 for no such cut, else 8 and more.
+        /// Requests are cut at multiples of this number of blocks: 8 or more, or 0 for no cut.
         boundary: u64,
         /// How many pieces its queue takes: 1 to 1,024.
         depth: u32,

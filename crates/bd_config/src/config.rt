@@ -36,7 +36,7 @@ impl From<OutOfMemory> for ConfigNo {
     }
 }
 
-// A place as a number of 32 bits; a list that is longer is taken as want of memory.
+// A place as a number of 32 bits; a place that has no such number answers out of memory.
 fn place_of(n: usize) -> Result<u32, OutOfMemory>
     ensures { IfOk result (λ place. place ≡ n) }
 {

@@ -11,7 +11,7 @@ use Rattle.bd_cut.specs.declared.pieces.Span.{Span}
 abbrev pub cuts : List Layer → DevId → ℕ → ℕ → List ℕ
 cuts layers dev lba count = filter (is_cut_at layers dev) (range_with_len (lba + 1) (count - 1))
 
--- the piece of so many blocks from a block of the device on
+-- the piece of this number of blocks, from a block of the device on
 abbrev pub span_of : List Layer → DevId → ℕ → ℕ → Span
 span_of layers dev first count = record { base = (at layers dev first).dev; lba = (at layers dev first).number; count = count; first = first }
 

@@ -7,7 +7,7 @@ use bd_base::DevId;
 use bd_stack::Stack;
 use std::marker::Model;
 
-/// Blocks one behind another on a base device, which lie under blocks one behind another of a device.
+/// Consecutive blocks of a base device, which lie under consecutive blocks of a device.
 #[derive(Clone, Copy, Debug, PartialEq, Eq)]
 pub struct Span {
     pub base: DevId,
@@ -104,7 +104,7 @@ mod tests {
         (Kind::Passthru, Some(0), 10),
     ];
 
-    // Block 2^40, behind the last one.
+    // Block 2^40, one past the last.
     const END: u64 = 1 << 40;
 
     fn row_of(alloc: Global, given: &Given) -> DevRow {

@@ -61,7 +61,7 @@ impl Held {
         }
     }
 
-    /// Makes room for so many more holds. Want of memory leaves the holds and their room as they were.
+    /// Makes room for `n` more holds. Out of memory, the holds and their room stay as they were.
     pub fn reserve(&mut self, n: u32) -> Result<(), OutOfMemory>
         ensures ok { OnOk result (n ≤ self.new.room) }
         ensures enough { n ≤ self.old.room → IsOk result }

@@ -14,7 +14,7 @@ use Rattle.bd_machine.specs.Homes.{is_home}
 use Rattle.bd_machine.specs.Registry.{is_unused}
 use Rattle.bd_machine.specs.Same.{same_dev}
 
--- this is its home, a Shutdown stands, no handle of it is open, and it wasn't destructed
+-- this is its home, the Shutdown came, no handle of it is open, and it wasn't destructed
 abbrev pub may_go : Setup → ℕ → Part → Registry → Bool → DevId → Bool
 may_go setup t part registry shut dev = is_home setup t dev && shut && is_unused registry dev && not (list_any (same_dev dev) part.destructed)
 

@@ -35,7 +35,7 @@ pub fn has_destructed(destructed: &[DevId], dev: DevId) -> bool
 }
 
 /// Whether the device may be destructed on a thread with this part: the thread is its home, a
-/// Shutdown stands, no handle of it is open, and it wasn't destructed.
+/// Shutdown came, no handle of it is open, and it wasn't destructed.
 pub fn may_go(
     setup: &Setup,
     thread: u32,
@@ -73,7 +73,7 @@ fn digest_shown(malloc: bool, base: Option<&Base>) -> Option<Option<[u8; 32]>>
     Some(Some(digest))
 }
 
-/// What the end of a device shows: of a malloc device the SHA-256 of its blocks, one behind another;
+/// What the end of a device shows: of a malloc device the SHA-256 of its blocks in order;
 /// of another device no digest. None where it is malloc and its blocks aren't here.
 pub fn digest_due(setup: &Setup, bases: &[Base], dev: DevId) -> Option<Option<[u8; 32]>>
     ensures { result ≡ digest_due (is_malloc setup.now dev) (find (is_base dev) bases.now) }

@@ -82,7 +82,7 @@ fn serve_first(
 
 /// Serves the piece that waits first at the device, and gives the piece as it is then: its content
 /// is changed in place, the piece is out of the queue, and its end is Done with the bytes that it
-/// read. Want of memory leaves the base unspecified.
+/// read. Out of memory, the base is unspecified.
 pub fn serve(
     alloc: Global,
     bases: &mut Rows<Base>,

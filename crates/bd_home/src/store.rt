@@ -148,7 +148,7 @@ pub(crate) fn change(
 
 // ---- the bytes
 
-// The bytes of blocks, one behind another.
+// The bytes of blocks, concatenated.
 fn joined(alloc: Global, blocks: &[Bytes]) -> Result<Bytes, OutOfMemory>
     ensures { IfOk result (λ b. b ≡ concat blocks.now) }
 {

@@ -1,4 +1,4 @@
--- The commands of a script, by their first word and the words behind it.
+-- The commands of a script, by their first word and the words after it.
 use Rattle.std.specs.Prelude.{ℕ, Bool, true, false, ◌&&◌, ◌==◌, List, [], ◌∷◌, codes, Option, None, Some, if◌then◌else◌}
 use Rattle.std.specs.List.{list_any}
 use Rattle.bd_base.specs.Name.{same_name}
@@ -162,7 +162,7 @@ abbrev pub or_else : Option Job → Option Job → Option Job
 or_else (Some job) other = Some job
 or_else None other = other
 
--- the command of a word, with the words behind it and the earlier lines of its thread
+-- the command of a word, with the words after it and the earlier lines of its thread
 abbrev pub command_job : List Line → List ℕ → List (List ℕ) → Option Job
 command_job earlier word args =
     if same_name word (codes "open") then open_job args

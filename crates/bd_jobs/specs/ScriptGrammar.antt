@@ -21,7 +21,7 @@ abbrev pub command_on : ℕ → ℕ → Option Job → Option Command
 command_on thread number (Some job) = Some (record { thread = thread; line = record { number = number; job = job } })
 command_on thread number None = None
 
--- the thread is one of so many, and the words behind it are a command
+-- the thread's number is below the number of threads, and the words after it are a command
 abbrev pub command_at : ℕ → (ℕ → List Line) → ℕ → Option ℕ → List ℕ → List (List ℕ) → Option Command
 command_at threads earlier number None word args = None
 command_at threads earlier number (Some thread) word args =
@@ -76,7 +76,7 @@ abbrev pub scripts_below : List Command → ℕ → List Script
 scripts_below commands zero = []
 scripts_below commands (suc thread) = scripts_below commands thread ++ script_if_any thread (lines_for thread commands)
 
--- the scripts that a text gives so many threads; none where it is outside the grammar
+-- the scripts that a text gives to this number of threads; none where it is outside the grammar
 abbrev pub scripts_of : ℕ → List ℕ → Option (List Script)
 scripts_of threads bytes = option_map (λ commands. scripts_below commands threads) (commands_of threads (text_lines bytes))
 

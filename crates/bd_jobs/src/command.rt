@@ -1,4 +1,4 @@
-//! The commands of a script, by their first word and the words behind it.
+//! The commands of a script, by their first word and the words after it.
 ghost use Rattle.std.specs.Prelude.{◌≡◌, map, Some, None, IfOk};
 ghost use Rattle.std.specs.List.{list_any};
 ghost use Rattle.bd_jobs.specs.Commands.{open_as, open_job, close_job, gone_job, plain_kind, claim_kind, claim_as, claim_job, submit_at, range_job, write_job, reset_job, submits, submits_at, abort_job, remove_job, wait_job, sleep_job, post_job, await_job, submission_job, other_job, command_job};
@@ -305,7 +305,7 @@ fn other_job(alloc: Global, word: &[u8], args: &[&[u8]]) -> Result<Option<Job>, 
     }
 }
 
-/// The command of a word, with the words behind it, after these lines of its thread; none where
+/// The command of a word, with the words after it and the earlier lines of its thread; none where
 /// they are no command.
 pub(crate) fn command_job(
     alloc: Global,

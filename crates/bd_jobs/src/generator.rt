@@ -110,7 +110,7 @@ fn write_thread(alloc: Global, out: &mut Vec<u8>, n: u32, thread: u32) -> Result
     write_step(alloc, out, thread, Step::Closes)
 }
 
-/// The script of so many threads, each of which writes and reads so many blocks of its own on the
+/// The script of `threads` threads, each of which writes and reads `n` blocks of its own on the
 /// device `P`, in groups of eight. `read_jobs` reads it.
 pub fn generate(alloc: Global, n: u32, threads: u32) -> Result<Vec<u8>, OutOfMemory>
     requires numbers { n ≤ 500 }

@@ -64,7 +64,7 @@ fn lines_at(scripts: &[Script], thread: u32) -> &[Line]
     }
 }
 
-// The command of a thread's number and the words behind it, behind the lines of these scripts.
+// The command of a thread's number and the words after it, where these scripts came before.
 fn command_at(
     alloc: Global,
     scripts: &[Script],
@@ -92,7 +92,7 @@ fn command_at(
     }))
 }
 
-// The command of a line's words, behind the lines of these scripts.
+// The command of a line's words, where these scripts came before.
 fn words_command(
     alloc: Global,
     scripts: &[Script],
@@ -124,7 +124,7 @@ fn line_command(
     words_command(alloc, scripts, threads, at, words.as_slice())
 }
 
-// Adds a command behind the lines of its thread.
+// Adds a command after the lines of its thread.
 fn add(scripts: &mut Vec<Script>, command: Command) -> Result<(), OutOfMemory>
     requires { command.thread < length scripts.old.items }
     ensures { (commands : List Command) → (threads : ℕ) → scripts.old.items ≡ all_scripts commands threads → OnOk result (scripts.new.items ≡ all_scripts (commands ++ command ∷ []) threads) }
@@ -142,9 +142,9 @@ fn with_lines(scripts: Vec<Script>) -> Rows<Script>
     Rows::from_vec(scripts)
 }
 
-/// Reads the scripts of so many threads: each line has no command, or one of a thread below them.
-/// There is a script for each thread that has a line, by rising thread. `Line` comes exactly where
-/// that line is the first one outside the grammar.
+/// Reads the scripts of `threads` threads: a line has no command, or one of a thread below that
+/// number. There is a script for each thread that has a line, by rising thread. `Line` comes exactly
+/// where that line is the first one outside the grammar.
 pub fn read_jobs(alloc: Global, bytes: &[u8], threads: u32) -> Result<Rows<Script>, JobNo>
     ensures ok { IfOk result (λ scripts. scripts_of threads bytes.now ≡ Some scripts) }
     ensures line { (number : ℕ) → result ≡ Err (JobNo.Line number) → IsFirstOutside threads bytes.now number }

@@ -92,7 +92,7 @@ abbrev pub is_handle_on : DevId → Option Handle → Bool
 is_handle_on dev None = false
 is_handle_on dev (Some h) = same_dev h.dev dev
 
--- a close by the next line, or, once a Shutdown stands, of each handle that is left
+-- a close by the next line, or, after Shutdown, of each handle that is left
 abbrev pub asks_close : Setup → ℕ → View → Came → HandleId → Bool
 asks_close setup t v came id = (open_on v.part id == 0) && cond came.shut (is_some (handle_of v.handles id)) (is_job_close v.part id (undecided_job setup t v.part))
 

@@ -81,6 +81,6 @@ is_aio setup dev = has_kind is_aio_kind (row_of setup (base_of setup dev))
 abbrev pub is_malloc : Setup → DevId → Bool
 is_malloc setup dev = has_kind is_malloc_kind (row_of setup dev)
 
--- b is the block behind a on the same base
+-- b is the block after a on the same base
 abbrev pub follows : Block → Block → Bool
 follows a b = (a.base.0 == b.base.0) && (a.number + 1 == b.number)

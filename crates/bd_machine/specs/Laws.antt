@@ -70,7 +70,7 @@ stored_at s t = stored (part_of s t).bases
 
 -- ---- the laws
 
--- the front of a run is a run
+-- a prefix of a run is a run
 abbrev pub FrontIsRun : Type 0
 FrontIsRun = (setup : Setup) (told : Told) (es fs : List Entry) → IsRun setup told (es ++ fs) → IsRun setup told es
 

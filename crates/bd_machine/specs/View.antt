@@ -26,7 +26,7 @@ pub record View : Type 0 where
   pub here : Id → Option Kept
   pub handles : List Handle
 
--- message: what is kept of the token of the message taken; answer: the registry's to the event; unused: the registry knows no handle of the device; shut: a Shutdown stands
+-- message: what is kept of the token of the message taken; answer: the registry's to the event; unused: the registry knows no handle of the device; shut: the Shutdown came
 pub record Came : Type 0 where
   pub message : Option Kept
   pub answer : Option Answer

@@ -19,7 +19,7 @@ pub const REGISTRY_ANSWER: u32 = 6;
 pub const EVENT_ASKED: u32 = 7;
 /// Accept, Refuse: the script's next line asks for this submission, and nothing decided it.
 pub const LINE_ASKS: u32 = 8;
-/// Accept: nothing speaks against the submission.
+/// Accept: no cause refuses the submission, and the device is the handle's.
 pub const ADMITTED: u32 = 9;
 /// Accept: the id is new, and there is room for one more open request.
 pub const FRESH_ID: u32 = 10;
@@ -43,9 +43,9 @@ pub const SHOWN_DATA: u32 = 28;
 pub const MAY_DESTRUCT: u32 = 31;
 /// Destruct: the digest is that of the content.
 pub const CONTENT_DIGEST: u32 = 32;
-/// Script: it is the thread's next line, and no Shutdown stands.
+/// Script: it is the thread's next line, and no Shutdown came.
 pub const NEXT_LINE: u32 = 33;
-/// Script: this is what became of the line.
+/// Script: this is the outcome of the line.
 pub const OUTCOME_DUE: u32 = 34;
 /// Shutdown: nothing is under way on any thread.
 pub const AT_REST: u32 = 35;

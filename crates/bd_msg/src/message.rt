@@ -3,7 +3,7 @@ use crate::request::{Piece, PieceEnd, Request};
 use crate::walk::Walk;
 use bd_base::{AbortCause, DevId, HandleId, Name, ReqId, ThreadId, ThreadSet};
 
-/// What became of a request at the home of a limited device.
+/// The outcome of a request at the home of a limited device.
 #[derive(Clone, Copy, Debug, PartialEq, Eq)]
 pub enum Verdict {
     /// It passed the device's limits.

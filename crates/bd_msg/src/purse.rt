@@ -47,7 +47,7 @@ impl Purse {
         Ok(())
     }
 
-    /// Keeps a ticket, behind the others. It takes no memory, and needs a spare place.
+    /// Keeps a ticket, as the last one. It takes no memory, and needs a spare place.
     pub fn keep(&mut self, ticket: Ticket)
         requires { length self.old.ids < self.old.capacity }
         ensures ids { self.new.ids ≡ self.old.ids ++ ticket ∷ [] }

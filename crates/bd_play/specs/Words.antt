@@ -15,7 +15,7 @@ use Rattle.bd_machine.specs.View.{Came, Change, asked, view}
 abbrev pub own_handle : State → ℕ → HandleId → Option Handle
 own_handle s t id = handle_of (view s t).handles id
 
--- a Shutdown stands or not, and nothing else came
+-- the Shutdown came or not, and nothing else did
 abbrev pub came_shut : State → Came
 came_shut s = record { message = None; answer = None; unused = false; shut = s.shut }
 

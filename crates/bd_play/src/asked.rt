@@ -125,8 +125,8 @@ pub fn asks_submission(
     }
 }
 
-// An event to close a handle is asked: by the next line, or, once a Shutdown stands, where it is
-// still open.
+// An event to close a handle is asked: by the next line, or, after Shutdown, where it is still
+// open.
 fn asks_close(setup: &Setup, state: &State, thread: u32, part: &Part, id: HandleId) -> bool
     requires { part.now ≡ part_of state.now thread }
     ensures { result ≡ asks setup.now state.now thread (events.Close id) }

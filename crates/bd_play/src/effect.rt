@@ -144,7 +144,7 @@ fn front(blocks: &[Bytes], n: u64) -> &[Bytes]
     }
 }
 
-// The blocks behind the first n.
+// The blocks after the first n.
 #[tactic(auto, using(crate::proofs::Blocks::drop_all, crate::proofs::Blocks::drop_some))]
 fn behind(blocks: &[Bytes], n: u64) -> &[Bytes]
     ensures { result.now ≡ drop n blocks.now }
@@ -198,7 +198,7 @@ pub fn content_by(
     }
 }
 
-/// The bytes of blocks, one behind another.
+/// The bytes of blocks, concatenated.
 pub fn joined(alloc: Global, blocks: &[Bytes]) -> Result<Bytes, OutOfMemory>
     ensures { IfOk result (λ b. b ≡ concat blocks.now) }
 {
@@ -209,7 +209,7 @@ pub fn joined(alloc: Global, blocks: &[Bytes]) -> Result<Bytes, OutOfMemory>
     Ok(bytes)
 }
 
-// So many blocks of zeros. More bytes than 64 bits count are want of memory.
+// This number of blocks of zeros. More bytes than 64 bits count answer out of memory.
 fn zeros(alloc: Global, size: u32, count: u64) -> Result<Bytes, OutOfMemory>
     ensures { IfOk result (λ b. b ≡ replicate (count * size) 0) }
 {

@@ -36,7 +36,7 @@ fn all_destructed(setup: &Setup, state: &State, count: u32) -> bool
 }
 
 /// Shut down, every device destructed, no request open, every message taken. More devices than 32
-/// bits count are want of memory.
+/// bits count answer out of memory.
 pub fn is_finished(setup: &Setup, state: &State) -> Result<bool, OutOfMemory>
     ensures { IfOk result (λ b. b ≡ is_finished setup.now state.now) }
 {

@@ -87,7 +87,7 @@ impl Machine {
         &self.state
     }
 
-    /// Whether the entries so far are a complete run: a Shutdown stands, every device is destructed,
+    /// Whether the entries so far are a complete run: the Shutdown came, every device is destructed,
     /// no request is open, and every message was taken.
     pub fn is_complete(&self) -> Result<bool, OutOfMemory>
         ensures { IfOk result (λ b. b ≡ is_finished self.now.setup self.now.state) }

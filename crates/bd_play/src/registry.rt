@@ -273,7 +273,7 @@ fn handles_after(
     }
 }
 
-/// The number that follows. One past 128 bits counts as want of memory: it takes more entries than
+/// The number that follows. One past 128 bits answers out of memory: it takes more entries than
 /// there are stamps.
 pub fn next_number(n: u128) -> Result<u128, OutOfMemory>
     ensures { IfOk result (λ m. m ≡ n + 1) }

@@ -167,7 +167,7 @@ fn are_scripts_blocked(setup: &Setup, state: &State) -> bool
     true
 }
 
-/// Why a Shutdown isn't allowed. More threads than 32 bits count are want of memory.
+/// Why a Shutdown isn't allowed. More threads than 32 bits count answer out of memory.
 pub fn refused_shutdown(
     setup: &Setup,
     state: &State,

@@ -77,8 +77,8 @@ impl Pollers {
     }
 
     /// Adds a poller at a moment (microseconds). One with period 0 runs in each turn from the next
-    /// on. Another is first due at that moment plus its period, at most `u64::MAX`. Want of memory
-    /// leaves the pollers as they were.
+    /// on. Another is first due at that moment plus its period, at most `u64::MAX`. Out of memory,
+    /// the pollers stay as they were.
     pub fn add(&mut self, period: u64, now: u64) -> Result<PollerId, OutOfMemory>
         ensures number { IfOk result (λ id. id.0 ≡ length self.old.pollers) }
         ensures ok { IfOk result (λ _. self.new ≡ record self.old { pollers = self.old.pollers ++ added period now ∷ [] }) }

@@ -84,8 +84,8 @@ impl Limits {
         }
     }
 
-    /// Charges a request of so many bytes, which may pass, to each limit that counts it: 1 where
-    /// requests are counted, else its bytes. It takes no memory.
+    /// Charges a request, which may pass, to each limit that counts it: 1 where requests are
+    /// counted, else its bytes. It takes no memory.
     pub fn charge(&mut self, way: Way, bytes: u64)
         requires { IsTrue (may_pass self.old.quotas self.old.left way) }
         ensures { self.new ≡ record self.old { left = charged self.old.quotas way bytes self.old.left } }

@@ -26,8 +26,8 @@ pub enum NodeState {
     Busy,
 }
 
-/// The threads of a setup and what they share. It is no more to be used, but for `abandon`, once a
-/// call answered want of memory.
+/// The threads of a setup and what they share. Once a call answered out of memory, only `abandon`
+/// may be called.
 pub struct Node<'a> {
     pub(crate) setup: &'a Setup,
     pub(crate) threads: Vec<Thread<'a>>,

@@ -37,8 +37,8 @@ fn play_out<'a>(node: &mut Node<'a>) -> Result<(), OutOfMemory>
     play_until(node, NodeState::Done)
 }
 
-/// Plays the setup's scripts to their end on as many threads as it has: whatever the schedule that
-/// grows from the seed, what is returned is a complete run of the machine.
+/// Plays the setup's scripts to their end on as many threads as it has: whatever the seed of the
+/// schedule, what is returned is a complete run of the machine.
 pub fn play(alloc: Global, setup: &Setup, seed: u64) -> Result<History, OutOfMemory>
     requires { 0 < setup.now.threads }
     ensures { IfOk result (λ history. IsCompleteRun setup.now [] history) }

@@ -10,12 +10,12 @@ use Rattle.bd_report.specs.Report.{moved_in_entry}
 abbrev pub nothing_moved : Moved
 nothing_moved = record { requests = 0; blocks = 0 }
 
--- with one more request of so many blocks, if there is one
+-- with one more request, of these blocks, if there is one
 abbrev pub moved_more : Option ℕ → Moved → Moved
 moved_more None moved = moved
 moved_more (Some count) moved = record { requests = moved.requests + 1; blocks = min (moved.blocks + count) (2 ^ 64 - 1) }
 
--- requests of so many blocks each
+-- requests, by the number of blocks of each
 abbrev pub all_moved : List ℕ → Moved
 all_moved counts = record { requests = length counts; blocks = min (sum_by (λ count. count) counts) (2 ^ 64 - 1) }
 

@@ -74,7 +74,7 @@ abbrev pub completion_words : Option (Status × Option Shown) → List ℕ
 completion_words None = codes "skipped"
 completion_words (Some completion) = status_word completion.0 ++ shown_words completion.1
 
--- what became of a command; one without an outcome was skipped
+-- the outcome of a command; one without an outcome was skipped
 abbrev pub outcome_words : List Entry → Option Outcome → List ℕ
 outcome_words trace None = codes "skipped"
 outcome_words trace (Some outcomes.Done) = codes "ok"
@@ -82,7 +82,7 @@ outcome_words trace (Some (outcomes.Errno errno)) = codes "errno " ++ decimal (n
 outcome_words trace (Some (outcomes.BusyOpen count)) = codes "errno 16 open " ++ decimal count
 outcome_words trace (Some (outcomes.Accepted req)) = completion_words (first_found (completion_in req) trace)
 
--- a thread's command: its line number, thread, word and what became of it
+-- a thread's command: its line number, thread, word and outcome
 abbrev pub job_line : List Entry → ℕ → Line → List ℕ
 job_line trace thread line =
     codes "job " ++ decimal line.number ++ codes " " ++ decimal thread ++ codes " " ++ job_word line.job ++ codes " " ++
@@ -208,7 +208,7 @@ moved_in_entry trace device way entry = moved_in_act trace device way entry.act
 abbrev pub moved : List Entry → ℕ → Way → List ℕ
 moved trace device way = filter_map (moved_in_entry trace device way) trace
 
--- the bytes of so many blocks each, capped at 2^64 - 1
+-- the bytes of requests, by the number of blocks of each, capped at 2^64 - 1
 abbrev pub bytes_in : ℕ → List ℕ → ℕ
 bytes_in size counts = min (sum_by (λ count. count * size) counts) (2 ^ 64 - 1)
 

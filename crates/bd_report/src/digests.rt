@@ -13,7 +13,7 @@ use std::collections::HashMap;
 /// The digest of a device's contents, by device.
 pub(crate) type Digests = HashMap<usize, [u8; 32]>;
 
-/// The first digest of each device. Want of memory is the only error.
+/// The first digest of each device. Out of memory is the only error.
 pub(crate) fn first_digests(alloc: Global, trace: &[Entry]) -> Result<Digests, OutOfMemory>
     ensures { IfOk result (λ m. TellsDigests m trace.now) }
 {

@@ -41,7 +41,7 @@ impl<'a> Model for Ends<'a> {
 }
 
 impl<'a> Ends<'a> {
-    /// The completions of a trace. Want of memory is the only error.
+    /// The completions of a trace. Out of memory is the only error.
     pub(crate) fn new(alloc: Global, trace: &'a [Entry]) -> Result<Ends<'a>, OutOfMemory>
         ensures { IfOk result (λ e. e ≡ trace.now) }
     {

@@ -7,7 +7,7 @@ use bd_base::OutOfMemory;
 use std::collections::HashMap;
 use std::hash::Hash;
 
-/// Puts a value at a key that has none; a key that has one keeps it. Want of memory is the only error.
+/// Puts a value at a key that has none; a key that has one keeps it. Out of memory is the only error.
 pub(crate) fn put_first<K: Eq + Hash + Drop, V: Drop>(
     map: &mut HashMap<K, V>,
     key: K,

@@ -39,7 +39,7 @@ impl<'a> Model for TraceIndex<'a> {
 }
 
 impl<'a> TraceIndex<'a> {
-    /// The index of a trace. Want of memory is the only error.
+    /// The index of a trace. Out of memory is the only error.
     pub(crate) fn new(alloc: Global, trace: &'a [Entry]) -> Result<TraceIndex<'a>, OutOfMemory>
         ensures { IfOk result (λ t. t ≡ trace.now) }
     {

@@ -36,7 +36,7 @@ impl Moved {
         self.blocks.saturating_mul(u64::from(size))
     }
 
-    // One more request of so many blocks.
+    // One more request, of these blocks.
     fn with(self, count: u64) -> Moved
         requires { self.requests < 2 ^ 64 - 1 }
         ensures { result ≡ moved_more (Some count) self }
@@ -48,7 +48,7 @@ impl Moved {
     }
 }
 
-/// The reads or writes that were submitted on each device and completed with success. Want of memory
+/// The reads or writes that were submitted on each device and completed with success. Out of memory
 /// is the only error.
 pub(crate) fn device_moves(alloc: Global, ends: &Ends, way: Way) -> Result<DeviceMoves, OutOfMemory>
     ensures { IfOk result (λ m. TellsMoved ends.now way m ends.now) }
@@ -84,7 +84,7 @@ fn note_moved(
     Ok(())
 }
 
-// Counts a request of so many blocks for a device, if it is to count.
+// Counts a request of these blocks for a device, if it is to count.
 fn put_moved(
     moves: &mut DeviceMoves,
     at: usize,

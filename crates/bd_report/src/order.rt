@@ -15,7 +15,7 @@ pub(crate) struct Command<'a> {
 }
 
 /// The commands of all scripts in rising order of line number; those of one number stand in the
-/// order of the scripts. Want of memory is the only error.
+/// order of the scripts. Out of memory is the only error.
 pub(crate) fn in_order<'a>(
     alloc: Global,
     scripts: &'a [Script],

@@ -13,7 +13,7 @@ use std::collections::HashMap;
 /// An outcome by thread and line number.
 pub(crate) type Outcomes = HashMap<(u32, u32), Outcome>;
 
-/// The first outcome of each line. Want of memory is the only error.
+/// The first outcome of each line. Out of memory is the only error.
 pub(crate) fn first_outcomes(alloc: Global, trace: &[Entry]) -> Result<Outcomes, OutOfMemory>
     ensures { IfOk result (λ m. TellsOutcomes m trace.now) }
 {

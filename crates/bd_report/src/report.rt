@@ -15,7 +15,7 @@ use std::alloc::Global;
 
 /// The report of a run from its setup and its trace: the entries of all threads in the order of their
 /// stamps. Numbers are decimal, digests lower-case hexadecimal, and each line ends with a line feed.
-/// Bytes are capped at `u64::MAX`. Want of memory is the only error.
+/// Bytes are capped at `u64::MAX`. Out of memory is the only error.
 pub fn report(alloc: Global, setup: &Setup, trace: &[Entry]) -> Result<Vec<u8>, OutOfMemory>
     ensures { IfOk result (λ v. v.items ≡ report_of setup.now trace.now) }
 {
@@ -86,7 +86,7 @@ fn write_job(
     Ok(())
 }
 
-// Writes what became of a command.
+// Writes the outcome of a command.
 fn write_outcome(
     alloc: Global,
     out: &mut Vec<u8>,
@@ -142,7 +142,7 @@ fn write_shown(alloc: Global, out: &mut Vec<u8>, shown: Option<Shown>) -> Result
     Ok(())
 }
 
-// Writes a digest behind its word.
+// Writes a digest after its word.
 fn write_digest(alloc: Global, out: &mut Vec<u8>, digest: &[u8]) -> Result<(), OutOfMemory>
     ensures { OnOk result (out.new.items ≡ out.old.items ++ codes " sha256 " ++ encode_lower digest.now) }
 {

@@ -68,7 +68,7 @@ pub(crate) fn whole_tally(trace: &[Entry]) -> Tally
     tally
 }
 
-/// The counts of each thread. Want of memory is the only error.
+/// The counts of each thread. Out of memory is the only error.
 pub(crate) fn thread_tallies(alloc: Global, trace: &[Entry]) -> Result<Tallies, OutOfMemory>
     ensures { IfOk result (λ m. TellsTallies m trace.now) }
 {

@@ -13,7 +13,7 @@ rows_of thread rows = filter (λ r. r.thread == thread) rows
 abbrev pub StartsWith : List Entry → List Entry → Type 0
 StartsWith rows front = (rest : List Entry) × (rows ≡ front ++ rest)
 
--- behind the journal before stand rows of this thread alone
+-- the rows after the earlier journal are of this thread alone
 abbrev pub AddsOwn : ℕ → List Entry → List Entry → Type 0
 AddsOwn thread before after = (rows : List Entry) × (after ≡ before ++ rows) × All (λ r. r.thread ≡ thread) rows
 

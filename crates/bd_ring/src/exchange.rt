@@ -23,7 +23,7 @@ pub(crate) fn message(from: u32, number: u32) -> Msg
     }
 }
 
-// Puts so many messages. One that finds the ring full is tried again.
+// Puts this number of messages. One that finds the ring full is tried again.
 fn put_all<R: Wait>(rt: &R, ring: &Ring, pass: &mut SendPass, count: u32)
     requires { (pass.old.ring ≡ ring.now.ring) × (pass.old.put ≡ []) }
     ensures { pass.new ≡ after_messages pass.old count }
@@ -62,7 +62,7 @@ fn put_each<R: Threads + Wait + Sync>(
     sends
 }
 
-// Takes so many messages, or fewer where memory runs out. An empty ring is tried again.
+// Takes this number of messages, or fewer where memory runs out. An empty ring is tried again.
 fn take_all<R: Wait>(
     rt: &R,
     alloc: Global,

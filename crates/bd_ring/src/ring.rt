@@ -146,7 +146,7 @@ fn next_sender(queue: &Queue, pass: &mut Pass<Msg, View>, number: u32) -> SendPa
 impl Ring {
     ghost use Rattle.bd_ring.specs.Rings.{after_put, Took, WasFull, WasEmpty, new_senders, AreSendersOf, IsSettled};
 
-    /// A ring with room for so many messages, a pass for each sender, and the receiver's pass.
+    /// A ring of this capacity (in messages), a pass for each sender, and the receiver's pass.
     pub fn new(
         alloc: Global,
         capacity: u32,

@@ -94,8 +94,8 @@ fn first_and_rest<R>(mut passes: Vec<SlotPass<R>>) -> (SlotPass<R>, Vec<SlotPass
 }
 
 impl<R: Drop + Journaled> Slot<R> {
-    /// A slot with this value, and a pass for each thread, by number. Want of memory drops the
-    /// value.
+    /// A slot with this value, and a pass for each thread, by number. Out of memory, the value is
+    /// dropped.
     pub fn new<W: Wait>(
         rt: &W,
         alloc: Global,

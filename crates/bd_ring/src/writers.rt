@@ -53,7 +53,7 @@ impl Journal {
         self.rows.len()
     }
 
-    /// Adds a row. Want of memory leaves it as it was.
+    /// Adds a row. Out of memory, it stays as it was.
     pub fn add(&mut self, row: Entry) -> Result<(), OutOfMemory>
         ensures ok { OnOk result (self.new ≡ record self.old { rows = self.old.rows ++ row ∷ [] }) }
         ensures err { OnErr result (self.new ≡ self.old) }

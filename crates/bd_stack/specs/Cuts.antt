@@ -5,7 +5,7 @@ use Rattle.bd_base.specs.declared.id.DevId.{DevId}
 use Rattle.bd_stack.specs.declared.layer.Layer.{Layer}
 use Rattle.bd_stack.specs.BlockMap.{Place, at, boundary_of, places}
 
--- b is the block behind a on the same device
+-- b is the block after a on the same device
 abbrev pub follows : Place → Place → Bool
 follows a b = (a.dev.0 == b.dev.0) && (a.number + 1 == b.number)
 

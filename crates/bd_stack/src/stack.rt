@@ -68,7 +68,7 @@ fn layers_of(alloc: Global, devices: &[DevRow]) -> Result<Vec<Layer>, OutOfMemor
 }
 
 impl Stack {
-    /// The stack of a setup's devices, or want of memory.
+    /// The stack of a setup's devices, or out of memory.
     pub fn new(alloc: Global, setup: &Setup) -> Result<Stack, OutOfMemory>
         requires { IsStacked (layers_of setup.now) }
         ensures { IfOk result (λ stack. stack ≡ layers_of setup.now) }

@@ -9,6 +9,6 @@ pub record Pieces : Type 0 where
   pub threshold : ℕ
   pub room : ℕ
 
--- the threshold after a refusal with so many pieces in flight: half of them, or 8 fewer where that is more
+-- the threshold after a refusal with this number of pieces in flight: half of them, or 8 fewer where that is more
 abbrev pub threshold_at : ℕ → ℕ
 threshold_at in_flight = max (in_flight / 2) (in_flight - 8)

@@ -57,7 +57,7 @@ is_kept id rows = list_any (keeps id) rows
 abbrev pub is_remembered : ReqId → List Row → Bool
 is_remembered id rows = list_any (is_out id) rows
 
--- a row comes to a place, behind the others
+-- a row comes to a place, as the last one there
 abbrev pub joined : Place → List Row → Option Row → List Row
 joined place rows None = rows
 joined place rows (Some r) = rows ++ record r { place = place } ∷ []

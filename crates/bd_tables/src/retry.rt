@@ -38,7 +38,7 @@ impl Retry {
         }
     }
 
-    /// Makes room for so many more pieces. Want of memory leaves the queue as it was.
+    /// Makes room for `n` more pieces. Out of memory, the queue stays as it was.
     pub fn reserve(&mut self, n: u32) -> Result<(), OutOfMemory>
         ensures ok { OnOk result (n ≤ self.new.room) }
         ensures enough { n ≤ self.old.room → IsOk result }
@@ -50,7 +50,7 @@ impl Retry {
         Ok(())
     }
 
-    /// A piece came back refused, and after its return so many pieces of the channel are in flight:
+    /// A piece came back refused; `in_flight` pieces of the channel are in flight after its return:
     /// it joins the end, and the threshold becomes half of them or 8 fewer, whichever is more (this
     /// project's choice). There is room for it. It takes no memory.
     pub fn refused(&mut self, piece: Piece, in_flight: u32)
@@ -76,7 +76,7 @@ impl Retry {
         self.pieces.is_empty()
     }
 
-    /// The first piece, to be sent while so many pieces of the channel are in flight. None exactly
+    /// The first piece, to be sent while `in_flight` pieces of the channel are under way. None exactly
     /// where no piece waits or more than the threshold of the last refusal are in flight, and
     /// nothing changes then. It takes no memory.
     pub fn retry(&mut self, in_flight: u32) -> Option<Piece>

@@ -40,8 +40,8 @@ impl Shelf {
         }
     }
 
-    /// Makes room for so many more rows, of at most 2^32 - 1 in all. Want of memory leaves the rows
-    /// as they were.
+    /// Makes room for `n` more rows, of at most 2^32 - 1 in all. Out of memory, the rows stay as they
+    /// were.
     pub fn reserve(&mut self, n: u32) -> Result<(), OutOfMemory>
         ensures ok { OnOk result (n ≤ self.new.room) }
         ensures grows { self.old.room ≤ self.new.room }
@@ -96,7 +96,7 @@ impl Shelf {
         self.slab.remove(key)
     }
 
-    /// Puts a row behind the others. There is room for it. It takes no memory.
+    /// Puts a row at the end. There is room for it. It takes no memory.
     pub fn join(&mut self, row: Row)
         requires { 0 < self.old.room }
         ensures { self.new ≡ record { rows = self.old.rows ++ row ∷ []; room = self.old.room - 1 } }

@@ -37,8 +37,8 @@ impl Tables {
         }
     }
 
-    /// Makes room for so many more requests, of at most 2^32 - 1 in all. Want of memory leaves the
-    /// requests as they were.
+    /// Makes room for `n` more requests, of at most 2^32 - 1 in all. Out of memory, the requests stay
+    /// as they were.
     pub fn reserve(&mut self, n: u32) -> Result<(), OutOfMemory>
         ensures ok { OnOk result (n ≤ self.new.room) }
         ensures grows { self.old.room ≤ self.new.room }

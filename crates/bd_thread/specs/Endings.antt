@@ -1,4 +1,4 @@
--- What a thread does behind a Shutdown: the handles that are left to it are closed.
+-- What a thread does after Shutdown: the handles that are left to it are closed.
 use Rattle.std.specs.Prelude.{◌≡◌, ℕ, Bool, true, false, cond, not, ◌&&◌, ◌==◌, List, filter, find, Option, Some, None}
 use Rattle.std.specs.Option.{option_and_then, option_map}
 use Rattle.bd_base.specs.declared.act.Act.TheVariants as acts
@@ -32,7 +32,7 @@ may_close me part handles id = is_of_if_any me (handle_of handles id) && (open_o
 abbrev pub if_closable : ℕ → Part → List Handle → Option HandleId → Option HandleId
 if_closable me part handles o = option_and_then (λ id. cond (may_close me part handles id) (Some id) None) o
 
--- the first handle of the thread that is left behind a Shutdown, where it may be closed
+-- the first handle of the thread that is left after Shutdown, where it may be closed
 abbrev pub left_over : Thread → Links → Option HandleId
 left_over t links = cond links.shut (if_closable t.me t.part links.registry.handles (first_own t.me links.registry.handles)) None
 

@@ -24,7 +24,7 @@ use Rattle.bd_thread.specs.Seen.{longer}
 
 -- ---- what a line asks of the registry
 
--- what the next line asks, while nothing decided it and no Shutdown stands
+-- what the next line asks, while nothing decided it and no Shutdown came
 abbrev pub job_now : Thread → Links → Option Job
 job_now t links = cond links.shut None (undecided_job t.setup.now t.me t.part)
 
@@ -87,7 +87,7 @@ abbrev pub EndsBy : Thread → Links → Thread → Links → Bool → Option Ou
 EndsBy old before new after ended None = (ended ≡ false) × (new ≡ old) × (after ≡ before)
 EndsBy old before new after ended (Some outcome) = (ended ≡ true) × IsEnded outcome old before new after
 
--- the outcome that the next line has, where it goes on and no Shutdown stands
+-- the outcome that the next line has, where it goes on and no Shutdown came
 abbrev pub outcome_now : Thread → Links → Option Outcome
 outcome_now t links = cond links.shut None (outcome_due t.setup.now t.me t.part)
 

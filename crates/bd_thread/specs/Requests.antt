@@ -32,7 +32,7 @@ view_of t links = (local t links).view
 
 -- ---- what is asked of a thread
 
--- the next line asks for this submission on a range, nothing decided it, and no Shutdown stands
+-- the next line asks for this submission on a range, nothing decided it, and no Shutdown came
 pub record IsAsked (t : Thread) (links : Links) (handle : Option HandleId) (asked : Asked) : Type 0 where
   pub running : links.shut ≡ false
   pub line : is_job_submit t.part handle asked.op asked.lba asked.count (undecided_job t.setup.now t.me t.part) ≡ true
@@ -60,14 +60,14 @@ pub record IsRefused (errno : Errno) (handle : Option HandleId) (asked : Asked) 
   pub thread : new ≡ record old { part = record old.part { decided = Some (decisions.Refused errno) } }
   pub links : after ≡ record before { entries = longer old.me before.entries (refuse_act handle asked errno) }
 
--- nothing speaks against it, but as many requests are open as may be: nothing changed
+-- no cause refuses it, but as many requests are open as may be: nothing changed
 pub record IsFull (handle : HandleId) (asked : Asked) (old : Thread) (before : Links) (new : Thread) (after : Links) : Type 0 where
   pub admitted : refusal old before (Some handle) asked ≡ None
   pub full : most_requests ≤ length old.part.requests
   pub thread : new ≡ old
   pub links : after ≡ before
 
--- what a refusal leaves; want of memory leaves anything
+-- what a refusal leaves; after out of memory nothing is said
 abbrev pub Refuses : Refused → HandleId → Asked → Thread → Links → Thread → Links → Type 0
 Refuses (refusals.Errno errno) handle asked old before new after = IsRefused errno (Some handle) asked old before new after
 Refuses refusals.Full handle asked old before new after = IsFull handle asked old before new after

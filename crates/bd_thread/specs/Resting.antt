@@ -36,6 +36,6 @@ is_empty messages = length messages == 0
 abbrev pub are_empty : List (List Message) → Bool
 are_empty queues = list_all is_empty queues
 
--- the Shutdown stands, and the entry of thread 0 says so
+-- the Shutdown came, and the entry of thread 0 says so
 abbrev pub shut_down : Links → Links
 shut_down links = record links { entries = longer 0 links.entries acts.Shutdown; shut = true }

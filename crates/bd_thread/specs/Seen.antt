@@ -27,7 +27,7 @@ Sets old new id o = here_in new ≡ (λ j. cond (same_id id j) o (here_in old j)
 abbrev pub queues_of : List (List Message) → ℕ → List Message
 queues_of queues = λ r. slice_index_or queues r []
 
--- the message is put behind the others to this thread
+-- the message is put last in the queue to this thread
 abbrev pub Pushed : List (List Message) → List (List Message) → ℕ → Message → Type 0
 Pushed old new to m = queues_of new ≡ (λ r. cond (r == to) (queues_of old r ++ m ∷ []) (queues_of old r))
 

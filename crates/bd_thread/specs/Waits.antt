@@ -78,11 +78,11 @@ abbrev pub asks_unbuilt : Option Job → Bool
 asks_unbuilt None = false
 asks_unbuilt (Some job) = is_unbuilt job
 
--- a Shutdown stands, the script is at its end or blocked, or its next line asks for what no thread does yet
+-- the Shutdown came, the script is at its end or blocked, or its next line asks for what no thread does yet
 abbrev pub is_line_waiting : Thread → Links → Bool
 is_line_waiting t links = links.shut || is_script_blocked t.setup.now t.me t.part || asks_unbuilt (undecided_job t.setup.now t.me t.part)
 
--- ---- behind a Shutdown
+-- ---- after Shutdown
 
 -- no handle that is left to the thread may be closed
 abbrev pub NoHandle : Thread → Links → Type 0
@@ -157,7 +157,7 @@ pub record IsIdle (Waits : Thread → Links → Type 0) (old : Thread) (before :
 abbrev pub Idles : (Thread → Links → Type 0) → Thread → Links → Thread → Links → Type 0
 Idles Waits old before new after = length after.entries ≤ length before.entries → IsIdle Waits old before new after
 
--- all that a thread waits for: a message that it can take, a piece that it can serve on a device whose home it is, a line that can go on, behind a Shutdown a handle that it can close or a device that it can destruct, and room for what stands first in its outbox, if that may go there, and for the first mark that is due
+-- all that a thread waits for: a message that it can take, a piece that it can serve on a device whose home it is, a line that can go on, after Shutdown a handle that it can close or a device that it can destruct, and room for what stands first in its outbox, if that may go there, and for the first mark that is due
 pub record IsWaiting (t : Thread) (links : Links) : Type 0 where
   pub message : NoMessage t links
   pub piece : NoPiece t links

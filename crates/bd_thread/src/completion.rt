@@ -12,7 +12,7 @@ use bd_machine::{Id, Kept, Open, OpenPiece, OpenRequest, Progress};
 use std::alloc::Global;
 use std::mem::replace;
 
-/// How a request of so many pieces completes; a read with success shows its data.
+/// How a request with this number of pieces completes; a read with success shows its data.
 #[derive(Clone, Copy)]
 pub(crate) struct Ending {
     pub pieces: u32,

@@ -1,4 +1,4 @@
-//! What a thread does behind a Shutdown: it closes the handles that are left to it, and destructs
+//! What a thread does after Shutdown: it closes the handles that are left to it, and destructs
 //! its devices.
 ghost use Rattle.std.specs.Prelude.{◌≡◌, ◌<◌, vec_len, IfOk, OnOk};
 ghost use Rattle.bd_thread.specs.Acted.{Acted};
@@ -40,7 +40,7 @@ fn may_close(me: u32, part: &Part, handles: &[Handle], id: HandleId) -> bool
 }
 
 impl<'a> Thread<'a> {
-    // The first handle of the thread that is left behind a Shutdown, where it may be closed.
+    // The first handle of the thread that is left after Shutdown, where it may be closed.
     fn left_over(&self, links: &Links) -> Option<HandleId>
         ensures { result ≡ left_over self.now links.now }
     {
@@ -56,7 +56,7 @@ impl<'a> Thread<'a> {
         }
     }
 
-    // Closes the first handle that is left behind a Shutdown.
+    // Closes the first handle that is left after Shutdown.
     fn close_left(&mut self, links: &mut Links) -> Result<bool, OutOfMemory>
         ensures acted { OnOk result (Acted self.old links.old self.new links.new) }
         ensures tickets { OnOk result (KeepsTickets self.old → KeepsTickets self.new) }
@@ -101,7 +101,7 @@ impl<'a> Thread<'a> {
         Ok(())
     }
 
-    /// Behind a Shutdown closes the thread's handles and destructs the devices whose home it is, as
+    /// After Shutdown closes the thread's handles and destructs the devices whose home it is, as
     /// far as may be.
     pub(crate) fn end_all(&mut self, links: &mut Links) -> Result<(), OutOfMemory>
         requires { self.old.me < vec_len links.old.queues }

@@ -86,7 +86,7 @@ impl<'a> Thread<'a> {
         Ok(Some(Id::Piece(req, k)))
     }
 
-    /// Destructs a device whose home this is, once, behind a Shutdown, when no handle of it is open.
+    /// Destructs a device whose home this is, once, after Shutdown, when no handle of it is open.
     /// The entry shows for malloc the digest of its blocks, and for another device none. False, and
     /// nothing changes, where the device may not go, or it is malloc and its blocks aren't here.
     pub(crate) fn destruct(&mut self, links: &mut Links, dev: DevId) -> Result<bool, OutOfMemory>

@@ -95,8 +95,8 @@ fn go_on(alloc: Global, part: &mut Part, setup: &Setup, job: &Job) -> Result<(),
 }
 
 impl<'a> Thread<'a> {
-    /// Ends the next line, where it goes on: true. Else, or behind a Shutdown, nothing changes. More
-    /// open requests than 32 bits count are want of memory.
+    /// Ends the next line, where it goes on: true. Else, or after Shutdown, nothing changes. More
+    /// open requests than 32 bits count answer out of memory.
     pub(crate) fn end_line(&mut self, links: &mut Links) -> Result<bool, OutOfMemory>
         requires me { self.old.me < vec_len links.old.queues }
         ensures acted { OnOk result (Acted self.old links.old self.new links.new) }
@@ -146,7 +146,7 @@ impl<'a> Thread<'a> {
     }
 
     /// Opens the device that the next line names, where it asks for that and the name is free: true,
-    /// and the registry's answer decides the line. Else, or behind a Shutdown, nothing changes.
+    /// and the registry's answer decides the line. Else, or after Shutdown, nothing changes.
     pub(crate) fn open(&mut self, links: &mut Links) -> Result<bool, OutOfMemory>
         requires me { self.old.me < vec_len links.old.queues }
         ensures acted { OnOk result (Acted self.old links.old self.new links.new) }
@@ -187,7 +187,7 @@ impl<'a> Thread<'a> {
 
     /// Closes the handle that the next line names, where it asks for that, the name is bound and no
     /// request is open on the handle: true, and the registry's answer decides the line. Else, or
-    /// behind a Shutdown, nothing changes.
+    /// after Shutdown, nothing changes.
     pub(crate) fn close(&mut self, links: &mut Links) -> Result<bool, OutOfMemory>
         requires me { self.old.me < vec_len links.old.queues }
         ensures acted { OnOk result (Acted self.old links.old self.new links.new) }

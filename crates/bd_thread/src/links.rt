@@ -77,7 +77,7 @@ pub struct Links {
     pub queues: Vec<Queue>,
     pub registry: Registry,
     pub entries: Rows<Entry>,
-    /// Whether a Shutdown stands.
+    /// Whether the Shutdown came.
     pub shut: bool,
 }
 

@@ -327,7 +327,7 @@ impl<'a> Thread<'a> {
         }
     }
 
-    /// Puts a token behind the others to the thread, where it may go there: a piece that is here,
+    /// Puts a token last in the queue to the thread, where it may go there: a piece that is here,
     /// or a mark that is due to that thread.
     pub(crate) fn put(
         &mut self,

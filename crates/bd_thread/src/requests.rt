@@ -48,7 +48,7 @@ fn uncut(tokens: &[(Id, Kept)], me: u32, req: ReqId) -> Option<OpenRequest>
     }
 }
 
-// How many pieces there are. More than have numbers count as want of memory.
+// How many pieces there are. More than 32 bits count answer out of memory.
 fn number_of(found: &Rows<Extent>) -> Result<u32, OutOfMemory>
     ensures { IfOk result (λ n. n ≡ length found.now) }
 {
@@ -124,7 +124,7 @@ impl<'a> Thread<'a> {
         Ok(())
     }
 
-    // Accepts what the next line asks for, which nothing speaks against, where there is room.
+    // Accepts what the next line asks for, which no cause refuses, where there is room.
     fn accept(
         &mut self,
         links: &mut Links,

@@ -10,7 +10,7 @@ use bd_base::{Bytes, DevId, DevRow, Kind, OutOfMemory, Rows, Setup};
 use bd_machine::{Base, Content, Part};
 use std::alloc::Global;
 
-// So many blocks of zeros.
+// This number of blocks of zeros.
 #[tactic(auto, using(crate::proofs::Starting::zeros_next))]
 fn zero_blocks(alloc: Global, size: u32, n: u64) -> Result<Rows<Bytes>, OutOfMemory>
     ensures { IfOk result (λ bs. bs ≡ zero_blocks size n) }
@@ -76,7 +76,7 @@ fn push_if_any(bases: &mut Rows<Base>, base: Option<Base>) -> Result<(), OutOfMe
     Ok(())
 }
 
-// The base devices whose home a thread is. More devices than 32 bits count are want of memory.
+// The base devices whose home a thread is. More devices than 32 bits count answer out of memory.
 #[tactic(auto, using(crate::proofs::Left::left_from, crate::proofs::Starting::next_base))]
 fn bases_at_start(alloc: Global, setup: &Setup, thread: u32) -> Result<Rows<Base>, OutOfMemory>
     ensures { IfOk result (λ bs. bs ≡ bases_at_start setup.now [] thread) }

@@ -18,10 +18,10 @@ use bd_msg::{Mint, Ticket};
 /// batch of messages).
 const BATCH: u32 = 8;
 
-/// What came of a turn.
+/// The outcome of a turn.
 #[derive(Clone, Copy, Debug, PartialEq, Eq)]
 pub enum Turned {
-    /// So many acts were made.
+    /// This number of acts was made.
     Moved(usize),
     /// No act was made, and nothing changed: the thread waits for others.
     Quiet,

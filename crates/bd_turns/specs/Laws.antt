@@ -77,7 +77,7 @@ ShutdownIsAllowed = (setup : Setup) (s : State) (views : ℕ → View) (shared :
 abbrev pub AreDestructed : Setup → (ℕ → View) → Type 0
 AreDestructed setup views = (n : ℕ) → n < length setup.devices → list_any (same_dev (dev_of n)) (views (home setup (dev_of n))).part.destructed ≡ true
 
--- where a Shutdown stands, all threads rest and every device was destructed, nothing is left to do: a run that led there is complete
+-- where the Shutdown came, all threads rest and every device was destructed, nothing is left to do: a run that led there is complete
 abbrev pub RestIsComplete : Type 0
 RestIsComplete = (setup : Setup) (s : State) (views : ℕ → View) (shared : Shared)
     → IsTied setup s views shared → 0 < setup.threads → AreAtRest setup views shared → shared.shut ≡ true → AreDestructed setup views

@@ -17,7 +17,7 @@ use Rattle.bd_machine.specs.View.{View, Came, Change, Move, Taking, took, asked,
 use Rattle.bd_alone.specs.World.{is_unused_in}
 use Rattle.bd_turns.specs.declared.queue.Message.{Message}
 
--- the stamp of the last entry; whether a Shutdown stands; the registry; for each receiver its messages in the order in which they were put
+-- the stamp of the last entry; whether the Shutdown came; the registry; for each receiver its messages in the order in which they were put
 pub record Shared : Type 0 where
   pub stamp : ℕ
   pub shut : Bool

@@ -55,7 +55,7 @@ impl<'a> User<'a> {
         }
     }
 
-    /// The next line was done: goes to the one behind it. At the end it stays there.
+    /// The next line was done: goes to the one after it. At the end it stays there.
     pub fn did(&mut self)
         ensures { self.new ≡ drop 1 self.old }
     {
