@@ -1,4 +1,4 @@
--- A device is destructed after its last close: behind a Shutdown the registry grants no open.
+-- A device is destructed after its last close: after Shutdown the registry grants no open.
 use Rattle.std.proofs.Common.{◌≡◌, ℕ, Bool, true, false, not, ◌&&◌, ◌==◌, if◌then◌else◌, List, [], ◌∷◌, Option, Some, None, refl, sym, ◌∙◌, ap, eqb-true}
 use Rattle.std.specs.List.{AllByRecursion}
 use Rattle.std.proofs.lemmas.Bool.{and_parts}
@@ -28,7 +28,7 @@ use Rattle.bd_machine.proofs.Steps.{allowed_passes}
 use Rattle.bd_alone.specs.Laws.{DestructedAfterLastClose, is_opening_answer, is_opening_of}
 use Rattle.bd_alone.proofs.Entries.{run_behind, shut_after}
 
--- ---- behind a Shutdown
+-- ---- after Shutdown
 
 -- the answer to a close opens nothing
 close_opens_none : (d : DevId) (t : ℕ) (answer : Answer) (o : Option Handle) → same_answer answer (close_answer t o) ≡ true → is_opening_answer d answer ≡ false

@@ -1,4 +1,4 @@
--- Runs of two lists of entries, one behind the other; a Shutdown that stands goes on standing.
+-- Runs of two lists of entries that follow each other; once the Shutdown came, that stays so.
 use Rattle.std.proofs.Common.{◌≡◌, true, ◌||◌, List, [], ◌∷◌, ◌++◌, refl, ap}
 use Rattle.bd_base.specs.declared.act.Entry.{Entry}
 use Rattle.bd_base.specs.declared.setup.Setup.{Setup}

@@ -1,4 +1,4 @@
--- In a complete run each script goes as far as it can: the Shutdown finds it blocked, and behind a Shutdown no line is done.
+-- In a complete run each script goes as far as it can: the Shutdown finds it blocked, and after Shutdown no line is done.
 use Rattle.std.proofs.Common.{◌≡◌, ℕ, zero, suc, ◌+◌, ◌<◌, ◌≤◌, Bool, true, false, not, cond, ◌&&◌, ◌||◌, ◌==◌, ◌⊎◌, inl, inr, List, [], ◌∷◌, ◌++◌, length, None, refl, ◌∙◌, ap, subst, eqb-true, append-nil, arith}
 use Rattle.std.specs.List.{cons_option, list_all, range_with_len}
 use Rattle.std.proofs.lemmas.Bool.{and_parts, cases_eq}
@@ -230,7 +230,7 @@ module _ (setup : Setup) (told : Told) (es : List Entry) (t : ℕ) (is_thread : 
     none_behind = none_later;
   }
 
--- **As far as it can**: at the one Shutdown each script is blocked, and no line is done behind it
+-- **As far as it can**: at the one Shutdown each script is blocked, and no line is done after it
 pub scripts_go_as_far : ScriptsGoAsFar
 scripts_go_as_far setup told es t is_thread complete =
     let s : State = after_all setup (start setup told) es in

@@ -140,7 +140,7 @@ module _ (setup : Setup) (told : Told) (es : List Entry) (p : IsPlayedAlone setu
   abbrev at_start : State
   at_start = start setup told
 
-  -- before the Shutdown, behind it, and at the end
+  -- before the Shutdown, after it, and at the end
   abbrev before : State
   before = after_all setup at_start p.front
 

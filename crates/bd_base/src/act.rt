@@ -139,7 +139,7 @@ pub enum Act {
         dev: DevId,
         kind: WalkKind,
     },
-    /// So many timeslices of a device's limits passed, at least one.
+    /// Timeslices of a device's limits passed, at least one.
     Tick {
         dev: DevId,
         now: u64,

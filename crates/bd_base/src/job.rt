@@ -36,7 +36,7 @@ pub enum Job {
     },
     /// Goes on once this thread has no open request.
     Wait,
-    /// Goes on after so many microseconds.
+    /// Goes on after this number of microseconds.
     Sleep(u64),
     /// Sends a mark to every thread.
     Post(Name),

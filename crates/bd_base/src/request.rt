@@ -8,7 +8,7 @@ use crate::id::{DevId, ReqId};
 /// Why a call was refused, in the words of errno.
 #[derive(Clone, Copy, Debug, PartialEq, Eq)]
 pub enum Errno {
-    /// A claim stands against it (EPERM).
+    /// A claim forbids it (EPERM).
     Perm,
     /// There is no such handle, or it is not open for that (EBADF).
     BadDesc,

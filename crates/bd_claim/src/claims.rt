@@ -35,8 +35,8 @@ impl Claims {
         }
     }
 
-    /// Takes memory for so many handles more. It answers `OutOfMemory` only where that room was
-    /// missing, and then nothing changed.
+    /// Takes memory for `n` more handles. It answers `OutOfMemory` only where that room was missing,
+    /// and then nothing changed.
     pub fn reserve(&mut self, n: u32) -> Result<(), OutOfMemory>
         ensures holders { self.new.holders ≡ self.old.holders }
         ensures capacity { self.old.capacity ≤ self.new.capacity }
@@ -48,8 +48,8 @@ impl Claims {
         Ok(())
     }
 
-    /// Whether a handle may be opened: `Perm` exactly where it is for writing and a claim of any kind
-    /// stands. A claim never stands against an open for reading.
+    /// Whether a handle may be opened: `Perm` exactly where it is for writing and the device has a
+    /// claim of any kind. No claim forbids an open for reading.
     pub fn may_open(&self, write: bool) -> Result<(), Errno>
         ensures { MatchResult result (λ _. open_refusal write self.now.holders ≡ None) (λ e. open_refusal write self.now.holders ≡ Some e) }
     {
@@ -73,7 +73,7 @@ impl Claims {
     }
 
     /// Claims the device for an open handle. `Inval` for a shared claim with key 0. Then `Perm` where
-    /// the handle holds a claim already, or where the other handles stand against it:
+    /// the handle holds a claim already, or where the other handles forbid it:
     ///
     /// - exclusive: a claim stands;
     /// - one writer: a claim stands, or another handle is a writing one;
@@ -156,7 +156,7 @@ impl Claims {
         self.handles.iter().any(|open| open.holds_other(kind))
     }
 
-    // Whether the other handles stand against a claim of this kind.
+    // Whether the other handles forbid a claim of this kind.
     fn stands_against(&self, handle: HandleId, kind: ClaimKind) -> bool
         ensures { result ≡ stands_against kind handle.0 self.now.holders }
     {

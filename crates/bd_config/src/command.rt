@@ -35,8 +35,8 @@ pub enum Command {
         base: Name,
         name: Name,
     },
-    /// Makes 1 to 64 parts of a base, each of so many megabytes (1,048,576 bytes), at most
-    /// 1,048,576; at 0 they share it out equally.
+    /// Makes 1 to 64 parts of a base, each of 1 to 1,048,576 megabytes (1,048,576 bytes each); at
+    /// 0 they share it out equally.
     Split {
         base: Name,
         count: u32,
@@ -55,7 +55,7 @@ pub enum Command {
     Error {
         base: Name,
     },
-    /// Injects an error into the next so many requests of these types.
+    /// Injects an error into the next `count` requests of these types.
     InjectError {
         name: Name,
         types: IoSet,

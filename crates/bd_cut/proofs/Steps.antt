@@ -68,7 +68,7 @@ whole layers dev lba run count is pos le =
     ∙ (ap (λ (cs : List ℕ). spans_between layers dev lba cs (lba + count)) (no_cuts layers dev lba run count le is.uncut)
     ∙ ap (λ (n : ℕ). span_of layers dev lba n ∷ []) length)
 
--- the range goes on behind the first piece
+-- the range goes on after the first piece
 goes_on : (layers : List Layer) (dev : DevId) (lba run j : ℕ) → 0 < run → ((k : ℕ) → 0 < k → k < run → is_cut_at layers dev (lba + k) ≡ false) → is_cut_at layers dev (lba + run) ≡ true
     → spans layers dev lba (run + suc j) ≡ span_of layers dev lba run ∷ spans layers dev (lba + run) (suc j)
 goes_on layers dev lba run j pos uncut cut =

@@ -12,7 +12,7 @@ pub record Latencies : Type 0 where
   pub reads : ℕ
   pub writes : ℕ
 
--- after so many requests of its way (modulo 100) the next waits the average, and each hundredth the p99
+-- after this number of requests of its way (modulo 100) the next waits the average, and each hundredth the p99
 abbrev pub latency_after : ℕ → ℕ → ℕ → ℕ
 latency_after count average p99 = if (count + 1) % 100 == 0 then p99 else average
 

@@ -10,7 +10,7 @@ use Rattle.bd_base.specs.declared.request.Decision.TheVariants as decisions
 use Rattle.bd_base.specs.declared.request.Op.{Op}
 use Rattle.bd_base.specs.declared.request.Op.TheVariants.{Read, Write, Zeroes, Unmap, Flush, Reset, Abort}
 
--- an injection for so many requests, in place of the old one where its type is named
+-- an injection for this number of requests, in place of the old one where its type is named
 abbrev pub replaced : Bool → ErrKind → ℕ → Injection → Injection
 replaced named kind num old = if named then record { kind = kind; left = num } else old
 

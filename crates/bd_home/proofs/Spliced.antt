@@ -63,7 +63,7 @@ zeroed-is n (b ∷ bs) = ap (λ (ys : List (List ℕ)). replicate (length b) 0 �
 
 -- ---- a loop's turn
 
--- one block more of a range that ends at `end` is rewritten; n and next are its number and the one behind
+-- one block more of a range that ends at `end` is rewritten; n and next are its number and the one after
 pub spliced-turn : (f : ℕ → List ℕ → List ℕ) (n next k end : ℕ) (rows : List (List ℕ)) (d new : List ℕ) → next ≡ n + 1 → k < end → end ≤ length rows → new ≡ f n (get_or rows k d)
     → spliced f next (end - (k + 1)) (k + 1) (slice_set rows k new) ≡ spliced f n (end - k) k rows
 spliced-turn f n next k end rows d new more lt inside is =

@@ -13,6 +13,6 @@ pub record Table : Type 0 where
 abbrev pub IsTable : ℕ → Counts → Type 0
 IsTable threads counts = (threads ≤ 16) × All (λ row. length row ≡ threads) counts
 
--- what a put that left so many references answers
+-- what a put answers, by the number of references that it left
 abbrev pub put_answer : ℕ → Put
 put_answer n = if n == 0 then Zero else Left n

@@ -20,7 +20,7 @@ pub enum Got {
 /// What a put left.
 #[derive(Clone, Copy, Debug, PartialEq, Eq)]
 pub enum Put {
-    /// So many references, at least one.
+    /// This number of references, at least one.
     Left(u128),
     /// None: the channel is to be dropped, unless it is got again before.
     Zero,
@@ -47,7 +47,7 @@ impl Model for Channels {
 impl Channels {
     ghost use Rattle.bd_iodev.specs.Channels.{put_answer};
 
-    /// No channels of so many devices and threads. Only this call takes memory.
+    /// No channels yet, for these numbers of devices and threads. Only this call takes memory.
     pub fn new(alloc: Global, devices: u32, threads: u32) -> Result<Channels, OutOfMemory>
         requires { threads ≤ 16 }
         ensures threads { IfOk result (λ c. c.threads ≡ threads) }

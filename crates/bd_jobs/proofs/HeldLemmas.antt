@@ -83,7 +83,7 @@ untouched commands c (suc n) h =
     let other : (c.thread == n) ≡ false = grind (arith, nat_tests) in
     rw (untouched commands c n (omega arith), lines_for-other commands c n other) refl
 
--- the thread's script with the command behind its lines
+-- the thread's script with the command after its lines
 abbrev pub one_more : List Command → Command → Script
 one_more commands c = record { thread = c.thread; lines = lines_for c.thread commands ++ c.line ∷ [] }
 

@@ -52,12 +52,12 @@ from-append threads commands number (x ∷ xs) ys =
     let next : Option (List Command) = option_and_then (λ earlier. after_line threads earlier number x) commands in
     from-append threads next (number + 1) xs ys ∙ ap (λ n. commands_from threads (commands_from threads next (number + 1) xs) n ys) (omega arith)
 
--- nothing comes of lines behind one that is outside
+-- nothing comes of lines after one that is outside
 pub from-none : (threads number : ℕ) (xs : List (List ℕ)) → commands_from threads None number xs ≡ None
 from-none threads number [] = refl
 from-none threads number (x ∷ xs) = from-none threads (number + 1) xs
 
--- the line behind lines that are inside
+-- the line after lines that are inside
 from-next : (threads : ℕ) (front : List (List ℕ)) (commands : List Command) (line : List ℕ) (rest : List (List ℕ)) → commands_of threads front ≡ Some commands
     → commands_of threads (front ++ line ∷ rest) ≡ commands_from threads (after_line threads commands (1 + length front) line) ((1 + length front) + 1) rest
 from-next threads front commands line rest reads =

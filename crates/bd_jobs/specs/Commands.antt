@@ -136,7 +136,7 @@ await_job _ = None
 
 -- ---- all commands
 
--- a command that submits, behind these lines of its thread
+-- a command that submits, after these lines of its thread
 abbrev pub submission_job : List Line → List ℕ → List (List ℕ) → Option Job
 submission_job earlier word args =
     if same_name word (codes "read") then range_job Read args

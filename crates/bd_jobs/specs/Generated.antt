@@ -12,7 +12,7 @@ use Rattle.bd_jobs.specs.declared.generator.Step.TheVariants.{Opens, Writes, Rea
 
 -- ---- what a thread does
 
--- the writes of so many numbers from this one on
+-- the writes of consecutive numbers from this one on, by how many they are
 unfoldable pub writes : ℕ → ℕ → List Step
 writes first zero = []
 writes first (suc count) = writes first count ++ Writes (first + count) ∷ []
@@ -25,7 +25,7 @@ reads first (suc count) = reads first count ++ Reads (first + count) ∷ []
 abbrev pub group : ℕ → ℕ → List Step
 group first count = writes first count ++ Waits ∷ (reads first count ++ Waits ∷ [])
 
--- so many groups of eight, from number 0 on
+-- this number of groups of eight, from number 0 on
 unfoldable pub full_groups : ℕ → List Step
 full_groups zero = []
 full_groups (suc count) = full_groups count ++ group (8 * count) 8
@@ -35,7 +35,7 @@ abbrev pub last_group : ℕ → ℕ → List Step
 last_group first zero = []
 last_group first (suc count) = group first (suc count)
 
--- what each thread does with so many numbers
+-- what each thread does with n numbers
 abbrev pub steps : ℕ → List Step
 steps n = Opens ∷ (full_groups (n / 8) ++ (last_group (8 * (n / 8)) (n % 8) ++ Closes ∷ []))
 
@@ -70,7 +70,7 @@ unfoldable pub steps_text : ℕ → List Step → List ℕ
 steps_text thread [] = []
 steps_text thread (step ∷ rest) = step_line thread step ++ steps_text thread rest
 
--- the script of the threads below this one, with so many numbers each
+-- the script of the threads below this one, with n numbers each
 unfoldable pub generated : ℕ → ℕ → List ℕ
 generated n zero = []
 generated n (suc thread) = generated n thread ++ steps_text thread (steps n)
@@ -89,7 +89,7 @@ unfoldable pub step_commands : ℕ → ℕ → List Step → List Command
 step_commands thread number [] = []
 step_commands thread number (step ∷ rest) = record { thread = thread; line = record { number = number; job = step_job thread step } } ∷ step_commands thread (number + 1) rest
 
--- the commands of the threads below this one, with so many numbers each
+-- the commands of the threads below this one, with n numbers each
 unfoldable pub generated_commands : ℕ → ℕ → List Command
 generated_commands n zero = []
 generated_commands n (suc thread) = generated_commands n thread ++ step_commands thread (1 + length (generated_commands n thread)) (steps n)

@@ -50,7 +50,7 @@ after_line threads commands number line =
     cond (nat_lt max_lines number) None
     (cond (is_bare line) (Some commands) (with_command commands (words_command threads (λ thread. lines_for thread commands) number (words_of line))))
 
--- the commands of these lines, the first of which has this number, behind those of earlier ones; none where one is outside the grammar
+-- the commands of these lines, the first of which has this number, after those of earlier ones; none where one is outside the grammar
 abbrev pub commands_from : ℕ → Option (List Command) → ℕ → List (List ℕ) → Option (List Command)
 commands_from threads commands number [] = commands
 commands_from threads commands number (line ∷ lines) =

@@ -20,7 +20,7 @@ words_of line = filter is_some_word (slice_split is_blank line)
 abbrev pub is_digit : ℕ → Bool
 is_digit b = nat_le 48 b && nat_le b 57
 
--- the number whose digits these are, behind those of n
+-- the number whose digits are those of n and then these
 abbrev pub value_from : ℕ → List ℕ → ℕ
 value_from n [] = n
 value_from n (b ∷ bs) = value_from (n * 10 + (b - 48)) bs

@@ -43,7 +43,7 @@ pub record IsMerge (parts : List Part) (merged : List Entry) : Type 0 where
 abbrev pub AreOfDifferentThreads : List Part → Type 0
 AreOfDifferentThreads parts = AllPairs (λ p q. p.thread ≢ q.thread) parts
 
--- the merge of the parts was put behind what was there
+-- the merge of the parts was put after what was there
 pub record AppendsMerge (parts : List Part) (old new : List Entry) : Type 0 where
   pub merged : List Entry
   pub is : new ≡ old ++ merged

@@ -111,8 +111,8 @@ impl Log {
         stamp
     }
 
-    /// Takes memory for so many pushes more. It answers `OutOfMemory` only where that room was
-    /// missing, and then nothing changed.
+    /// Takes memory for `n` more pushes. It answers `OutOfMemory` only where that room was missing,
+    /// and then nothing changed.
     pub fn reserve(&mut self, n: u32) -> Result<(), OutOfMemory>
         ensures same { self.new ≡ record self.old { capacity = self.new.capacity } }
         ensures capacity { self.old.capacity ≤ self.new.capacity }

@@ -38,7 +38,7 @@ fn total_len(parts: &[LogPart]) -> Option<usize>
     Some(total)
 }
 
-/// Puts the merge of further parts, of different threads, behind what was merged so far. It takes no
+/// Puts the merge of further parts, of different threads, after what was merged so far. It takes no
 /// memory: the trace has room for all their entries. No parts put nothing there.
 pub fn merge_onto(parts: Vec<LogPart>, trace: &mut Vec<Entry>)
     requires threads { AreOfDifferentThreads parts.items }

@@ -74,11 +74,11 @@ charged q Write bytes l = record l {
   w_bytes = charged_by q.w_bytes bytes l.w_bytes;
 }
 
--- a limit after so many timeslices: the overrun stays, what was left over goes, and each slice brings a quota
+-- a limit after this number of timeslices: the overrun stays, what was left over goes, and each slice brings a quota
 abbrev pub renewed_by : ℕ → ℕ → ℤ → ℤ
 renewed_by quota slices left = int_min left (pos 0) +ℤ pos (slices * quota)
 
--- what is left after so many timeslices, at least one
+-- what is left after this number of timeslices, at least one
 abbrev pub renewed : Quotas → ℕ → Left → Left
 renewed q slices l = record {
   rw_requests = renewed_by q.rw_requests slices l.rw_requests;
@@ -96,14 +96,14 @@ pub record Starts : Type 0 where
   pub earliest : ℕ
   pub latest : ℕ
 
--- the starts from which exactly so many timeslices passed up to a moment
+-- the starts from which exactly this number of timeslices passed up to a moment
 abbrev pub starts_before : ℕ → ℕ → Starts → Starts
 starts_before now slices s = record {
   earliest = max s.earliest (now - (slices * 1000 + 999));
   latest = min s.latest (now - slices * 1000);
 }
 
--- so many timeslices, with this one included, may have passed at a moment: some start is left
+-- this number of timeslices, with this one included, may have passed at a moment: some start is left
 abbrev pub may_have_passed : ℕ → ℕ → Starts → Bool
 may_have_passed now slices s =
     nat_le (slices * 1000) now && nat_le (starts_before now slices s).earliest (starts_before now slices s).latest

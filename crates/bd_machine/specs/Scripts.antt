@@ -35,7 +35,7 @@ bound_after _ _ bound = bound
 abbrev pub mark_to : List ℕ → ℕ → Due
 mark_to mark receiver = record { receiver = receiver; news = Mark mark }
 
--- a post owes its mark to every thread
+-- after a post its mark is due to every thread
 abbrev pub posted : Setup → Option Job → List Due
 posted setup (Some (jobs.Post mark)) = map (mark_to mark) (range_with_len 0 setup.threads)
 posted setup _ = []

@@ -34,8 +34,8 @@ impl Purse {
         }
     }
 
-    /// Takes memory for so many tickets more. It answers `OutOfMemory` only where that room was
-    /// missing, and then nothing changed.
+    /// Takes memory for `n` more tickets. It answers `OutOfMemory` only where that room was missing,
+    /// and then nothing changed.
     pub fn reserve(&mut self, n: u32) -> Result<(), OutOfMemory>
         ensures ids { self.new.ids ≡ self.old.ids }
         ensures capacity { self.old.capacity ≤ self.new.capacity }

@@ -1,4 +1,4 @@
--- A loop that puts one item after another behind a list.
+-- A loop that appends one item after another to a list.
 use Rattle.std.proofs.Common.{◌≡◌, List, [], ◌∷◌, ◌++◌, sym, ◌∙◌, ap}
 use Rattle.std.proofs.lemmas.List.{append_assoc}
 

@@ -1,4 +1,4 @@
--- So many of the same.
+-- The same value a number of times.
 use Rattle.std.proofs.Common.{◌≡◌, ℕ, suc, ◌+◌, ◌-◌, ◌<◌, List, ◌∷◌, replicate, ap, arith}
 
 pub zeros_next : {X : Type 0} (i n : ℕ) (x : X) → i < n → replicate (n - i) x ≡ x ∷ replicate (n - (i + 1)) x

@@ -130,7 +130,7 @@ pub fn is_status_due(state: &State, thread: u32, req: ReqId, status: Status) -> 
     }
 }
 
-// The bytes that a piece read, put behind others; none where they are untold.
+// The bytes so far, and after them those that a piece read; none where they are untold.
 fn append_read(
     so_far: Option<Bytes>,
     piece: Option<&OpenPiece>,

@@ -10,7 +10,7 @@ use bd_base::{ApplyEnd, Bytes, Op, OutOfMemory, Rows};
 use bd_machine::{Content, OpenPiece, Progress};
 use std::alloc::Global;
 
-// Puts copies of blocks behind others.
+// Appends copies of blocks.
 fn append_copies(alloc: Global, to: &mut Rows<Bytes>, blocks: &[Bytes]) -> Result<(), OutOfMemory>
     ensures { OnOk result (to.new ≡ to.old ++ blocks.now) }
 {
@@ -21,7 +21,7 @@ fn append_copies(alloc: Global, to: &mut Rows<Bytes>, blocks: &[Bytes]) -> Resul
     Ok(())
 }
 
-// Puts blocks of a seed's pattern behind others, as long as these, the first of this number.
+// Appends blocks of a seed's pattern, as long as these, the first of this number.
 fn append_patterned(
     alloc: Global,
     to: &mut Rows<Bytes>,
@@ -44,7 +44,7 @@ fn append_patterned(
     Ok(())
 }
 
-// Puts blocks of zeros behind others, as long as these.
+// Appends blocks of zeros, as long as these.
 fn append_zeroed(alloc: Global, to: &mut Rows<Bytes>, blocks: &[Bytes]) -> Result<(), OutOfMemory>
     ensures { OnOk result (to.new ≡ to.old ++ zeroed blocks.now) }
 {
@@ -156,7 +156,7 @@ fn behind(blocks: &[Bytes], n: u64) -> &[Bytes]
     }
 }
 
-// The blocks before a piece's, its own rewritten, and those behind.
+// The blocks before a piece's, its own rewritten, and those after.
 #[tactic(auto, using(crate::proofs::Blocks::drop_more))]
 fn blocks_after(alloc: Global, blocks: &[Bytes], p: &OpenPiece) -> Result<Rows<Bytes>, OutOfMemory>
     ensures { IfOk result (λ bs. bs ≡ blocks_after p.now blocks.now) }

@@ -18,7 +18,7 @@ fn is_cut_at(setup: &Setup, dev: DevId, b: u64) -> bool
     boundary != 0 && b % boundary == 0
 }
 
-/// The pieces of a range, as extents of the device. A range that passes 64 bits counts as want of
+/// The pieces of a range, as extents of the device. A range that passes 64 bits answers out of
 /// memory: no request has one.
 #[tactic(auto, using(crate::proofs::Left::left_at))]
 pub fn extents(

@@ -39,7 +39,7 @@ none_runs n (p ∷ ps) none =
 pub none_waits : (ps : List Poller) → NoneWaits ps → waiting ps ≡ []
 none_waits ps none = ap numbers (none_runs 0 ps none)
 
--- a run that comes later stays behind the head
+-- a run that comes later stays after the head
 behind : (b : Bool) (m n later number : ℕ) (rs : List Run) → (b ≡ true → m < later) →
     (if b then put_before (record { moment = later; number = n }) (record { moment = m; number = number } ∷ rs) else record { moment = m; number = number } ∷ rs)
     ≡ record { moment = m; number = number } ∷ (if b then put_before (record { moment = later; number = n }) rs else rs)

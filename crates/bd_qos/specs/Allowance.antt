@@ -22,7 +22,7 @@ pub record AreInRange (r : Rates) : Type 0 where
 abbrev pub newly_passed : ℕ → Allowance → ℕ
 newly_passed now a = slices_passed a.start now - a.slices
 
--- after so many more timeslices; none change nothing
+-- after this number of further timeslices; 0 of them change nothing
 abbrev pub after_slices : ℕ → Allowance → Allowance
 after_slices k a = if k == 0 then a else record a { left = renewed a.quotas k a.left; slices = a.slices + k }
 

@@ -45,7 +45,7 @@ impl Limit {
         }
     }
 
-    /// Gives it so many quotas; of what was left only an overrun stays.
+    /// Gives it a quota for each timeslice; of what was left only an overrun stays.
     pub fn renew(&mut self, slices: u64)
         requires bounded { IsBounded self.old.quota self.old.left }
         ensures quota { self.new.quota ≡ self.old.quota }
@@ -56,7 +56,7 @@ impl Limit {
     }
 }
 
-// So many quotas.
+// The quotas of these timeslices.
 fn quotas(slices: u64, quota: u64) -> i128
     requires { quota < 2 ^ 30 }
     ensures value { result ≡ pos (slices * quota) }

@@ -27,7 +27,7 @@ all_at p [] i x h e = absurd (let f : None ≡ Some x = e in cc)
 all_at p (y ∷ xs) zero x h e = subst (λ z. p z ≡ true) (same_Some y x e) (and_parts (p y) (list_all p xs) h).0
 all_at p (y ∷ xs) (suc i) x h e = all_at p xs i x (and_parts (p y) (list_all p xs) h).1 e
 
--- behind a push stands what was there, or what was pushed
+-- after a push the list has what was there, or what was pushed
 pub push_at : {X : Type 0} (xs : List X) (x : X) (i : ℕ) (y : X) → slice_get (xs ++ x ∷ []) i ≡ Some y → (slice_get xs i ≡ Some y) ⊎ ((i ≡ length xs) × (x ≡ y))
 push_at [] x zero y h = inr (refl, same_Some x y h)
 push_at [] x (suc i) y h = absurd (let e : None ≡ Some y = h in cc)

@@ -1,4 +1,4 @@
--- When a node is at rest: a Shutdown may come, and behind it the run is complete.
+-- When a node is at rest: a Shutdown may come, and after it the run is complete.
 use Rattle.std.proofs.Common.{◌≡◌, ℕ, zero, suc, ◌+◌, ◌^◌, ◌<◌, ◌≤◌, ◌⊎◌, inl, inr, Bool, true, false, cond, not, ◌||◌, ◌==◌, List, [], ◌∷◌, length, Option, Some, None, refl, sym, ◌∙◌, ap, subst, eq-eqb, eqb-true, arith, nat_lt}
 use Rattle.std.specs.List.{list_all, list_any, range_with_len, slice_get}
 use Rattle.std.proofs.lemmas.Bool.{and_parts, cases_eq}

@@ -21,7 +21,7 @@ first_of_empty : {X : Type 0} (found : Option X) → slice_get (cons_option foun
 first_of_empty None = refl
 first_of_empty (Some x) = refl
 
--- the first of a list and what is found behind it
+-- the first of a list and what is found after it
 first_behind : {X : Type 0} (xs : List X) (found : Option X) → slice_get (xs ++ cons_option found []) 0 ≡ first_of (slice_get xs 0) found
 first_behind [] found = first_of_empty found
 first_behind (x ∷ xs) found = refl

@@ -44,6 +44,6 @@ few_found : {X Y : Type 0} (f : X → Option Y) (xs : List X) → length (filter
 few_found f [] = omega arith
 few_found f (x ∷ xs) = omega (arith, one_more (f x) (filter_map f xs) (length xs) (few_found f xs))
 
--- of so many entries no more requests are counted
+-- of these entries no more requests are counted than there are entries
 pub few_moved : (trace : List Entry) (way : Way) (entries : List Entry) (device i : ℕ) → (moved_of trace way (take i entries) device).requests ≤ i
 few_moved trace way entries device i = omega (arith, few_found (moved_in_entry trace device way) (take i entries), length-take i entries)

@@ -48,7 +48,7 @@ module _ {X : Type 0} (number : X → ℕ) where
   rising_tail : (x : X) (xs : List X) → IsNonDecreasingBy number (x ∷ xs) → IsNonDecreasingBy number xs
   rising_tail x xs up i j d le low = up (suc i) (suc j) d (omega (arith, le)) (omega (arith, low))
 
-  -- what stands behind an item is not below it
+  -- what comes after an item is not below it
   none_behind : (x : X) (xs : List X) → IsNonDecreasingBy number (x ∷ xs) → (m : ℕ) → number x ≡ m → filter (below m) xs ≡ []
   none_behind x xs up m same =
       none_below m xs (λ k d low. let h : number x ≤ number (get_or xs k d) = up 0 (suc k) d (omega arith) (omega (arith, low)) in omega (arith, same, h))

@@ -21,7 +21,7 @@ abbrev pub first_messages : ℕ → ℕ → List Note
 first_messages from zero = []
 first_messages from (suc n) = first_messages from n ++ note_of (message from n) ∷ []
 
--- the sender, which was new, after it put so many
+-- the sender, which was new, after it put this number of messages
 abbrev pub after_messages : Sender → ℕ → Sender
 after_messages s count = record s { put = first_messages s.number count }
 
@@ -29,7 +29,7 @@ after_messages s count = record s { put = first_messages s.number count }
 abbrev pub AreNew : TableId → List Sender → Type 0
 AreNew ring sends = (k : ℕ) (d : Sender) → k < length sends → let s = slice_index_or sends k d in (s.ring ≡ ring) × (s.put ≡ [])
 
--- each of these senders, which were new, put so many
+-- each of these senders, which were new, put this number of messages
 abbrev pub HavePut : ℕ → List Sender → List Sender → Type 0
 HavePut count before after = (k : ℕ) (d : Sender) → k < length before → slice_index_or after k d ≡ after_messages (slice_index_or before k d) count
 

@@ -40,7 +40,7 @@ FitsReceiver passes senders ended taken pass v = v.receives ≡ true → (pass �
 abbrev pub Fits : ℕ → ℕ → List (List Note) → List Note → List Msg → ℕ → View → Type 0
 Fits passes senders ended taken items pass v = FitsSender senders (length ended) (all_put taken items) pass v × FitsReceiver passes senders ended taken pass v
 
--- the rule, where the ring is for so many senders, these are what the ended ones put, and this was taken; a sender that was not made has put nothing, and no more are made than the ring is for
+-- the rule, where the ring is for this number of senders, these are what the ended ones put, and this was taken; a sender that was not made has put nothing, and no more are made than the ring is for
 abbrev pub Rules : ℕ → List (List Note) → List Note → List Msg → List View → Type 0
 Rules senders ended taken items views =
     ((k : ℕ) → k < length ended → slice_index_or ended k [] ≡ sent_by k (all_put taken items))

@@ -44,7 +44,7 @@ WasEmpty r = (items : List Msg) × (length items ≡ 0) × ((k : ℕ) → r.send
 abbrev pub Took : Receiver → Msg → Receiver → Type 0
 Took r m t = (t ≡ after_take r m) × (m.from.0 < r.senders)
 
--- the first n of so many senders, by number, which have put nothing
+-- the first n of the senders, by number, which have put nothing
 abbrev pub first_senders : TableId → ℕ → ℕ → List Sender
 first_senders ring senders zero = []
 first_senders ring senders (suc n) = first_senders ring senders n ++ record { ring = ring; senders = senders; number = n; put = [] } ∷ []

@@ -41,7 +41,7 @@ fn put_all<R: Wait>(rt: &R, ring: &Ring, pass: &mut SendPass, count: u32)
     }
 }
 
-// Each sender puts so many, in a thread of its own.
+// Each sender puts this number of messages, in a thread of its own.
 fn put_each<R: Threads + Wait + Sync>(
     rt: &R,
     ring: &Ring,
@@ -90,7 +90,7 @@ fn take_all<R: Wait>(
     (pass, taken)
 }
 
-/// All that so many senders put, each `count` messages and in a thread of its own, as another thread
+/// All that the senders put, each `count` messages and in a thread of its own, as another thread
 /// took it meanwhile. What comes of each sender is what it put, in its order.
 pub fn exchange<R: Threads + Wait + Sync>(
     rt: &R,

@@ -168,7 +168,7 @@ impl Ring {
         Ok((Ring { queue }, sends, TakePass { pass }))
     }
 
-    /// Puts a message behind all that the ring holds. A full ring gives it back, and then the pass
+    /// Puts a message after all that the ring holds. A full ring gives it back, and then the pass
     /// is as before. It takes no memory.
     pub fn put<R: Wait>(&self, rt: &R, pass: &mut SendPass, msg: Msg) -> Result<(), Full>
         requires ring { pass.old.ring ≡ self.now.ring }
@@ -182,7 +182,7 @@ impl Ring {
         }
     }
 
-    /// Takes the message that stands first. An empty ring gives none, and then the pass is as
+    /// Takes the first message. An empty ring gives none, and then the pass is as
     /// before. It takes no memory.
     pub fn take<R: Wait>(&self, rt: &R, pass: &mut TakePass) -> Option<Msg>
         requires ring { pass.old.ring ≡ self.now.ring }

@@ -67,7 +67,7 @@ impl Join<View> for EndsSender {
     ghost spent = { nobody };
 }
 
-/// A put: the message stands behind all that the ring holds. Where it is full, it holds messages of
+/// A put: the message comes after all that the ring holds. Where it is full, it holds messages of
 /// its senders alone, and of this one the last that it put.
 pub struct Puts;
 

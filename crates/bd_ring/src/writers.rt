@@ -84,8 +84,8 @@ fn row(thread: u32, number: u32) -> Entry
     }
 }
 
-// Writes so many rows, each under a take of its own, or fewer where memory runs out. A slot whose
-// value is away is tried again.
+// Writes this number of rows, each under a take of its own, or fewer where memory runs out. A slot
+// whose value is away is tried again.
 fn write_all<R: Wait>(
     rt: &R,
     slot: &Slot<Journal>,

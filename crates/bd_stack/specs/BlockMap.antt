@@ -28,7 +28,7 @@ base_of layers dev = base_of_layer (slice_get layers dev.0)
 abbrev pub shift_of : List Layer → DevId → ℕ
 shift_of layers dev = shift_of_layer (slice_get layers dev.0)
 
--- requests are cut at multiples of so many of its blocks; 0 for no such cut
+-- requests are cut at multiples of this number of its blocks; 0 for no cut
 abbrev pub boundary_of : List Layer → DevId → ℕ
 boundary_of layers dev = boundary_of_layer (slice_get layers dev.0)
 
@@ -37,7 +37,7 @@ abbrev pub under : Option DevId → (DevId → List Place) → List Place
 under None lower = []
 under (Some base) lower = lower base
 
--- the blocks from block b of a device down to its base device, of at most so many devices
+-- the blocks from block b of a device down to its base device, of at most this number of devices
 abbrev pub places_within : ℕ → List Layer → DevId → ℕ → List Place
 places_within zero layers dev b = []
 places_within (suc n) layers dev b =

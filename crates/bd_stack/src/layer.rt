@@ -15,7 +15,7 @@ pub struct Layer {
     pub base: Option<DevId>,
     /// The block of that device at which it begins.
     pub shift: u64,
-    /// Requests are cut at multiples of so many of its blocks; 0 for no such cut.
+    /// Requests are cut at multiples of this number of its blocks; 0 for no cut.
     pub boundary: u64,
     /// The same number for the parts of one split, and another for every other device.
     pub group: u32,

@@ -26,7 +26,7 @@ none_goes p (r ∷ rs) none =
     let here : p r ≡ false = none 0 (omega arith) in
     rw here (ap (λ (left : List Row). r ∷ left) (none_goes p rs (λ j inside. none (suc j) (omega arith))))
 
--- the first among the rows behind the head
+-- the first among the rows after the head
 tail_first : (p : Row → Bool) (r : Row) (rs : List Row) (i : ℕ) → IsFirst p (r ∷ rs) (suc i) → IsFirst p rs i
 tail_first p r rs i f = record {
   inside = omega (arith, f.inside);

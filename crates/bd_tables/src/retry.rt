@@ -1,4 +1,4 @@
-//! Pieces that a full home refused, and those that wait behind them.
+//! Pieces that a full home refused, and those that wait after them.
 ghost use Rattle.std.specs.Prelude.{◌≡◌, ◌<◌, ◌≤◌, ◌+◌, ◌-◌, ◌++◌, ◌∷◌, [], ◌⊎◌, drop, ◌↔◌, IsTrue, IsNone, IfNone, IfSome, OnSome, IsOk, OnOk};
 ghost use Rattle.bd_tables.specs.Pieces.{threshold_at};
 
@@ -8,8 +8,8 @@ use std::alloc::Global;
 use std::collections::VecDeque;
 use std::marker::Model;
 
-/// The retry queue of a base device's channel: a piece that comes back for want of room at the
-/// home joins its end, and so do new pieces while it isn't empty.
+/// The retry queue of a base device's channel: a piece that comes back since the home was full
+/// joins its end, and so do new pieces while it isn't empty.
 #[derive(Debug, Drop)]
 pub struct Retry {
     pieces: VecDeque<Piece>,

@@ -61,7 +61,7 @@ impl Tables {
         self.kept_at(id).is_some()
     }
 
-    /// Keeps a request at a place, behind those that are there. No row keeps a request of its id. A
+    /// Keeps a request at a place, after those that are there. No row keeps a request of its id. A
     /// row that remembers the id as handed out goes; where there is none, there is room for one more.
     /// It takes no memory.
     pub fn park(&mut self, request: Request, place: Place)
@@ -99,7 +99,7 @@ impl Tables {
         Some(self.shelf.take(i).request)
     }
 
-    /// Brings the request of this id to another place, behind those that are there. False exactly
+    /// Brings the request of this id to another place, after those that are there. False exactly
     /// where no row keeps it, and nothing changes then. It takes no memory.
     pub fn move_to(&mut self, id: ReqId, place: Place) -> bool
         ensures kept { result ≡ is_kept id self.old.rows }

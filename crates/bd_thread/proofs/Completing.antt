@@ -175,7 +175,7 @@ module _ (me : ℕ) (held : List (Id × Kept)) (req : ReqId) (ending : Ending) w
   pub ends_now : ending_of me held req ≡ Some ending → Ends me held req ending
   ends_now h = ends_here (request_in held req) refl h
 
--- ---- what is here behind it
+-- ---- what is here after it
 
 gone_closed : (piece : ℕ → Option OpenPiece) (req : ReqId) (k n : ℕ) (here : Id → Option Kept) → list_all is_ended (map piece (range_with_len k n)) ≡ true
     → held_after (pieces_closed req k (map piece (range_with_len k n))) here ≡ gone req (range_with_len k n) here
@@ -188,7 +188,7 @@ gone_closed piece req k (suc n) here h = go (piece k) h (gone_closed piece req (
     go None h rest = cc
     go (Some p) h rest = rest (λ j. cond (same_id (ids.Piece req k) j) None (here j)) (and_parts (is_ended (Some p)) (list_all is_ended (map piece (range_with_len (k + 1) n))) h).1
 
--- a piece is let go, and those that are left come behind it
+-- a piece is let go, and those that are left come after it
 pub gone_step : (req : ReqId) (k : ℕ) (left rest : List ℕ) (old new : List (Id × Kept)) (total : Id → Option Kept)
     → left ≡ k ∷ rest
     → Sets old new (ids.Piece req k) None

@@ -26,7 +26,7 @@ use Rattle.bd_thread.specs.Seen.{here_in, local_at, queues_of, Sets}
 use Rattle.bd_thread.proofs.Going.{Steps, steps, still_shut}
 use Rattle.bd_thread.proofs.Submissions.{acted_into}
 
--- a piece is held, and those that are left come behind it
+-- a piece is held, and those that are left come after it
 pub hold_step : (setup : Setup) (req : ReqId) (r : OpenRequest) (k more : ℕ) (extent : Extent) (left rest : List Extent) (p : OpenPiece) (old new : List (Id × Kept)) (total : Id → Option Kept)
     → left ≡ extent ∷ rest
     → p ≡ new_piece setup r k extent

@@ -1,4 +1,4 @@
--- Data of several pieces, one behind another.
+-- Data of several pieces, concatenated.
 use Rattle.std.proofs.Common.{◌≡◌, ℕ, List, [], Option, Some, None, refl, ap}
 use Rattle.std.proofs.lemmas.List.{append_assoc, append-nil}
 use Rattle.bd_machine.specs.Completion.{both_bytes}

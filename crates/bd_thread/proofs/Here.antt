@@ -56,7 +56,7 @@ none_at (t ∷ ts) id j = go (same_id t.0 id) refl (none_at ts id j)
 pub sets_none : (ts : List (Id × Kept)) (id : Id) → Sets ts (filter (λ t. not (same_id t.0 id)) ts) id None
 sets_none ts id = fun_ext (none_at ts id)
 
--- a token that isn't here, added behind the others
+-- a token that isn't here, added at the end
 some_at : (ts : List (Id × Kept)) (id : Id) (kept : Kept) (j : Id) → here_in ts id ≡ None → here_in (ts ++ (id, kept) ∷ []) j ≡ cond (same_id id j) (Some kept) (here_in ts j)
 some_at [] id kept j free = refl
 some_at (t ∷ ts) id kept j free = go (same_id t.0 id) refl free (some_at ts id kept j)
@@ -69,7 +69,7 @@ some_at (t ∷ ts) id kept j free = go (same_id t.0 id) refl free (some_at ts id
         ap (λ r. cond (same_id t.0 j) (Some t.1) r) (ih free)
         ∙ either (same_id t.0 j) (same_id id j) (Some t.1) (Some kept) (here_in ts j) (apart t.0 id j h)
 
--- a token that was let go, added behind the others
+-- a token that was let go, added at the end
 pub sets_some : (old rest : List (Id × Kept)) (id : Id) (kept : Kept) → Sets old rest id None → Sets old (rest ++ (id, kept) ∷ []) id (Some kept)
 sets_some old rest id kept gone = fun_ext (λ (j : Id).
     some_at rest id kept j (ap (λ (h : Id → Option Kept). h id) gone ∙ ap (λ b. cond b None (here_in old id)) (id_same.same_self id))

@@ -56,7 +56,7 @@ idle_here t a p = λ few. record { thread = refl; links = refl; waits = p }
 pub idle_so : {P Q : Thread → Links → Type 0} (o : Thread) (a : Links) (n : Thread) (c : Links) → (P o a → Q o a) → Idles P o a n c → Idles Q o a n c
 idle_so o a n c so h = λ few. let i = h few in record { thread = i.thread; links = i.links; waits = so i.waits }
 
--- one step behind the other
+-- one step after the other
 pub idle_then : {P Q R : Thread → Links → Type 0} (o : Thread) (a : Links) (m : Thread) (b : Links) (n : Thread) (c : Links)
     → Acted o a m b
     → Acted m b n c

@@ -1,4 +1,4 @@
--- A close of a handle that is left behind a Shutdown, by the local rules.
+-- A close of a handle that is left after Shutdown, by the local rules.
 use Rattle.std.proofs.Common.{◌≡◌, ℕ, ◌+◌, Bool, true, false, cond, ◌==◌, List, [], ◌∷◌, filter, find, length, Option, Some, None, is_some, refl, sym, ◌∙◌, ap, subst, eq-eqb}
 use Rattle.std.specs.Option.{option_map}
 use Rattle.std.proofs.lemmas.Bool.{and_from, and_parts}

@@ -18,7 +18,7 @@ pub next_base : {X : Type 0} (o : Option X) (xs : List X) → cons_option o xs �
 next_base None xs = refl
 next_base (Some x) xs = refl
 
--- so many of the same
+-- the same value a number of times
 pub zeros_next : {X : Type 0} (i n : ℕ) (x : X) → i < n → replicate (n - i) x ≡ x ∷ replicate (n - (i + 1)) x
 zeros_next i n x h = let e : n - i ≡ suc (n - (i + 1)) = omega arith in ap (λ (k : ℕ). replicate k x) e
 

@@ -49,7 +49,7 @@ none_below n m t links e below on dev less = go (cases_lt dev.0 n)
     go (inl h) = below dev h
     go (inr h) = let same : m ≡ dev.0 = omega (arith, e, h, less) in subst (λ (k : ℕ). NoPieceOn (record { 0 = k }) t links) same on
 
--- ---- behind a Shutdown
+-- ---- after Shutdown
 
 pub undestructed_below : (n m : ℕ) (t : Thread) (links : Links) → m ≡ n → NoDestructBelow n t links → NoDestructOn (record { 0 = m }) t links → NoDestructBelow (n + 1) t links
 undestructed_below n m t links e below on dev less = go (cases_lt dev.0 n)
@@ -202,7 +202,7 @@ mark_waits t links x first stays = go t.part.due refl first
 
 -- ---- the answer of a turn
 
--- one part of a turn behind the other
+-- one part of a turn after the other
 pub turn_idle : (o : Thread) (a : Links) (p : Thread) (b : Links) (q : Thread) (d : Links) (r : Thread) (e : Links) (u : Thread) (k : Links) (s : Thread) (f : Links) (n : Thread) (g : Links)
     → Acted o a p b
     → Acted p b q d

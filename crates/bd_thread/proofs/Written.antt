@@ -1,4 +1,4 @@
--- What a table has at a key, by the place of the first entry with the key; and a write there, or behind the others.
+-- What a table has at a key, by the place of the first entry with the key; and a write there, or at the end.
 use Rattle.std.proofs.Common.{◌≡◌, ℕ, suc, ◌<◌, ◌≤◌, Bool, true, false, cond, not, List, [], ◌∷◌, ◌++◌, length, get_or, set, Some, None, refl, sym, ◌∙◌, ap, arith}
 use Rattle.std.specs.List.{position}
 use Rattle.std.proofs.lemmas.List.Quantifiers.{position-Some}

@@ -33,7 +33,7 @@ pub record IsNextTicket (thread next : ℕ) (id : ReqId) : Type 0 where
 
 -- ---- a home serves a piece
 
--- the piece is served, and to be put to its own thread, once, behind all else; without one nothing changes
+-- the piece is served, and to be put to its own thread, once, after all else; without one nothing changes
 abbrev pub ServesBy : Thread → Links → Thread → Links → DevId → Bool → Option Id → Type 0
 ServesBy old before new after dev served None = (served ≡ false) × (new ≡ old) × (after ≡ before)
 ServesBy old before new after dev served (Some (ids.Piece req k)) =
@@ -44,7 +44,7 @@ ServesBy old before new after dev served (Some _) = ⊥
 abbrev pub Serves : Thread → Links → Thread → Links → DevId → Bool → Type 0
 Serves old before new after dev served = ServesBy old before new after dev served (next_due old dev)
 
--- ---- what stands first in the outbox is put
+-- ---- the first of the outbox is put
 
 -- one Put of it, and the others stay; where it can't be put nothing changes
 abbrev pub SendsBy : Thread → Links → Thread → Links → Bool → List (ℕ × Token) → Bool → Type 0

@@ -9,7 +9,7 @@ use Rattle.bd_thread.specs.declared.links.Links.{Links}
 use Rattle.bd_thread.specs.declared.thread.Thread.{Thread}
 use Rattle.bd_thread.specs.Seen.{local}
 
--- so many queues without a message
+-- queues without a message, by how many they are
 abbrev pub empty_queues : ℕ → List (List Message)
 empty_queues threads = replicate threads []
 

@@ -27,7 +27,7 @@ use Rattle.bd_thread.specs.Served.{next_due}
 
 -- ---- messages and pieces
 
--- no message that could be taken stands first in the thread's queue
+-- the first message in the thread's queue can't be taken, or there is none
 abbrev pub NoMessage : Thread → Links → Type 0
 NoMessage t links = first_brought (queues_of links.queues.items t.me) ≡ None
 
@@ -121,7 +121,7 @@ is_full queues to = nat_le most_messages (length (queues_of queues to))
 abbrev pub has_room : Links → ℕ → Bool
 has_room links to = nat_lt to (vec_len links.queues) && not (is_full links.queues.items to)
 
--- what stands first in the outbox may go where it is to go, and there is room
+-- the first of the outbox may go where it is to go, and there is room
 abbrev pub may_send : Thread → Links → List (ℕ × Token) → Bool
 may_send t links [] = false
 may_send t links (x ∷ xs) = has_room links x.0 && may_go t.setup.now t.me (local t links).view x.0 x.1
@@ -157,7 +157,7 @@ pub record IsIdle (Waits : Thread → Links → Type 0) (old : Thread) (before :
 abbrev pub Idles : (Thread → Links → Type 0) → Thread → Links → Thread → Links → Type 0
 Idles Waits old before new after = length after.entries ≤ length before.entries → IsIdle Waits old before new after
 
--- all that a thread waits for: a message that it can take, a piece that it can serve on a device whose home it is, a line that can go on, after Shutdown a handle that it can close or a device that it can destruct, and room for what stands first in its outbox, if that may go there, and for the first mark that is due
+-- all that a thread waits for: a message that it can take, a piece that it can serve on a device whose home it is, a line that can go on, after Shutdown a handle that it can close or a device that it can destruct, and room for the first of its outbox, if that may go there, and for the first mark that is due
 pub record IsWaiting (t : Thread) (links : Links) : Type 0 where
   pub message : NoMessage t links
   pub piece : NoPiece t links

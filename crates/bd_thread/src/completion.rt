@@ -82,7 +82,7 @@ fn any_faulted(tokens: &[(Id, Kept)], req: ReqId, n: u32) -> bool
     false
 }
 
-// The bytes that a piece read, put behind others; none where they are untold.
+// The bytes so far, and after them those that a piece read; none where they are untold.
 fn append_read(
     so_far: Option<Bytes>,
     piece: Option<&OpenPiece>,

@@ -70,7 +70,7 @@ fn post(due: &mut Rows<Due>, threads: u32, mark: &Name) -> Result<(), OutOfMemor
     Ok(())
 }
 
-// A post owes its mark to every thread.
+// After a post its mark is due to every thread.
 fn owe(part: &mut Part, setup: &Setup, job: &Job) -> Result<(), OutOfMemory>
     ensures { OnOk result (part.new ≡ record part.old { due = part.old.due ++ posted setup.now (Some job.now) }) }
 {

@@ -116,7 +116,7 @@ impl Links {
     }
 }
 
-// So many empty queues.
+// An empty queue for each thread.
 #[tactic(auto, using(crate::proofs::Starting::zeros_next))]
 fn empty_queues(alloc: Global, threads: u32) -> Result<Vec<Queue>, OutOfMemory>
     ensures { IfOk result (λ queues. queues.items ≡ empty_queues threads) }

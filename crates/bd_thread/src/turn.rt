@@ -228,7 +228,7 @@ impl<'a> Thread<'a> {
         Ok(())
     }
 
-    // Whether what stands first in the outbox may go where it is to go, and there is room.
+    // Whether the first of the outbox may go where it is to go, and there is room.
     fn may_send(&self, links: &Links) -> bool
         ensures { result ≡ may_send self.now links.now self.now.outbox.items }
     {
@@ -240,8 +240,8 @@ impl<'a> Thread<'a> {
         }
     }
 
-    // Puts what stands first in the outbox on its way, where it may go and there is room. Else it
-    // stays there.
+    // Puts the first of the outbox on its way, where it may go and there is room. Else it stays
+    // there.
     fn put_next(&mut self, links: &mut Links) -> Result<bool, OutOfMemory>
         requires { self.old.me < vec_len links.old.queues }
         ensures acted { OnOk result (Acted self.old links.old self.new links.new) }
@@ -315,8 +315,8 @@ impl<'a> Thread<'a> {
         Ok(())
     }
 
-    /// A turn: at most 8 messages, at most 8 pieces of each store, at most 8 lines of the script (behind
-    /// a Shutdown the closes and destructs that are left, in their place), and what is still to be put,
+    /// A turn: at most 8 messages, at most 8 pieces of each store, at most 8 lines of the script (after
+    /// Shutdown the closes and destructs that are left, in their place), and what is still to be put,
     /// until the queue that it goes to is full. `Quiet` only where none of this could be done.
     pub fn turn(&mut self, links: &mut Links) -> Result<Turned, OutOfMemory>
         requires { self.old.me < vec_len links.old.queues }

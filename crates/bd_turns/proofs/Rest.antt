@@ -1,4 +1,4 @@
--- Where all threads are at rest: thread 0 may shut down, and, behind the Shutdown, the run is complete.
+-- Where all threads are at rest: thread 0 may shut down, and, after Shutdown, the run is complete.
 use Rattle.std.proofs.Common.{◌≡◌, ℕ, zero, suc, ◌+◌, ◌<◌, Bool, true, false, not, cond, ◌&&◌, ◌||◌, ◌==◌, nat_lt, List, [], ◌∷◌, length, get_or, Option, Some, None, refl, sym, ◌∙◌, ap, subst, eq-eqb, arith}
 use Rattle.std.specs.List.{list_any, list_all, range_with_len}
 use Rattle.std.proofs.lemmas.Bool.{and_from, lt-ltb}

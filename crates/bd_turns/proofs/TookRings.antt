@@ -92,7 +92,7 @@ module _ (setup : Setup) (s : State) (stamp t source number : ℕ) (what : Token
   queue_other : (r : ℕ) → (r ≡ t → ⊥) → took_queues r ≡ queues r
   queue_other r ne = ap (λ b. cond b (drop 1 (queues r)) (queues r)) (ne_eqb r t ne)
 
-  -- the messages behind it have other numbers
+  -- the messages after it have other numbers
   later : (a k : ℕ) → count_at taken_after a ≤ k → (source ≡ a) × (number ≡ k) → ⊥
   later a k le h =
       let c : count_at taken_after a ≡ number + 1 = write_count (part_of s t).taken source a (number + 1) ∙ ap (λ (b : Bool). cond b (number + 1) (count_at (part_of s t).taken a)) (eq-eqb source a h.0) in

@@ -20,7 +20,7 @@ use Rattle.bd_turns.specs.Local.{Shared}
 
 -- ---- messages and tokens
 
--- the token of the first message of r's queue, where so many were taken from each sender
+-- the token of the first message of r's queue, by how many were taken from each sender
 abbrev pub id_next : ℕ → List (ℕ × ℕ) → Message → Id
 id_next r taken m = id_of m.sender r (count_at taken m.sender) m.what
 
