@@ -9,7 +9,8 @@ use crate::node::{Node, NodeState};
 use bd_base::{OutOfMemory, Setup};
 use std::alloc::Global;
 
-// Rounds until the node is so far. There is no bound but the numbers'.
+// Rounds until the node is in this state, at most 2^64 - 1. Where they run out it answers out of
+// memory.
 fn play_until<'a>(node: &mut Node<'a>, state: NodeState) -> Result<(), OutOfMemory>
     requires { IsNode node.old }
     ensures node { OnOk result (IsNode node.new) }
@@ -38,7 +39,8 @@ fn play_out<'a>(node: &mut Node<'a>) -> Result<(), OutOfMemory>
 }
 
 /// Plays the setup's scripts to their end on as many threads as it has: whatever the seed of the
-/// schedule, what is returned is a complete run of the machine.
+/// schedule, what is returned is a complete run of the machine. It answers out of memory also where
+/// 2^64 - 1 rounds weren't enough, or a number of a thread runs out, as after 2^62 requests.
 pub fn play(alloc: Global, setup: &Setup, seed: u64) -> Result<History, OutOfMemory>
     requires { 0 < setup.now.threads }
     ensures { IfOk result (λ history. IsCompleteRun setup.now [] history) }

@@ -31,7 +31,7 @@ pub enum Refused {
     Errno(Errno),
     /// As many requests are open as a thread may have. Nothing changed.
     Full,
-    /// The run halts: nothing is said of the thread from then on.
+    /// Memory ran out, and the run halts: nothing is said of the thread from then on.
     OutOfMemory,
 }
 

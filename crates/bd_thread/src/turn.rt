@@ -317,7 +317,9 @@ impl<'a> Thread<'a> {
 
     /// A turn: at most 8 messages, at most 8 pieces of each store, at most 8 lines of the script (after
     /// Shutdown the closes and destructs that are left, in their place), and what is still to be put,
-    /// until the queue that it goes to is full. `Quiet` only where none of this could be done.
+    /// until the queue that it goes to is full. `Quiet` only where none of this could be done. It answers
+    /// out of memory also where a number runs out: after 2^62 requests of the thread, or where a count
+    /// of messages, handles, pieces or lines would pass its type.
     pub fn turn(&mut self, links: &mut Links) -> Result<Turned, OutOfMemory>
         requires { self.old.me < vec_len links.old.queues }
         ensures acted { OnOk result (Acted self.old links.old self.new links.new) }
