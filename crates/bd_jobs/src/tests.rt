@@ -78,7 +78,7 @@ fn outcome(alloc: Global, threads: u32, text: &[u8]) -> Result<String, Fail> {
     }
 }
 
-// A text for so many threads, and the lines that it gives: thread, number and command of each.
+// A number of threads, a text, and the lines that it gives: thread, number and command of each.
 const READ: [(u32, &str, &str); 81] = [
     (1, "0 open h M r", "0 1 open h M r|"),
     (1, "0 open h M w", "0 1 open h M w|"),
@@ -545,7 +545,7 @@ const WRONG: [&str; 266] = [
     "0 wait\r0 wait\n",
 ];
 
-// A text for so many threads, and the first line of it that is outside the grammar.
+// A number of threads, a text, and the first line of it that is outside the grammar.
 const FIRST_WRONG: [(u32, &str, u32); 34] = [
     (2, "2 wait", 1),
     (2, "01 wait", 1),
@@ -628,7 +628,7 @@ fn bytes_that_are_no_text(rt: HostRuntime) -> Result<(), Fail> {
     Ok(())
 }
 
-// What so many lines come to, each of them the first text, with the second behind them.
+// The outcome of `count` lines that are the first text, and the second text after them.
 fn of_many(alloc: Global, count: u32, line: &str, last: &str) -> Result<String, Fail> {
     let mut text = String::new(alloc);
     for _ in 0..count {

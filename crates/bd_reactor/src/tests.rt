@@ -155,7 +155,7 @@ fn two_writers(alloc: Global) -> Result<Setup, OutOfMemory>
     setup_of(alloc, scripts)
 }
 
-// ---- what came of them
+// ---- what they did
 
 // How many requests completed.
 fn completed(entries: &[Entry]) -> usize {
@@ -286,7 +286,7 @@ fn schedule_is_the_generators(rt: HostRuntime) {
 
 // ---- a queue that is full
 
-// Thread 1 posts a mark in each of so many lines.
+// Thread 1 posts a mark in each of `count` lines.
 fn posts(alloc: Global, count: u32) -> Result<Setup, OutOfMemory>
     ensures { IfOk result (λ setup. setup.threads ≡ 2) }
 {
@@ -311,7 +311,7 @@ fn queued(node: &Node) -> usize {
     }
 }
 
-// A turn of the thread: what came of it, and how many messages are then on their way to thread 0.
+// A turn of the thread: its result, and how many messages are then on their way to thread 0.
 fn step(node: &mut Node, thread: u32) -> Result<(Turned, usize), OutOfMemory>
     requires { IsNode node.old }
     ensures { OnOk result (IsNode node.new) }
@@ -454,7 +454,7 @@ fn refusals_are_logged(rt: HostRuntime) -> Result<(), Fail> {
     Ok(())
 }
 
-// Thread 1 opens the device, whose home is thread 0, and reads a block in each of so many lines.
+// Thread 1 opens the device, whose home is thread 0, and reads a block in each of `count` lines.
 fn readers(alloc: Global, count: u32) -> Result<Setup, OutOfMemory>
     ensures { IfOk result (λ setup. setup.threads ≡ 2) }
 {
@@ -478,7 +478,7 @@ fn accepted(entries: &[Entry]) -> usize {
         .count()
 }
 
-// Turns of thread 1 alone: what came of the last one, and how many requests were accepted.
+// Turns of thread 1 alone: the result of the last one, and how many requests were accepted.
 fn crowd(node: &mut Node) -> Result<(Turned, usize), OutOfMemory>
     requires { IsNode node.old }
 {

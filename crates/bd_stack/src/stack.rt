@@ -162,8 +162,8 @@ mod tests {
     type Given = (Kind, Option<u32>, u64);
 
     // A memory device with boundary 8; a part of it from block 3; a device through to that part; a
-    // part of that one from block 10; a device without boundary, and one behind a delay; a device
-    // with a boundary of 10 over the first one.
+    // part of that one from block 10; a device without boundary, and one over it that injects
+    // errors; a device with a boundary of 10 over the first one.
     const DEVICES: [Given; 7] = [
         (Kind::Malloc, None, 8),
         (Kind::Part { shift: 3 }, Some(0), 0),

@@ -1,10 +1,10 @@
 //! The machine played by hand: a whole trace, and entries that it refuses. Digests are by python's
 //! hashlib.
-use crate::machine::{Machine, StepNo};
 use bd_base::{
     Act, Answer, ApplyEnd, DevId, DevRow, Entry, Errno, Fill, HandleId, Job, Kind, Line, Name, Op,
     OutOfMemory, Outcome, RegEvent, ReqId, Rows, Script, Setup, Shown, Status, Token,
 };
+use bd_play::{Machine, StepNo};
 use std::alloc::Global;
 
 const DEV: DevId = DevId(0);
