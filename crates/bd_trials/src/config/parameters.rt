@@ -1,5 +1,5 @@
 //! The parameters of each method: which are needed, which values they take, and their defaults.
-use crate::tests::{meaning, with_calls, with_params};
+use crate::config::{meaning, with_calls, with_params};
 use std::alloc::Global;
 use std::test::Fail;
 

@@ -1,5 +1,5 @@
 //! Texts that are JSON and that aren't, their shapes, and the order of their calls.
-use crate::tests::{meaning, with_calls};
+use crate::config::{meaning, with_calls};
 use std::alloc::Global;
 use std::test::Fail;
 
@@ -227,17 +227,18 @@ fn texts_and_shapes(rt: HostRuntime) -> Result<(), Fail> {
     Ok(())
 }
 
+// A text has to be UTF-8.
+const BYTES: [(&[u8], &str); 3] = [
+    (b"\xff", "text"),
+    (b"{\"subsystems\":[],\"x\":\"\xc3\"}", "text"),
+    (b"{\"subsystems\":[],\"x\":\"\xc3\xa9\"}", ""),
+];
+
 #[test]
 fn bytes_that_are_no_text(rt: HostRuntime) -> Result<(), Fail> {
-    assert_eq!(rt; meaning(rt.alloc(), b"\xff")?.as_str(), "text");
-    assert_eq!(rt;
-        meaning(rt.alloc(), b"{\"subsystems\":[],\"x\":\"\xc3\"}")?.as_str(),
-        "text"
-    );
-    assert_eq!(rt;
-        meaning(rt.alloc(), b"{\"subsystems\":[],\"x\":\"\xc3\xa9\"}")?.as_str(),
-        ""
-    );
+    for (text, expected) in BYTES {
+        assert_eq!(rt; meaning(rt.alloc(), text)?.as_str(), expected);
+    }
     Ok(())
 }
 

@@ -3,8 +3,8 @@
 mod parameters;
 mod texts;
 
-use crate::{Command, ConfigNo, read_config};
 use bd_base::{ErrKind, IoSet};
+use bd_config::{Command, ConfigNo, read_config};
 use std::alloc::Global;
 use std::test::Fail;
 
