@@ -187,7 +187,8 @@ mod tests {
     #[test]
     fn ranges_are_cut_where_their_devices_say(rt: HostRuntime) -> Result<(), Fail> {
         let stack = stack_of(&rt, rt.alloc(), &DEVICES)?;
-        for (range, expected) in CUT {
+        for row in &CUT {
+            let (range, expected) = *row;
             are_pieces(&rt, &stack, range, expected);
         }
         Ok(())

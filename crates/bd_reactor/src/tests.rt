@@ -247,8 +247,8 @@ fn history_by(alloc: Global, setup: &Setup, order: &[u32]) -> Result<Option<Hist
 #[test]
 fn two_threads_write_and_read_in_any_order(rt: HostRuntime) -> Result<(), Fail> {
     let setup = two_writers(rt.alloc())?;
-    for order in ORDERS {
-        let Some(history) = history_by(rt.alloc(), &setup, &order)? else {
+    for order in &ORDERS {
+        let Some(history) = history_by(rt.alloc(), &setup, order)? else {
             return Err("not done")?;
         };
         let entries = history.entries();
@@ -275,12 +275,12 @@ fn schedules_play_to_the_end(rt: HostRuntime) -> Result<(), Fail> {
 #[test]
 fn schedule_is_the_generators(rt: HostRuntime) {
     let mut schedule = Schedule { state: 1 };
-    for thread in [0, 1, 0, 0, 0, 1, 0, 0, 1, 0, 1, 0] {
-        assert_eq!(rt; schedule.next(2), thread);
+    for thread in &[0, 1, 0, 0, 0, 1, 0, 0, 1, 0, 1, 0] {
+        assert_eq!(rt; schedule.next(2), *thread);
     }
     let mut schedule = Schedule { state: 0 };
-    for thread in [2, 0, 1, 1, 2, 2, 2, 2, 0, 0, 1, 0] {
-        assert_eq!(rt; schedule.next(3), thread);
+    for thread in &[2, 0, 1, 1, 2, 2, 2, 2, 0, 0, 1, 0] {
+        assert_eq!(rt; schedule.next(3), *thread);
     }
 }
 

@@ -214,7 +214,7 @@ mod tests {
     fn base_blocks_and_runs(rt: HostRuntime) -> Result<(), Fail> {
         const LAST: u64 = (1 << 40) - 1;
         let stack = stack_of(&rt, rt.alloc(), &DEVICES)?;
-        for (dev, block, base, number, run) in [
+        for row in &[
             (0, 0, 0, 0, 8),
             (0, 7, 0, 7, 1),
             (0, 8, 0, 8, 8),
@@ -230,6 +230,7 @@ mod tests {
             (6, 10, 0, 10, 6),
             (6, 16, 0, 16, 4),
         ] {
+            let (dev, block, base, number, run) = *row;
             let dev = DevId(dev);
             assert!(rt; stack.has(dev) && block <= LAST);
             assert!(rt;

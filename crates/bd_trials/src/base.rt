@@ -35,12 +35,13 @@ fn lists_find_memory(rt: HostRuntime) -> Result<(), Fail> {
 
 #[test]
 fn blocks_begin_as_computed_by_hand(rt: HostRuntime) {
-    for (seed, block, begins) in [
+    for row in &[
         (5, 0, [0x05, 0x0c, 0x13, 0x1a]),
         (9, 0, [0x09, 0x10, 0x17, 0x1e]),
         (0, 2, [0x3e, 0x45, 0x4c, 0x53]),
         (255, 1, [0x1e, 0x25, 0x2c, 0x33]),
     ] {
+        let (seed, block, begins) = *row;
         let mut bytes = [0u8; 4];
         fill_pattern(seed, block, &mut bytes);
         assert!(rt; bytes == begins, "seed {seed}, block {block}");

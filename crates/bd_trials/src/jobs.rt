@@ -300,7 +300,8 @@ const BYTES: [(&[u8], &str); 7] = [
 
 #[test]
 fn bytes_that_are_no_text(rt: HostRuntime) -> Result<(), Fail> {
-    for (text, expected) in BYTES {
+    for row in &BYTES {
+        let (text, expected) = *row;
         assert_eq!(rt; outcome(rt.alloc(), 1, text)?.as_str(), expected);
     }
     Ok(())
@@ -329,7 +330,8 @@ const MANY: [(u32, &str, &str, &str); 7] = [
 
 #[test]
 fn at_most_20_000_lines(rt: HostRuntime) -> Result<(), Fail> {
-    for (count, line, last, expected) in MANY {
+    for row in &MANY {
+        let (count, line, last, expected) = *row;
         assert_eq!(rt; of_many(rt.alloc(), count, line, last)?.as_str(), expected);
     }
     Ok(())

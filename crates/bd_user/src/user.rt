@@ -291,11 +291,18 @@ mod tests {
 
     #[test]
     fn lines_wait_for_what_they_need(rt: HostRuntime) -> Result<(), Fail> {
-        for (word, seen, expected) in ROWS {
+        for row in &ROWS {
+            let (word, seen, expected) = *row;
             let found = waits_for(rt.alloc(), word, &seen)?;
             assert!(rt; found == expected, "{word:?}: {seen:?}");
         }
-        for (micros, now, met, waits) in SLEEPS {
+        Ok(())
+    }
+
+    #[test]
+    fn a_sleep_counts_from_the_first_look(rt: HostRuntime) -> Result<(), Fail> {
+        for row in &SLEEPS {
+            let (micros, now, met, waits) = *row;
             let seen = Seen {
                 now,
                 met,

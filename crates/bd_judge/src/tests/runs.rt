@@ -197,7 +197,8 @@ const COMPLETE: [(&str, &[&[Word]], &[&str]); 6] = [
 #[test]
 fn histories_of_runs_are_complete(rt: HostRuntime) -> Result<(), Fail> {
     let alloc = rt.alloc();
-    for (script, words, options) in COMPLETE {
+    for row in &COMPLETE {
+        let (script, words, options) = *row;
         let trace = history(alloc, script, options)?;
         let setup = setup(alloc, words)?;
         let judged = judge(alloc, &setup, trace.as_slice());

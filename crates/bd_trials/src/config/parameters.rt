@@ -433,14 +433,15 @@ const BARE: [&str; 9] = [
 
 #[test]
 fn needed_parameters(rt: HostRuntime) -> Result<(), Fail> {
-    for (method, params) in ABSENT {
+    for row in &ABSENT {
+        let (method, params) = *row;
         let text = with_params(rt.alloc(), method, params, "")?;
         assert_eq!(rt;
             meaning(rt.alloc(), text.as_bytes())?.as_str(),
             "method 0 -32602"
         );
     }
-    for method in BARE {
+    for method in &BARE {
         let call = format!(in rt.alloc(); "{{\"method\":\"{method}\"}}")?;
         let text = with_calls(rt.alloc(), call.as_str())?;
         assert_eq!(rt;

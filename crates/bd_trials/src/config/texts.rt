@@ -92,7 +92,7 @@ const CALLS: [(&str, &str); 26] = [
 
 #[test]
 fn methods_and_their_order(rt: HostRuntime) -> Result<(), Fail> {
-    for case in CALLS {
+    for case in &CALLS {
         let text = with_calls(rt.alloc(), case.0)?;
         assert_eq!(rt; meaning(rt.alloc(), text.as_bytes())?.as_str(), case.1);
     }
@@ -221,7 +221,7 @@ const TEXTS: [(&str, &str); 41] = [
 
 #[test]
 fn texts_and_shapes(rt: HostRuntime) -> Result<(), Fail> {
-    for case in TEXTS {
+    for case in &TEXTS {
         assert_eq!(rt; meaning(rt.alloc(), case.0.as_bytes())?.as_str(), case.1);
     }
     Ok(())
@@ -236,7 +236,8 @@ const BYTES: [(&[u8], &str); 3] = [
 
 #[test]
 fn bytes_that_are_no_text(rt: HostRuntime) -> Result<(), Fail> {
-    for (text, expected) in BYTES {
+    for row in &BYTES {
+        let (text, expected) = *row;
         assert_eq!(rt; meaning(rt.alloc(), text)?.as_str(), expected);
     }
     Ok(())
