@@ -400,41 +400,54 @@ fn open_line(alloc: Global, handle: &str, write: bool) -> Result<Job, OutOfMemor
     })
 }
 
-fn add_line(lines: &mut Rows<Line>, number: u32, job: Job) -> Result<(), OutOfMemory> {
-    lines.push(Line { number, job })
-}
-
 const SEED: Fill = Fill {
     seed: 5,
     flip: false,
 };
 
+// A line: an open of this name, for writing or not; or a submission by this name, of an operation
+// with its first block and its number of blocks.
+#[derive(Clone, Copy)]
+enum Word {
+    Open(&'static str, bool),
+    Submit(&'static str, Op, u64, u64),
+}
+
 // Thread 0 goes past the end of 64 blocks, asks for none, and writes by a handle for reading.
+const OWN: [(u32, Word); 5] = [
+    (1, Word::Open("a", true)),
+    (2, Word::Submit("a", Op::Write(SEED), 60, 5)),
+    (3, Word::Submit("a", Op::Read, 0, 0)),
+    (4, Word::Open("b", false)),
+    (5, Word::Submit("b", Op::Write(SEED), 0, 1)),
+];
+
 // Thread 1 reads by the name of a handle that is thread 0's.
+const OTHERS: [(u32, Word); 1] = [(6, Word::Submit("a", Op::Read, 0, 1))];
+
+fn job_of(alloc: Global, word: Word) -> Result<Job, OutOfMemory> {
+    match word {
+        Word::Open(handle, write) => open_line(alloc, handle, write),
+        Word::Submit(handle, op, lba, count) => handle_line(alloc, handle, op, lba, count),
+    }
+}
+
+fn script_of(alloc: Global, thread: u32, rows: &[(u32, Word)]) -> Result<Script, OutOfMemory> {
+    let mut lines = Rows::new(alloc);
+    for row in rows {
+        let (number, word) = *row;
+        let job = job_of(alloc, word)?;
+        lines.push(Line { number, job })?;
+    }
+    Ok(Script { thread, lines })
+}
+
 fn refused_lines(alloc: Global) -> Result<Setup, OutOfMemory>
     ensures { IfOk result (λ setup. setup.threads ≡ 2) }
 {
-    let mut own = Rows::new(alloc);
-    add_line(&mut own, 1, open_line(alloc, "a", true)?)?;
-    add_line(
-        &mut own,
-        2,
-        handle_line(alloc, "a", Op::Write(SEED), 60, 5)?,
-    )?;
-    add_line(&mut own, 3, handle_line(alloc, "a", Op::Read, 0, 0)?)?;
-    add_line(&mut own, 4, open_line(alloc, "b", false)?)?;
-    add_line(&mut own, 5, handle_line(alloc, "b", Op::Write(SEED), 0, 1)?)?;
-    let mut others = Rows::new(alloc);
-    add_line(&mut others, 6, handle_line(alloc, "a", Op::Read, 0, 1)?)?;
     let mut scripts = Rows::new(alloc);
-    scripts.push(Script {
-        thread: 0,
-        lines: own,
-    })?;
-    scripts.push(Script {
-        thread: 1,
-        lines: others,
-    })?;
+    scripts.push(script_of(alloc, 0, &OWN)?)?;
+    scripts.push(script_of(alloc, 1, &OTHERS)?)?;
     setup_of(alloc, scripts)
 }
 
