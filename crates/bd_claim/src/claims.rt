@@ -244,7 +244,7 @@ mod tests {
     fn every_pair_of_kinds(rt: HostRuntime) -> Result<(), Fail> {
         use ClaimKind::{Exclusive, Shared, WriteNone, WriteOne};
         let seconds = [Exclusive, WriteOne, WriteNone, Shared(7), Shared(8)];
-        for (write, first, allowed) in [
+        for row in &[
             (false, None, [true, true, true, true, true]),
             (false, Some(Exclusive), [false, false, false, false, false]),
             (false, Some(WriteOne), [false, false, false, false, false]),
@@ -254,6 +254,7 @@ mod tests {
             (true, None, [true, false, false, false, false]),
             (true, Some(Exclusive), [false, false, false, false, false]),
         ] {
+            let (write, first, allowed) = *row;
             for (i, second) in seconds.iter().enumerate() {
                 let mut claims = three_handles(&rt, rt.alloc(), write)?;
                 if let Some(kind) = first {
@@ -271,12 +272,13 @@ mod tests {
 
     #[test]
     fn what_a_claim_does_and_a_release_frees(rt: HostRuntime) -> Result<(), Fail> {
-        for (kind, writes) in [
+        for row in &[
             (ClaimKind::Exclusive, true),
             (ClaimKind::WriteOne, true),
             (ClaimKind::WriteNone, false),
             (ClaimKind::Shared(9), true),
         ] {
+            let (kind, writes) = *row;
             let mut claims = three_handles(&rt, rt.alloc(), false)?;
             assert!(rt; claim(&rt, &mut claims, 1, kind) == Ok(()));
             assert!(rt; claims.writable(HandleId(1)) == writes, "{kind:?}");

@@ -9,8 +9,6 @@ mod param;
 mod setting;
 mod shape;
 mod stacked;
-#[cfg(test)]
-mod tests;
 
 pub use command::Command;
 pub use config::{ConfigNo, read_config};

@@ -139,13 +139,14 @@ mod tests {
         Ok(Stack::new(alloc, &setup)?)
     }
 
-    // The pieces of a range are these, each as base device, base block, blocks and first block.
-    fn are_pieces(
-        rt: &impl Abort,
-        stack: &Stack,
-        (dev, lba, count): (u32, u64, u64),
-        expected: &[(u32, u64, u64, u64)],
-    ) {
+    // A range, as device, first block and number of blocks.
+    type Range = (u32, u64, u64);
+
+    // A piece, as base device, base block, number of blocks and first block of the range's device.
+    type Expected = (u32, u64, u64, u64);
+
+    // The pieces of a range are these.
+    fn are_pieces(rt: &impl Abort, stack: &Stack, (dev, lba, count): Range, expected: &[Expected]) {
         let dev = DevId(dev);
         assert!(rt; stack.has(dev) && lba <= END && count <= END - lba);
         let mut pieces = Pieces::of(stack, dev, lba, count);
@@ -161,56 +162,35 @@ mod tests {
         assert!(rt; pieces.next() == None);
     }
 
-    // Blocks 0 to 20 of the part lie on base blocks 3 to 23, which are cut at 8 and 16.
-    #[test]
-    fn part_over_a_boundary(rt: HostRuntime) -> Result<(), Fail> {
-        let stack = stack_of(&rt, rt.alloc(), &DEVICES)?;
-        are_pieces(
-            &rt,
-            &stack,
-            (1, 0, 21),
-            &[(0, 3, 5, 0), (0, 8, 8, 5), (0, 16, 8, 13)],
-        );
-        Ok(())
-    }
-
-    #[test]
-    fn ends_of_a_range(rt: HostRuntime) -> Result<(), Fail> {
-        let stack = stack_of(&rt, rt.alloc(), &DEVICES)?;
-        are_pieces(&rt, &stack, (0, 0, 16), &[(0, 0, 8, 0), (0, 8, 8, 8)]);
-        are_pieces(
-            &rt,
-            &stack,
-            (0, 0, 17),
-            &[(0, 0, 8, 0), (0, 8, 8, 8), (0, 16, 1, 16)],
-        );
-        are_pieces(&rt, &stack, (0, 7, 2), &[(0, 7, 1, 7), (0, 8, 1, 8)]);
-        are_pieces(&rt, &stack, (0, 8, 8), &[(0, 8, 8, 8)]);
-        are_pieces(&rt, &stack, (0, 1, 3), &[(0, 1, 3, 1)]);
-        are_pieces(&rt, &stack, (0, 5, 0), &[]);
-        Ok(())
-    }
-
-    #[test]
-    fn without_boundary_and_at_the_last_block(rt: HostRuntime) -> Result<(), Fail> {
-        let stack = stack_of(&rt, rt.alloc(), &DEVICES)?;
-        are_pieces(&rt, &stack, (2, 5, 100), &[(2, 5, 100, 5)]);
-        are_pieces(&rt, &stack, (2, END - 1, 1), &[(2, END - 1, 1, END - 1)]);
-        are_pieces(&rt, &stack, (2, 0, END), &[(2, 0, END, 0)]);
-        are_pieces(&rt, &stack, (2, END, 0), &[]);
-        Ok(())
-    }
-
-    // Boundaries of 10 above and 8 below: cuts at 8, 10 and 16.
-    #[test]
-    fn two_boundaries(rt: HostRuntime) -> Result<(), Fail> {
-        let stack = stack_of(&rt, rt.alloc(), &DEVICES)?;
-        are_pieces(
-            &rt,
-            &stack,
+    const CUT: [(Range, &[Expected]); 12] = [
+        // the part's blocks 0 to 20 lie on base blocks 3 to 23, which are cut at 8 and 16
+        ((1, 0, 21), &[(0, 3, 5, 0), (0, 8, 8, 5), (0, 16, 8, 13)]),
+        // a range that ends at a cut, right after one, or begins beside one; one within a run; none
+        ((0, 0, 16), &[(0, 0, 8, 0), (0, 8, 8, 8)]),
+        ((0, 0, 17), &[(0, 0, 8, 0), (0, 8, 8, 8), (0, 16, 1, 16)]),
+        ((0, 7, 2), &[(0, 7, 1, 7), (0, 8, 1, 8)]),
+        ((0, 8, 8), &[(0, 8, 8, 8)]),
+        ((0, 1, 3), &[(0, 1, 3, 1)]),
+        ((0, 5, 0), &[]),
+        // no boundary, up to the last block
+        ((2, 5, 100), &[(2, 5, 100, 5)]),
+        ((2, END - 1, 1), &[(2, END - 1, 1, END - 1)]),
+        ((2, 0, END), &[(2, 0, END, 0)]),
+        ((2, END, 0), &[]),
+        // boundaries of 10 above and 8 below: cuts at 8, 10 and 16
+        (
             (3, 0, 20),
             &[(0, 0, 8, 0), (0, 8, 2, 8), (0, 10, 6, 10), (0, 16, 4, 16)],
-        );
+        ),
+    ];
+
+    #[test]
+    fn ranges_are_cut_where_their_devices_say(rt: HostRuntime) -> Result<(), Fail> {
+        let stack = stack_of(&rt, rt.alloc(), &DEVICES)?;
+        for row in &CUT {
+            let (range, expected) = *row;
+            are_pieces(&rt, &stack, range, expected);
+        }
         Ok(())
     }
 }

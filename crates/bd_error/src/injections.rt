@@ -118,7 +118,7 @@ mod tests {
         assert_eq!(rt; injections.take(&Op::Read), Decision::Pass);
         // Two for reads and two for flushes: 2, 1, 0, and then nothing.
         injections.set(io, ErrKind::Pending, 2);
-        for (op, decision) in [
+        for row in &[
             (Op::Read, Decision::Pend),
             (Op::Unmap, Decision::Pass),
             (Op::Read, Decision::Pend),
@@ -126,6 +126,7 @@ mod tests {
             (Op::Reset, Decision::Pass),
             (Op::Flush, Decision::Pend),
         ] {
+            let (op, decision) = *row;
             assert_eq!(rt; injections.take(&op), decision);
         }
         // A flush has no data: the corruption stays for reads. The one pending flush is replaced.

@@ -55,7 +55,7 @@ fn setup(alloc: Global) -> Result<Setup, OutOfMemory> {
     })
 }
 
-// The malloc device with zeros, where a write waits, and behind it a read.
+// The malloc device with zeros, where a write waits, and after it a read.
 fn bases(alloc: Global) -> Result<Rows<Base>, OutOfMemory> {
     let mut blocks = Rows::new(alloc);
     for _ in 0..4 {
@@ -151,7 +151,7 @@ fn part(alloc: Global, bases: Rows<Base>) -> Part {
 }
 
 #[test]
-fn a_device_goes_behind_a_shutdown_with_its_digest(rt: HostRuntime) -> Result<(), Fail> {
+fn a_device_goes_after_a_shutdown_with_its_digest(rt: HostRuntime) -> Result<(), Fail> {
     let alloc = rt.alloc();
     let setup = setup(alloc)?;
     let mut bases = bases(alloc)?;

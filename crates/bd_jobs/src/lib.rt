@@ -4,8 +4,6 @@
 mod command;
 mod generator;
 mod read;
-#[cfg(test)]
-mod tests;
 mod word;
 
 pub use command::Command;

@@ -127,7 +127,7 @@ mod tests {
     }
 
     #[test]
-    fn a_later_part_goes_behind(rt: HostRuntime) -> Result<(), Fail> {
+    fn a_later_part_goes_after(rt: HostRuntime) -> Result<(), Fail> {
         let mut log = log_of(rt.alloc(), 5, [0, 8])?;
         let mut trace = Vec::new(rt.alloc());
         for _ in 0..2 {

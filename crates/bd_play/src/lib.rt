@@ -19,8 +19,6 @@ mod requests;
 mod scripts;
 mod start;
 mod step;
-#[cfg(test)]
-mod tests;
 mod tokens;
 
 pub use machine::{Machine, StepNo};

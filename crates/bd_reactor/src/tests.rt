@@ -155,7 +155,7 @@ fn two_writers(alloc: Global) -> Result<Setup, OutOfMemory>
     setup_of(alloc, scripts)
 }
 
-// ---- what came of them
+// ---- what they did
 
 // How many requests completed.
 fn completed(entries: &[Entry]) -> usize {
@@ -247,8 +247,8 @@ fn history_by(alloc: Global, setup: &Setup, order: &[u32]) -> Result<Option<Hist
 #[test]
 fn two_threads_write_and_read_in_any_order(rt: HostRuntime) -> Result<(), Fail> {
     let setup = two_writers(rt.alloc())?;
-    for order in ORDERS {
-        let Some(history) = history_by(rt.alloc(), &setup, &order)? else {
+    for order in &ORDERS {
+        let Some(history) = history_by(rt.alloc(), &setup, order)? else {
             return Err("not done")?;
         };
         let entries = history.entries();
@@ -275,18 +275,18 @@ fn schedules_play_to_the_end(rt: HostRuntime) -> Result<(), Fail> {
 #[test]
 fn schedule_is_the_generators(rt: HostRuntime) {
     let mut schedule = Schedule { state: 1 };
-    for thread in [0, 1, 0, 0, 0, 1, 0, 0, 1, 0, 1, 0] {
-        assert_eq!(rt; schedule.next(2), thread);
+    for thread in &[0, 1, 0, 0, 0, 1, 0, 0, 1, 0, 1, 0] {
+        assert_eq!(rt; schedule.next(2), *thread);
     }
     let mut schedule = Schedule { state: 0 };
-    for thread in [2, 0, 1, 1, 2, 2, 2, 2, 0, 0, 1, 0] {
-        assert_eq!(rt; schedule.next(3), thread);
+    for thread in &[2, 0, 1, 1, 2, 2, 2, 2, 0, 0, 1, 0] {
+        assert_eq!(rt; schedule.next(3), *thread);
     }
 }
 
 // ---- a queue that is full
 
-// Thread 1 posts a mark in each of so many lines.
+// Thread 1 posts a mark in each of `count` lines.
 fn posts(alloc: Global, count: u32) -> Result<Setup, OutOfMemory>
     ensures { IfOk result (λ setup. setup.threads ≡ 2) }
 {
@@ -311,7 +311,7 @@ fn queued(node: &Node) -> usize {
     }
 }
 
-// A turn of the thread: what came of it, and how many messages are then on their way to thread 0.
+// A turn of the thread: its result, and how many messages are then on their way to thread 0.
 fn step(node: &mut Node, thread: u32) -> Result<(Turned, usize), OutOfMemory>
     requires { IsNode node.old }
     ensures { OnOk result (IsNode node.new) }
@@ -400,41 +400,54 @@ fn open_line(alloc: Global, handle: &str, write: bool) -> Result<Job, OutOfMemor
     })
 }
 
-fn add_line(lines: &mut Rows<Line>, number: u32, job: Job) -> Result<(), OutOfMemory> {
-    lines.push(Line { number, job })
-}
-
 const SEED: Fill = Fill {
     seed: 5,
     flip: false,
 };
 
+// A line: an open of this name, for writing or not; or a submission by this name, of an operation
+// with its first block and its number of blocks.
+#[derive(Clone, Copy)]
+enum Word {
+    Open(&'static str, bool),
+    Submit(&'static str, Op, u64, u64),
+}
+
 // Thread 0 goes past the end of 64 blocks, asks for none, and writes by a handle for reading.
+const OWN: [(u32, Word); 5] = [
+    (1, Word::Open("a", true)),
+    (2, Word::Submit("a", Op::Write(SEED), 60, 5)),
+    (3, Word::Submit("a", Op::Read, 0, 0)),
+    (4, Word::Open("b", false)),
+    (5, Word::Submit("b", Op::Write(SEED), 0, 1)),
+];
+
 // Thread 1 reads by the name of a handle that is thread 0's.
+const OTHERS: [(u32, Word); 1] = [(6, Word::Submit("a", Op::Read, 0, 1))];
+
+fn job_of(alloc: Global, word: Word) -> Result<Job, OutOfMemory> {
+    match word {
+        Word::Open(handle, write) => open_line(alloc, handle, write),
+        Word::Submit(handle, op, lba, count) => handle_line(alloc, handle, op, lba, count),
+    }
+}
+
+fn script_of(alloc: Global, thread: u32, rows: &[(u32, Word)]) -> Result<Script, OutOfMemory> {
+    let mut lines = Rows::new(alloc);
+    for row in rows {
+        let (number, word) = *row;
+        let job = job_of(alloc, word)?;
+        lines.push(Line { number, job })?;
+    }
+    Ok(Script { thread, lines })
+}
+
 fn refused_lines(alloc: Global) -> Result<Setup, OutOfMemory>
     ensures { IfOk result (λ setup. setup.threads ≡ 2) }
 {
-    let mut own = Rows::new(alloc);
-    add_line(&mut own, 1, open_line(alloc, "a", true)?)?;
-    add_line(
-        &mut own,
-        2,
-        handle_line(alloc, "a", Op::Write(SEED), 60, 5)?,
-    )?;
-    add_line(&mut own, 3, handle_line(alloc, "a", Op::Read, 0, 0)?)?;
-    add_line(&mut own, 4, open_line(alloc, "b", false)?)?;
-    add_line(&mut own, 5, handle_line(alloc, "b", Op::Write(SEED), 0, 1)?)?;
-    let mut others = Rows::new(alloc);
-    add_line(&mut others, 6, handle_line(alloc, "a", Op::Read, 0, 1)?)?;
     let mut scripts = Rows::new(alloc);
-    scripts.push(Script {
-        thread: 0,
-        lines: own,
-    })?;
-    scripts.push(Script {
-        thread: 1,
-        lines: others,
-    })?;
+    scripts.push(script_of(alloc, 0, &OWN)?)?;
+    scripts.push(script_of(alloc, 1, &OTHERS)?)?;
     setup_of(alloc, scripts)
 }
 
@@ -454,7 +467,7 @@ fn refusals_are_logged(rt: HostRuntime) -> Result<(), Fail> {
     Ok(())
 }
 
-// Thread 1 opens the device, whose home is thread 0, and reads a block in each of so many lines.
+// Thread 1 opens the device, whose home is thread 0, and reads a block in each of `count` lines.
 fn readers(alloc: Global, count: u32) -> Result<Setup, OutOfMemory>
     ensures { IfOk result (λ setup. setup.threads ≡ 2) }
 {
@@ -478,7 +491,7 @@ fn accepted(entries: &[Entry]) -> usize {
         .count()
 }
 
-// Turns of thread 1 alone: what came of the last one, and how many requests were accepted.
+// Turns of thread 1 alone: the result of the last one, and how many requests were accepted.
 fn crowd(node: &mut Node) -> Result<(Turned, usize), OutOfMemory>
     requires { IsNode node.old }
 {

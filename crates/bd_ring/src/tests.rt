@@ -13,7 +13,7 @@ fn device_of(msg: &Msg) -> Option<DevId> {
     }
 }
 
-// How many messages came of each of 16 senders, or none where one came out of its order.
+// How many messages came from each of 16 senders, or None where one came out of its order.
 fn count_in_order(taken: &[Msg]) -> Option<[u32; 16]> {
     let mut next = [0u32; 16];
     for msg in taken {
@@ -43,7 +43,7 @@ fn sixteen_senders(rt: HostRuntime) -> Result<(), Fail> {
     Ok(())
 }
 
-// Whether the first rows of this thread are numbered from 0, so many of them.
+// The number of this thread's rows, or None where they aren't numbered 0, 1, 2 and so on.
 fn counts_rows(rows: &[Entry], thread: u32) -> Option<u32> {
     let mut next = 0u32;
     for row in rows {

@@ -162,8 +162,8 @@ mod tests {
     type Given = (Kind, Option<u32>, u64);
 
     // A memory device with boundary 8; a part of it from block 3; a device through to that part; a
-    // part of that one from block 10; a device without boundary, and one behind a delay; a device
-    // with a boundary of 10 over the first one.
+    // part of that one from block 10; a device without boundary, and one over it that injects
+    // errors; a device with a boundary of 10 over the first one.
     const DEVICES: [Given; 7] = [
         (Kind::Malloc, None, 8),
         (Kind::Part { shift: 3 }, Some(0), 0),
@@ -214,7 +214,7 @@ mod tests {
     fn base_blocks_and_runs(rt: HostRuntime) -> Result<(), Fail> {
         const LAST: u64 = (1 << 40) - 1;
         let stack = stack_of(&rt, rt.alloc(), &DEVICES)?;
-        for (dev, block, base, number, run) in [
+        for row in &[
             (0, 0, 0, 0, 8),
             (0, 7, 0, 7, 1),
             (0, 8, 0, 8, 8),
@@ -230,6 +230,7 @@ mod tests {
             (6, 10, 0, 10, 6),
             (6, 16, 0, 16, 4),
         ] {
+            let (dev, block, base, number, run) = *row;
             let dev = DevId(dev);
             assert!(rt; stack.has(dev) && block <= LAST);
             assert!(rt;

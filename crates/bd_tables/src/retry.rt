@@ -113,7 +113,8 @@ mod tests {
     #[test]
     fn the_first_goes_at_the_threshold(rt: HostRuntime) -> Result<(), Fail> {
         // 0 / 2 and 0; 1 / 2 and 0; 10 / 2 = 5; 16 / 2 = 8; 17 - 8 = 9; 100 - 8 = 92.
-        for (in_flight, threshold) in [(0, 0), (1, 0), (10, 5), (16, 8), (17, 9), (100, 92)] {
+        for row in &[(0, 0), (1, 0), (10, 5), (16, 8), (17, 9), (100, 92)] {
+            let (in_flight, threshold) = *row;
             let mut retry = Retry::new(rt.alloc());
             retry.reserve(2)?;
             retry.refused(piece(0), in_flight);

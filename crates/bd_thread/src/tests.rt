@@ -66,7 +66,7 @@ fn submit(alloc: Global, op: Op, lba: u64) -> Result<Job, OutOfMemory> {
     })
 }
 
-// An open, and reads of block 0 behind it.
+// An open, and reads of block 0 after it.
 fn readers(alloc: Global, count: u32) -> Result<Setup, OutOfMemory> {
     let mut lines = Rows::new(alloc);
     let job = open(alloc, false)?;
@@ -78,7 +78,7 @@ fn readers(alloc: Global, count: u32) -> Result<Setup, OutOfMemory> {
     setup_of(alloc, lines)
 }
 
-// An open, and a submission behind it.
+// An open, and a submission after it.
 fn open_and_submit(alloc: Global, write: bool, op: Op, lba: u64) -> Result<Setup, OutOfMemory> {
     let mut lines = Rows::new(alloc);
     lines.push(Line {
@@ -124,7 +124,7 @@ fn end_by_hand(thread: &mut Thread, links: &mut Links) -> Result<(), OutOfMemory
     Ok(())
 }
 
-// Submits what the next line asks by its handle, whether or not there is room: what came of it.
+// Submits what the next line asks by its handle, whether or not there is room: its answer.
 // None where the line doesn't ask for that.
 fn submit_by_hand(
     thread: &mut Thread,
@@ -201,7 +201,7 @@ fn a_thread_with_1024_open_requests_answers_full(rt: HostRuntime) -> Result<(), 
     Ok(())
 }
 
-// The answer to the submission that stands behind an open in these lines, and the refusal that was
+// The answer to the submission that comes after an open in these lines, and the refusal that was
 // logged.
 fn second_line(
     alloc: Global,

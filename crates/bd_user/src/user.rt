@@ -95,7 +95,6 @@ mod tests {
     use super::*;
     use bd_base::{ClaimKind, Fill, NameList, Op, Rows};
     use std::alloc::Global;
-    use std::process::Abort;
     use std::test::Fail;
 
     // What a thread sees, in so far as a move goes by it.
@@ -140,191 +139,179 @@ mod tests {
         })
     }
 
-    // A script of one line is asked in each of these situations; none is Do.
-    fn table(
-        rt: &impl Abort,
-        alloc: Global,
-        job: Job,
-        rows: &[(Seen, Option<Why>)],
-    ) -> Result<(), Fail> {
-        let mut lines = Rows::new(alloc);
-        lines.push(Line { number: 7, job })?;
-        let user = User::new(lines.as_slice());
-        for (seen, expected) in rows {
-            let view = view_of(alloc, seen)?;
-            match user.next(&view) {
-                Move::Do(_) => assert!(rt; *expected == None, "{seen:?}"),
-                Move::Blocked(why) => assert!(rt; *expected == Some(why), "{seen:?}"),
-                Move::End => assert!(rt; false, "{seen:?}"),
-            }
-        }
-        Ok(())
-    }
-
     fn name(alloc: Global, text: &[u8]) -> Result<Name, Fail> {
         Ok(Name::from_slice(alloc, text)?)
     }
 
-    fn open_requests(requests: u32) -> Seen {
-        Seen {
-            requests,
-            ..NOTHING
+    // A line, by what a move goes by.
+    #[derive(Clone, Copy, Debug)]
+    enum Word {
+        Submit(Op),
+        Wait,
+        Sleep(u64),
+        Await,
+        Gone,
+        Open,
+        Close,
+        Claim,
+        Remove,
+        Post,
+    }
+
+    fn job(alloc: Global, word: Word) -> Result<Job, Fail> {
+        let handle = name(alloc, b"h")?;
+        Ok(match word {
+            Word::Submit(op) => Job::Submit {
+                handle,
+                op,
+                lba: 0,
+                count: 1,
+            },
+            Word::Wait => Job::Wait,
+            Word::Sleep(micros) => Job::Sleep(micros),
+            Word::Await => Job::Await(name(alloc, b"mark")?),
+            Word::Gone => Job::Gone { handle },
+            Word::Open => Job::Open {
+                handle,
+                dev: name(alloc, b"Malloc0")?,
+                write: true,
+            },
+            Word::Close => Job::Close { handle },
+            Word::Claim => Job::Claim {
+                handle,
+                kind: ClaimKind::Exclusive,
+            },
+            Word::Remove => Job::Remove {
+                dev: name(alloc, b"Malloc0")?,
+            },
+            Word::Post => Job::Post(name(alloc, b"mark")?),
+        })
+    }
+
+    const WRITE: Op = Op::Write(Fill {
+        seed: 5,
+        flip: false,
+    });
+
+    const TAKEN: Seen = Seen {
+        taken: true,
+        ..NOTHING
+    };
+
+    const BOUND: Seen = Seen {
+        bound: true,
+        ..NOTHING
+    };
+
+    const GONE: Seen = Seen {
+        gone: true,
+        ..BOUND
+    };
+
+    // 1,024 requests are open, and a bound handle is there.
+    const BUSY: Seen = Seen {
+        requests: 1024,
+        ..BOUND
+    };
+
+    const ONE_OPEN: Seen = Seen {
+        requests: 1,
+        ..NOTHING
+    };
+
+    const ROOM_FOR_ONE: Seen = Seen {
+        requests: 1023,
+        ..NOTHING
+    };
+
+    const FULL: Seen = Seen {
+        requests: 1024,
+        ..NOTHING
+    };
+
+    // The one line of a script, what the thread sees, and what the line waits for; None where it is
+    // done.
+    const ROWS: [(Word, Seen, Option<Why>); 23] = [
+        // a submission waits for room
+        (Word::Submit(WRITE), NOTHING, None),
+        (Word::Submit(WRITE), ROOM_FOR_ONE, None),
+        (Word::Submit(WRITE), FULL, Some(Why::Room)),
+        (Word::Submit(Op::Read), ROOM_FOR_ONE, None),
+        (Word::Submit(Op::Read), BUSY, Some(Why::Room)),
+        (Word::Submit(Op::Zeroes), BUSY, Some(Why::Room)),
+        (Word::Submit(Op::Flush), BUSY, Some(Why::Room)),
+        (Word::Submit(Op::Reset), BUSY, Some(Why::Room)),
+        (Word::Submit(Op::Abort(3)), BUSY, Some(Why::Room)),
+        // a wait waits for each request
+        (Word::Wait, NOTHING, None),
+        (Word::Wait, ONE_OPEN, Some(Why::Requests)),
+        (Word::Wait, FULL, Some(Why::Requests)),
+        // an await waits for its mark
+        (Word::Await, NOTHING, Some(Why::Mark)),
+        (Word::Await, TAKEN, None),
+        // a gone waits on a bound name alone
+        (Word::Gone, NOTHING, None),
+        (Word::Gone, BOUND, Some(Why::Gone)),
+        (Word::Gone, GONE, None),
+        // other lines never wait
+        (Word::Open, BUSY, None),
+        (Word::Close, BUSY, None),
+        (Word::Claim, BUSY, None),
+        (Word::Remove, BUSY, None),
+        (Word::Post, BUSY, None),
+        (Word::Post, NOTHING, None),
+    ];
+
+    // A sleep, the moment, the one at which the line was met, and whether it waits. The last moment
+    // ends every sleep.
+    const SLEEPS: [(u64, u64, u64, bool); 7] = [
+        (50, 100, 100, true),
+        (50, 149, 100, true),
+        (50, 150, 100, false),
+        (50, 151, 100, false),
+        (0, 9, 9, false),
+        (u64::MAX, u64::MAX - 1, 5, true),
+        (u64::MAX, u64::MAX, 5, false),
+    ];
+
+    // What a script of this one line waits for; None where the line is done.
+    fn waits_for(alloc: Global, word: Word, seen: &Seen) -> Result<Option<Why>, Fail> {
+        let mut lines = Rows::new(alloc);
+        lines.push(Line {
+            number: 7,
+            job: job(alloc, word)?,
+        })?;
+        let view = view_of(alloc, seen)?;
+        match User::new(lines.as_slice()).next(&view) {
+            Move::Do(_) => Ok(None),
+            Move::Blocked(why) => Ok(Some(why)),
+            Move::End => Err(Fail::from("a script of one line is at its end")),
         }
     }
 
     #[test]
-    fn submissions_wait_for_room(rt: HostRuntime) -> Result<(), Fail> {
-        let write = Op::Write(Fill {
-            seed: 5,
-            flip: false,
-        });
-        for op in [
-            Op::Read,
-            write,
-            Op::Zeroes,
-            Op::Flush,
-            Op::Reset,
-            Op::Abort(3),
-        ] {
-            let job = Job::Submit {
-                handle: name(rt.alloc(), b"h")?,
-                op,
-                lba: 0,
-                count: 1,
-            };
-            table(
-                &rt,
-                rt.alloc(),
-                job,
-                &[
-                    (open_requests(0), None),
-                    (open_requests(1023), None),
-                    (open_requests(1024), Some(Why::Room)),
-                ],
-            )?;
+    fn lines_wait_for_what_they_need(rt: HostRuntime) -> Result<(), Fail> {
+        for row in &ROWS {
+            let (word, seen, expected) = *row;
+            let found = waits_for(rt.alloc(), word, &seen)?;
+            assert!(rt; found == expected, "{word:?}: {seen:?}");
         }
         Ok(())
     }
 
     #[test]
-    fn wait_waits_for_each_request(rt: HostRuntime) -> Result<(), Fail> {
-        table(
-            &rt,
-            rt.alloc(),
-            Job::Wait,
-            &[
-                (open_requests(0), None),
-                (open_requests(1), Some(Why::Requests)),
-                (open_requests(1024), Some(Why::Requests)),
-            ],
-        )
-    }
-
-    // A line that was met at 100 and sleeps 50 goes on at 150; the last moment ends every sleep.
-    #[test]
-    fn sleep_counts_from_the_first_look(rt: HostRuntime) -> Result<(), Fail> {
-        let at = |now: u64, met: u64| Seen {
-            now,
-            met,
-            ..NOTHING
-        };
-        table(
-            &rt,
-            rt.alloc(),
-            Job::Sleep(50),
-            &[
-                (at(100, 100), Some(Why::Time)),
-                (at(149, 100), Some(Why::Time)),
-                (at(150, 100), None),
-                (at(151, 100), None),
-            ],
-        )?;
-        table(&rt, rt.alloc(), Job::Sleep(0), &[(at(9, 9), None)])?;
-        table(
-            &rt,
-            rt.alloc(),
-            Job::Sleep(u64::MAX),
-            &[
-                (at(u64::MAX - 1, 5), Some(Why::Time)),
-                (at(u64::MAX, 5), None),
-            ],
-        )
-    }
-
-    #[test]
-    fn await_waits_for_its_mark(rt: HostRuntime) -> Result<(), Fail> {
-        let taken = Seen {
-            taken: true,
-            ..NOTHING
-        };
-        table(
-            &rt,
-            rt.alloc(),
-            Job::Await(name(rt.alloc(), b"mark")?),
-            &[(NOTHING, Some(Why::Mark)), (taken, None)],
-        )
-    }
-
-    #[test]
-    fn gone_waits_on_a_bound_name_alone(rt: HostRuntime) -> Result<(), Fail> {
-        let bound = Seen {
-            bound: true,
-            ..NOTHING
-        };
-        table(
-            &rt,
-            rt.alloc(),
-            Job::Gone {
-                handle: name(rt.alloc(), b"h")?,
-            },
-            &[
-                (NOTHING, None),
-                (bound, Some(Why::Gone)),
-                (
-                    Seen {
-                        gone: true,
-                        ..bound
-                    },
-                    None,
-                ),
-            ],
-        )
-    }
-
-    // Lines that never wait, where 1,024 requests are open and a bound handle is there.
-    #[test]
-    fn other_lines_never_wait(rt: HostRuntime) -> Result<(), Fail> {
-        let alloc = rt.alloc();
-        let busy = Seen {
-            requests: 1024,
-            bound: true,
-            ..NOTHING
-        };
-        let open = Job::Open {
-            handle: name(alloc, b"h")?,
-            dev: name(alloc, b"Malloc0")?,
-            write: true,
-        };
-        let close = Job::Close {
-            handle: name(alloc, b"h")?,
-        };
-        let claim = Job::Claim {
-            handle: name(alloc, b"h")?,
-            kind: ClaimKind::Exclusive,
-        };
-        let remove = Job::Remove {
-            dev: name(alloc, b"Malloc0")?,
-        };
-        table(&rt, alloc, open, &[(busy, None)])?;
-        table(&rt, alloc, close, &[(busy, None)])?;
-        table(&rt, alloc, claim, &[(busy, None)])?;
-        table(&rt, alloc, remove, &[(busy, None)])?;
-        table(
-            &rt,
-            alloc,
-            Job::Post(name(alloc, b"mark")?),
-            &[(busy, None)],
-        )
+    fn a_sleep_counts_from_the_first_look(rt: HostRuntime) -> Result<(), Fail> {
+        for row in &SLEEPS {
+            let (micros, now, met, waits) = *row;
+            let seen = Seen {
+                now,
+                met,
+                ..NOTHING
+            };
+            let found = waits_for(rt.alloc(), Word::Sleep(micros), &seen)?;
+            assert!(rt; found == waits.then_some(Why::Time), "{micros}: {seen:?}");
+        }
+        Ok(())
     }
 
     // post, wait, close: each is done, in order, and then the script is at its end and stays there.
@@ -332,20 +319,10 @@ mod tests {
     fn lines_in_order(rt: HostRuntime) -> Result<(), Fail> {
         let alloc = rt.alloc();
         let mut lines = Rows::new(alloc);
-        lines.push(Line {
-            number: 1,
-            job: Job::Post(name(alloc, b"mark")?),
-        })?;
-        lines.push(Line {
-            number: 2,
-            job: Job::Wait,
-        })?;
-        lines.push(Line {
-            number: 4,
-            job: Job::Close {
-                handle: name(alloc, b"h")?,
-            },
-        })?;
+        for (number, word) in [(1, Word::Post), (2, Word::Wait), (4, Word::Close)] {
+            let job = job(alloc, word)?;
+            lines.push(Line { number, job })?;
+        }
         let view = view_of(alloc, &NOTHING)?;
         let mut user = User::new(lines.as_slice());
         for expected in ["post", "wait", "close"] {

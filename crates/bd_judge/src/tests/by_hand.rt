@@ -1,10 +1,10 @@
 //! The machine played by hand: a whole trace, and entries that it refuses. Digests are by python's
 //! hashlib.
-use crate::machine::{Machine, StepNo};
 use bd_base::{
     Act, Answer, ApplyEnd, DevId, DevRow, Entry, Errno, Fill, HandleId, Job, Kind, Line, Name, Op,
     OutOfMemory, Outcome, RegEvent, ReqId, Rows, Script, Setup, Shown, Status, Token,
 };
+use bd_play::{Machine, StepNo};
 use std::alloc::Global;
 
 const DEV: DevId = DevId(0);
@@ -71,8 +71,8 @@ fn job(alloc: Global, word: Word) -> Result<Job, OutOfMemory> {
 fn lines(alloc: Global) -> Result<Rows<Line>, OutOfMemory> {
     let mut lines = Rows::new(alloc);
     let mut number: u32 = 1;
-    for word in SCRIPT {
-        let job = job(alloc, word)?;
+    for word in &SCRIPT {
+        let job = job(alloc, *word)?;
         lines.push(Line { number, job })?;
         number = number.saturating_add(1);
     }
@@ -320,7 +320,8 @@ fn answer_after(
 #[test]
 fn first_path_is_a_complete_run(rt: HostRuntime) {
     let alloc = rt.alloc();
-    for (n, complete) in [(25, false), (26, true)] {
+    for row in &[(25, false), (26, true)] {
+        let (n, complete) = *row;
         let is_complete = match played(alloc, n) {
             Ok(machine) => machine.is_complete() == Ok(complete),
             Err(_) => false,
@@ -332,7 +333,8 @@ fn first_path_is_a_complete_run(rt: HostRuntime) {
 #[test]
 fn each_guard_refuses(rt: HostRuntime) {
     let alloc = rt.alloc();
-    for (guard, after, deed) in REFUSED {
+    for row in &REFUSED {
+        let (guard, after, deed) = *row;
         let refused = Err(StepNo::Illegal { guard, stamp: 100 });
         let answer = answer_after(alloc, after, 100, 0, deed);
         assert!(rt; answer == refused, "guard {guard} after {after} entries");
@@ -342,7 +344,8 @@ fn each_guard_refuses(rt: HostRuntime) {
 #[test]
 fn stamps_and_threads_are_in_order(rt: HostRuntime) {
     let alloc = rt.alloc();
-    for (stamp, thread) in [(2, 0), (0, 0), (100, 1)] {
+    for row in &[(2, 0), (0, 0), (100, 1)] {
+        let (stamp, thread) = *row;
         let refused = Err(StepNo::Illegal { guard: 1, stamp });
         let answer = answer_after(alloc, 2, stamp, thread, Deed::Shutdown);
         assert!(rt; answer == refused, "stamp {stamp}, thread {thread}");
