@@ -2,7 +2,7 @@
 ghost use Rattle.std.specs.Prelude.{◌≡◌, ◌<◌, ◌≤◌, ℕ, List, Some, false, length, take, drop, min, IsTrue, IsErr, IfOk, IsErrOf, MatchOption};
 ghost use Rattle.bd_outside.specs.Count.{one_more};
 ghost use Rattle.bd_outside.specs.File.{file_of, rest_of, NoFile, Content, GivesPiece};
-ghost use Rattle.bd_outside.specs.Memory.{HostState, host_of, next_fails, failed_call, absent_call, read_call, open_call, close_call, IsDiskOver};
+ghost use Rattle.bd_outside.specs.Memory.{MemoryHost, host_of, next_fails, failed_call, absent_call, read_call, open_call, close_call, IsDiskOver};
 ghost use Rattle.bd_outside.specs.declared.opening.Opening.{Opening};
 
 use crate::disk::Disk;
@@ -27,7 +27,7 @@ pub struct MemHost {
 }
 
 impl Model for MemHost {
-    ghost Value = { HostState };
+    ghost Value = { MemoryHost };
 
     ghost view = { λ h. record {
       files = h.files.items;
@@ -143,13 +143,12 @@ fn copy_from(file: &[u8], at: u64, to: &mut [u8]) -> usize
 impl Host for MemHost {
     type Disk = MemDisk;
 
-    ghost faults = { λ h. h.faults };
-
-    ghost absences = { λ h. h.absences };
-
-    ghost told = { λ h name. file_of name h.files };
-
-    ghost openings = { λ h. Some h.openings };
+    ghost state = { λ h. record {
+      faults = λ name. h.faults;
+      absences = λ name. h.absences;
+      told = λ name. file_of name h.files;
+      openings = Some h.openings;
+    } };
 
     /// Gives as many bytes as there are and fit. Failed exactly where this call is one that fails.
     fn read_at(&mut self, name: &str, at: u64, to: &mut [u8]) -> Result<usize, HostNo>

@@ -1,6 +1,6 @@
 //! Output in memory.
 ghost use Rattle.std.specs.Prelude.{◌≡◌, ◌++◌, ◌<◌, ◌≤◌, Some, length, take, min, IfOk, OnErr, vec_len, vec_capacity};
-ghost use Rattle.bd_outside.specs.Memory.{SinkState, empty_sink, space};
+ghost use Rattle.bd_outside.specs.Memory.{MemorySink, empty_sink, space};
 ghost use Rattle.bd_outside.specs.Count.{one_more};
 
 use crate::failed::Failed;
@@ -18,7 +18,7 @@ pub struct MemSink {
 }
 
 impl Model for MemSink {
-    ghost Value = { SinkState };
+    ghost Value = { MemorySink };
 
     ghost view = { λ s. record { bytes = s.bytes.items; room = s.room; faults = s.faults } };
 
@@ -54,9 +54,7 @@ impl MemSink {
 }
 
 impl Sink for MemSink {
-    ghost faults = { λ s. s.faults };
-
-    ghost written = { λ s. Some s.bytes };
+    ghost state = { λ s. record { faults = s.faults; written = Some s.bytes } };
 
     /// Takes as many bytes as there is room for. Failed exactly where there are bytes and no room.
     fn put(&mut self, bytes: &[u8]) -> Result<usize, Failed>
