@@ -19,7 +19,7 @@ pub enum Verdict {
 }
 
 /// Takes the entries of a history one by one, from the start of a setup with every disk's content
-/// untold, up to the first that isn't allowed. The one error is want of memory.
+/// untold, up to the first that isn't allowed. The one error is out of memory.
 pub fn judge(alloc: Global, setup: &Setup, trace: &[Entry]) -> Result<Verdict, OutOfMemory>
     ensures { IfOk result (IsVerdict setup.now trace.now) }
 {

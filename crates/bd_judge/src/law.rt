@@ -3,7 +3,7 @@
 ghost use Rattle.bd_judge.specs.Laws.{VerdictIsDetermined};
 
 /// One verdict at most is right of a history. So `judge` answers each verdict exactly where it is
-/// right, want of memory aside.
+/// right, out of memory aside.
 pub fn verdict_is_determined()
     ensures { VerdictIsDetermined }
 {}

@@ -119,7 +119,7 @@ fn device(alloc: Global) -> Result<DevRow, OutOfMemory> {
     })
 }
 
-// A thread for each list of lines, numbered one behind the other, and that device.
+// A thread for each list of lines, numbered consecutively, and that device.
 fn setup(alloc: Global, words: &[&[Word]]) -> Result<Setup, OutOfMemory> {
     let mut scripts = Rows::new(alloc);
     let mut number: u32 = 0;

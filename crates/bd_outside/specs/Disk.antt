@@ -23,7 +23,7 @@ pub record HasSameShape (old new : DiskState) : Type 0 where
   pub blocks : new.blocks ≡ old.blocks
   pub place : new.place ≡ old.place
 
--- so many bytes from the start of a block on are whole blocks inside the disk
+-- this number of bytes from the start of a block on is whole blocks inside the disk
 pub record IsInside (lba bytes size blocks : ℕ) : Type 0 where
   pub whole : bytes % size ≡ 0
   pub inside : lba * size + bytes ≤ blocks * size

@@ -19,13 +19,11 @@ pub record HostState : Type 0 where
 abbrev pub TellsTheSame : HostState → HostState → Type 0
 TellsTheSame old new = (name : List ℕ) → new.told name ≡ old.told name
 
--- no count of faults fell
-abbrev pub NoFaultIsLost : HostState → HostState → Type 0
-NoFaultIsLost old new = (name : List ℕ) → old.faults name ≤ new.faults name
-
--- no count of absences fell
-abbrev pub NoAbsenceIsLost : HostState → HostState → Type 0
-NoAbsenceIsLost old new = (name : List ℕ) → old.absences name ≤ new.absences name
+-- a later state of the same host: it tells the same of each file, and no count fell
+pub record IsLater (old new : HostState) : Type 0 where
+  pub told : TellsTheSame old new
+  pub faults : (name : List ℕ) → old.faults name ≤ new.faults name
+  pub absences : (name : List ℕ) → old.absences name ≤ new.absences name
 
 -- it failed at the file of this name
 abbrev pub FailsAt : HostState → HostState → List ℕ → Type 0

@@ -12,7 +12,7 @@ pub record MemorySink : Type 0 where
   pub room : ℕ
   pub faults : ℕ
 
--- a new sink with room for so many bytes
+-- a new sink with room for this number of bytes
 abbrev pub empty_sink : ℕ → MemorySink
 empty_sink room = record { bytes = []; room = room; faults = 0 }
 
@@ -66,7 +66,7 @@ absent_call host = record host { calls = one_more host.calls; absences = one_mor
 abbrev pub read_call : MemoryHost → MemoryHost
 read_call host = record host { calls = one_more host.calls }
 
--- the host after a call that opened a file as a disk of so many blocks
+-- the host after a call that opened a file as a disk of this number of blocks
 abbrev pub open_call : MemoryHost → List ℕ → ℕ → MemoryHost
 open_call host name blocks = record host { calls = one_more host.calls; openings = host.openings ++ open_row name blocks ∷ [] }
 

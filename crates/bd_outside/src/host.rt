@@ -14,7 +14,7 @@ pub enum HostNo {
 pub trait Host {
     ghost use Rattle.std.specs.Prelude.{◌≡◌, ◌<◌, ◌≤◌, ℕ, List, length, IfOk, OnErr, IsErrOf};
     ghost use Rattle.bd_outside.specs.File.{GivesPiece, IsAbsent};
-    ghost use Rattle.bd_outside.specs.Host.{HostState, TellsTheSame, NoFaultIsLost, NoAbsenceIsLost, FailsAt, Misses, Opens, Closes};
+    ghost use Rattle.bd_outside.specs.Host.{HostState, TellsTheSame, IsLater, FailsAt, Misses, Opens, Closes};
     ghost use Rattle.bd_outside.specs.Disk.{IsOpenedOver, HasWholeBlocks};
 
     /// A disk that is opened must be closed: it can't be dropped through this trait.
@@ -23,8 +23,8 @@ pub trait Host {
     // its counts of faults and absences, what it tells of its files, and the disks that it opened
     ghost state: { Self → HostState };
 
-    /// Reads from byte `at` of a file on into the front of the buffer, and says how many bytes
-    /// that gave; 0 for a buffer that isn't empty means the file's end. Behind these bytes the
+    /// Reads a file from byte `at` on into the start of the buffer, and says how many bytes
+    /// that gave; 0 for a buffer that isn't empty means the file's end. After these bytes the
     /// buffer may hold anything.
     ///
     /// Absent: there is no such file. Failed: the host failed. The buffer may hold anything after both.
@@ -33,13 +33,11 @@ pub trait Host {
         ensures given { IfOk result (λ n. GivesPiece ((state self.old).told name.now) at n to.new) }
         ensures absent { IsErrOf result HostNo.Absent → IsAbsent ((state self.old).told name.now) }
 
-        ensures fault_count { NoFaultIsLost (state self.old) (state self.new) }
         ensures failed { IsErrOf result HostNo.Failed → FailsAt (state self.old) (state self.new) name.now }
-        ensures absence_count { NoAbsenceIsLost (state self.old) (state self.new) }
         ensures absence { IsErrOf result HostNo.Absent → Misses (state self.old) (state self.new) name.now }
         ensures only_absence { (other : List ℕ) → (state self.old).absences other < (state self.new).absences other → IsErrOf result HostNo.Absent }
 
-        ensures same_files { TellsTheSame (state self.old) (state self.new) }
+        ensures later { IsLater (state self.old) (state self.new) }
         ensures same_openings { (state self.new).openings ≡ (state self.old).openings };
 
     /// Opens a file as a disk of blocks of that many bytes, at least 1: as many whole blocks as
@@ -57,13 +55,11 @@ pub trait Host {
         ensures no_row { OnErr result ((state self.new).openings ≡ (state self.old).openings) }
         ensures absent { IsErrOf result HostNo.Absent → IsAbsent ((state self.old).told name.now) }
 
-        ensures fault_count { NoFaultIsLost (state self.old) (state self.new) }
         ensures failed { IsErrOf result HostNo.Failed → FailsAt (state self.old) (state self.new) name.now }
-        ensures absence_count { NoAbsenceIsLost (state self.old) (state self.new) }
         ensures absence { IsErrOf result HostNo.Absent → Misses (state self.old) (state self.new) name.now }
         ensures only_absence { (other : List ℕ) → (state self.old).absences other < (state self.new).absences other → IsErrOf result HostNo.Absent }
 
-        ensures same_files { TellsTheSame (state self.old) (state self.new) };
+        ensures later { IsLater (state self.old) (state self.new) };
 
     /// Closes a disk by its file's name: its row has its content and counts from then on. It can't fail.
     fn close_disk(&mut self, name: &str, disk: Self::Disk)

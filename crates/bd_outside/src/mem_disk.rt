@@ -27,7 +27,7 @@ impl Model for MemDisk {
 }
 
 impl MemDisk {
-    /// A disk with the whole blocks of these bytes; what is behind the last whole block is dropped.
+    /// A disk with the whole blocks of these bytes; what comes after the last whole block is dropped.
     /// It takes no memory; the allocator comes first as in each call that makes a value which
     /// holds memory.
     pub fn new(_alloc: Global, content: Bytes, block_size: u32) -> MemDisk

@@ -41,8 +41,8 @@ impl Model for MemHost {
 }
 
 impl MemHost {
-    /// A host of these files, which opens at most so many disks in all and keeps a row of each;
-    /// or want of memory. An opening beyond the rows answers Failed.
+    /// A host of these files, which opens at most `rows` disks in all and keeps a row of each; or
+    /// out of memory. An opening beyond the rows answers Failed.
     pub fn new(
         alloc: Global,
         files: Vec<(Name, Bytes)>,
@@ -172,7 +172,7 @@ impl Host for MemHost {
     }
 
     /// Opens a file as a disk with a copy of its whole blocks. Failed where this call is one that
-    /// fails, where there is a row for each opening that may be made, and for want of memory.
+    /// fails, where there is a row for each opening that may be made, and where it is out of memory.
     fn open_disk(&mut self, name: &str, block_size: u32) -> Result<MemDisk, HostNo>
         requires { 0 < block_size }
         ensures disk { IfOk result (λ d. IsDiskOver (file_of name.now self.old.files) block_size (length self.old.openings) d) }

@@ -9,7 +9,7 @@ use bd_base::OutOfMemory;
 use std::alloc::Global;
 use std::marker::Model;
 
-/// A sink with room for so many bytes, which it reserves when it is made.
+/// A sink with room for a number of bytes, which it reserves when it is made.
 #[derive(Debug, Drop)]
 pub struct MemSink {
     bytes: Vec<u8>,
@@ -26,7 +26,7 @@ impl Model for MemSink {
 }
 
 impl MemSink {
-    /// An empty sink with room for so many bytes, or want of memory.
+    /// An empty sink with room for `room` bytes, or out of memory.
     pub fn new(alloc: Global, room: u64) -> Result<MemSink, OutOfMemory>
         ensures { IfOk result (λ s. s ≡ empty_sink room) }
     {

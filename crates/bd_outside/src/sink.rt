@@ -10,7 +10,7 @@ pub trait Sink {
     // how often it failed, and the bytes that it took, if it tells them
     ghost state: { Self → SinkState };
 
-    /// Takes a piece from the front of the bytes, and says how many bytes it took: at least one,
+    /// Takes a prefix of the bytes, and says how many bytes it took: at least one,
     /// where there are any.
     ///
     /// Failed: the sink took none, and its count of faults rose.
