@@ -1,16 +1,36 @@
--- What a disk holds: the bytes of its blocks, if it tells them.
-use Rattle.std.specs.Prelude.{◌≡◌, ℕ, ◌+◌, ◌*◌, ◌/◌, ◌%◌, ◌≤◌, ◌⊎◌, List, ◌++◌, length, take, drop, Option, None, Some}
+-- What a disk tells, and what it holds: the bytes of its blocks.
+use Rattle.std.specs.Prelude.{◌≡◌, ℕ, ◌+◌, ◌*◌, ◌/◌, ◌%◌, ◌≤◌, ◌⊎◌, List, ◌++◌, length, take, drop, Option, None, Some, IfSome}
 use Rattle.bd_outside.specs.File.{Told, Untold, NoFile, Content}
+use Rattle.bd_outside.specs.declared.opening.Closing.{Closing}
 
--- so many bytes from the start of a block on are whole blocks inside the disk
+-- the bytes of a block, how many blocks it has, their bytes, if it tells them, how often it failed, how many flushes
+-- were done, and its place among the openings of the host that opened it
+pub record DiskState : Type 0 where
+  pub block_size : ℕ
+  pub blocks : ℕ
+  pub content : Option (List ℕ)
+  pub faults : ℕ
+  pub flushes : ℕ
+  pub place : Option ℕ
+
+-- what its host keeps of it when it is closed
+abbrev pub closing_of : DiskState → Closing
+closing_of disk = record { content = disk.content; faults = disk.faults; flushes = disk.flushes }
+
+-- it has the same blocks of the same size, at the same place
+pub record HasSameShape (old new : DiskState) : Type 0 where
+  pub size : new.block_size ≡ old.block_size
+  pub blocks : new.blocks ≡ old.blocks
+  pub place : new.place ≡ old.place
+
+-- this number of bytes from the start of a block on is whole blocks inside the disk
 pub record IsInside (lba bytes size blocks : ℕ) : Type 0 where
   pub whole : bytes % size ≡ 0
   pub inside : lba * size + bytes ≤ blocks * size
 
--- the content is the bytes of so many blocks, or isn't told
-abbrev pub HasBlocks : Option (List ℕ) → ℕ → ℕ → Type 0
-HasBlocks None blocks size = Unit {0}
-HasBlocks (Some bytes) blocks size = length bytes ≡ blocks * size
+-- what it holds is the bytes of its blocks, or isn't told
+abbrev pub HasWholeBlocks : DiskState → Type 0
+HasWholeBlocks disk = IfSome disk.content (λ bytes. length bytes ≡ disk.blocks * disk.block_size)
 
 -- the piece is what the content has at that place, or the content isn't told
 abbrev pub Reads : Option (List ℕ) → ℕ → List ℕ → Type 0
@@ -26,8 +46,9 @@ abbrev pub content_written : Option (List ℕ) → ℕ → List ℕ → Option (
 content_written None at piece = None
 content_written (Some bytes) at piece = Some (overwritten bytes at piece)
 
--- what a disk holds that was opened over a file, if that is told: its whole blocks, or nothing that it tells
-abbrev pub IsOpenedOver : Told → ℕ → ℕ → Option (List ℕ) → Type 0
-IsOpenedOver Untold size blocks content = Unit {0}
-IsOpenedOver NoFile size blocks content = ⊥
-IsOpenedOver (Content file) size blocks content = (blocks ≡ length file / size) × ((content ≡ Some (take (blocks * size) file)) ⊎ (content ≡ None))
+-- a disk that was opened over a file has its whole blocks, and holds them or tells nothing, where the file is told
+abbrev pub IsOpenedOver : Told → DiskState → Type 0
+IsOpenedOver Untold disk = Unit {0}
+IsOpenedOver NoFile disk = ⊥
+IsOpenedOver (Content file) disk =
+    (disk.blocks ≡ length file / disk.block_size) × ((disk.content ≡ Some (take (disk.blocks * disk.block_size) file)) ⊎ (disk.content ≡ None))

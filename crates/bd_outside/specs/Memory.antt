@@ -7,21 +7,21 @@ use Rattle.bd_outside.specs.File.{Told, Untold, NoFile, Content}
 use Rattle.bd_outside.specs.Opening.{open_row, rows_closed}
 
 -- a sink in memory: the bytes that it took, how many it has room for in all, and how often it was full
-pub record SinkState : Type 0 where
+pub record MemorySink : Type 0 where
   pub bytes : List ℕ
   pub room : ℕ
   pub faults : ℕ
 
--- a new sink with room for so many bytes
-abbrev pub empty_sink : ℕ → SinkState
+-- a new sink with room for this number of bytes
+abbrev pub empty_sink : ℕ → MemorySink
 empty_sink room = record { bytes = []; room = room; faults = 0 }
 
 -- how many more bytes a sink has room for
-abbrev pub space : SinkState → ℕ
+abbrev pub space : MemorySink → ℕ
 space sink = sink.room - length sink.bytes
 
 -- a disk in memory: its bytes, the bytes of a block, its blocks, the flushes done, and its place among the openings of its host
-pub record DiskState : Type 0 where
+pub record MemoryDisk : Type 0 where
   pub content : List ℕ
   pub block_size : ℕ
   pub blocks : ℕ
@@ -29,14 +29,14 @@ pub record DiskState : Type 0 where
   pub place : Option ℕ
 
 -- a new disk with the whole blocks of these bytes, at a place among its host's openings, if it has a host
-abbrev pub disk_over : List ℕ → ℕ → Option ℕ → DiskState
+abbrev pub disk_over : List ℕ → ℕ → Option ℕ → MemoryDisk
 disk_over bytes size place =
     let blocks = length bytes / size in
     record { content = take (blocks * size) bytes; block_size = size; blocks = blocks; flushes = 0; place = place }
 
 -- a host in memory: its named files, its openings and how many it makes at most, which calls fail,
 -- how many calls were made, and how often it failed and found no file
-pub record HostState : Type 0 where
+pub record MemoryHost : Type 0 where
   pub files : List (List ℕ × List ℕ)
   pub openings : List Opening
   pub rows : ℕ
@@ -46,37 +46,37 @@ pub record HostState : Type 0 where
   pub absences : ℕ
 
 -- a new host of these files
-abbrev pub host_of : List (List ℕ × List ℕ) → ℕ → List ℕ → HostState
+abbrev pub host_of : List (List ℕ × List ℕ) → ℕ → List ℕ → MemoryHost
 host_of files rows fails =
     record { files = files; openings = []; rows = rows; fails = fails; calls = 0; faults = 0; absences = 0 }
 
 -- the next call of reading or opening is one of those that fail: calls are numbered from 1
-abbrev pub next_fails : HostState → Bool
+abbrev pub next_fails : MemoryHost → Bool
 next_fails host = list_any (λ call. call == one_more host.calls) host.fails
 
 -- the host after a call that failed
-abbrev pub failed_call : HostState → HostState
+abbrev pub failed_call : MemoryHost → MemoryHost
 failed_call host = record host { calls = one_more host.calls; faults = one_more host.faults }
 
 -- the host after a call that found no file
-abbrev pub absent_call : HostState → HostState
+abbrev pub absent_call : MemoryHost → MemoryHost
 absent_call host = record host { calls = one_more host.calls; absences = one_more host.absences }
 
 -- the host after a call that read
-abbrev pub read_call : HostState → HostState
+abbrev pub read_call : MemoryHost → MemoryHost
 read_call host = record host { calls = one_more host.calls }
 
--- the host after a call that opened a file as a disk of so many blocks
-abbrev pub open_call : HostState → List ℕ → ℕ → HostState
+-- the host after a call that opened a file as a disk of this number of blocks
+abbrev pub open_call : MemoryHost → List ℕ → ℕ → MemoryHost
 open_call host name blocks = record host { calls = one_more host.calls; openings = host.openings ++ open_row name blocks ∷ [] }
 
 -- a disk over the file, at a place among the host's openings
-abbrev pub IsDiskOver : Told → ℕ → ℕ → DiskState → Type 0
+abbrev pub IsDiskOver : Told → ℕ → ℕ → MemoryDisk → Type 0
 IsDiskOver Untold size place disk = ⊥
 IsDiskOver NoFile size place disk = ⊥
 IsDiskOver (Content file) size place disk = disk ≡ disk_over file size (Some place)
 
 -- the host after a disk was closed by that name
-abbrev pub close_call : HostState → List ℕ → DiskState → HostState
+abbrev pub close_call : MemoryHost → List ℕ → MemoryDisk → MemoryHost
 close_call host name disk =
     record host { openings = rows_closed host.openings disk.place name (record { content = Some disk.content; faults = 0; flushes = disk.flushes }) }

@@ -8,7 +8,7 @@ use Rattle.bd_outside.specs.declared.opening.Closing.{Closing}
 abbrev pub open_row : List ℕ → ℕ → Opening
 open_row name blocks = record { name = name; blocks = blocks; closing = None }
 
--- a row is added behind the others and the new disk has its place, or the host no longer tells its openings
+-- a row is added after the others and the new disk has its place, or the host no longer tells its openings
 abbrev pub AddsOpening : Option (List Opening) → Option (List Opening) → Opening → Option ℕ → Type 0
 AddsOpening None new row place = new ≡ None
 AddsOpening (Some rows) new row place = ((new ≡ Some (rows ++ row ∷ [])) × (place ≡ Some (length rows))) ⊎ (new ≡ None)

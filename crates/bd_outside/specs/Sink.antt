@@ -1,7 +1,12 @@
--- What a sink took.
-use Rattle.std.specs.Prelude.{◌≡◌, ℕ, List, ◌++◌, Option, None, Some}
+-- What a sink tells.
+use Rattle.std.specs.Prelude.{ℕ, List, Option}
+use Rattle.bd_outside.specs.Count.{Rises}
 
--- the bytes that a sink took so far gained these at their end, where it tells them
-abbrev pub Appends : Option (List ℕ) → Option (List ℕ) → List ℕ → Type 0
-Appends None new bytes = new ≡ None
-Appends (Some old) new bytes = new ≡ Some (old ++ bytes)
+-- how often it failed, and the bytes that it took, if it tells them
+pub record SinkState : Type 0 where
+  pub faults : ℕ
+  pub written : Option (List ℕ)
+
+-- it failed
+abbrev pub Fails : SinkState → SinkState → Type 0
+Fails old new = Rises old.faults new.faults

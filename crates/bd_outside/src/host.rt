@@ -12,46 +12,33 @@ pub enum HostNo {
 
 /// Files by name, and disks over them.
 pub trait Host {
-    ghost use Rattle.std.specs.Prelude.{◌≡◌, ◌<◌, ◌≤◌, ℕ, List, Option, Some, length, IfOk, OnOk, OnErr, IsErrOf};
-    ghost use Rattle.bd_outside.specs.Count.{Rises};
-    ghost use Rattle.bd_outside.specs.File.{Told, GivesPiece, IsAbsent};
-    ghost use Rattle.bd_outside.specs.Disk.{IsOpenedOver, HasBlocks};
-    ghost use Rattle.bd_outside.specs.Opening.{open_row, AddsOpening, openings_closed};
-    ghost use Rattle.bd_outside.specs.declared.opening.Opening.{Opening};
+    ghost use Rattle.std.specs.Prelude.{◌≡◌, ◌<◌, ◌≤◌, ℕ, List, length, IfOk, OnErr, IsErrOf};
+    ghost use Rattle.bd_outside.specs.File.{GivesPiece, IsAbsent};
+    ghost use Rattle.bd_outside.specs.Host.{HostState, TellsTheSame, IsLater, FailsAt, Misses, Opens, Closes};
+    ghost use Rattle.bd_outside.specs.Disk.{IsOpenedOver, HasWholeBlocks};
 
     /// A disk that is opened must be closed: it can't be dropped through this trait.
     type Disk: Disk;
 
-    // how often it failed
-    ghost faults: { Self → ℕ };
+    // its counts of faults and absences, what it tells of its files, and the disks that it opened
+    ghost state: { Self → HostState };
 
-    // how often there was no such file
-    ghost absences: { Self → ℕ };
-
-    // what it tells of the file of a name
-    ghost told: { Self → List ℕ → Told };
-
-    // the disks that it opened, one row for each opening, if it tells them
-    ghost openings: { Self → Option (List Opening) };
-
-    /// Reads from byte `at` of a file on into the front of the buffer, and says how many bytes
-    /// that gave; 0 for a buffer that isn't empty means the file's end. Behind these bytes the
+    /// Reads a file from byte `at` on into the start of the buffer, and says how many bytes
+    /// that gave; 0 for a buffer that isn't empty means the file's end. After these bytes the
     /// buffer may hold anything.
     ///
     /// Absent: there is no such file. Failed: the host failed. The buffer may hold anything after both.
     fn read_at(&mut self, name: &str, at: u64, to: &mut [u8]) -> Result<usize, HostNo>
         ensures within { IfOk result (λ n. n ≤ length to.old) }
-        ensures given { IfOk result (λ n. GivesPiece (told self.old name.now) at n to.new) }
-        ensures absent { IsErrOf result HostNo.Absent → IsAbsent (told self.old name.now) }
+        ensures given { IfOk result (λ n. GivesPiece ((state self.old).told name.now) at n to.new) }
+        ensures absent { IsErrOf result HostNo.Absent → IsAbsent ((state self.old).told name.now) }
 
-        ensures fault_count { faults self.old ≤ faults self.new }
-        ensures failed { IsErrOf result HostNo.Failed → Rises (faults self.old) (faults self.new) }
-        ensures absence_count { absences self.old ≤ absences self.new }
-        ensures absence { IsErrOf result HostNo.Absent → Rises (absences self.old) (absences self.new) }
-        ensures only_absence { absences self.old < absences self.new → IsErrOf result HostNo.Absent }
+        ensures failed { IsErrOf result HostNo.Failed → FailsAt (state self.old) (state self.new) name.now }
+        ensures absence { IsErrOf result HostNo.Absent → Misses (state self.old) (state self.new) name.now }
+        ensures only_absence { (other : List ℕ) → (state self.old).absences other < (state self.new).absences other → IsErrOf result HostNo.Absent }
 
-        ensures same_files { (other : List ℕ) → told self.new other ≡ told self.old other }
-        ensures same_openings { openings self.new ≡ openings self.old };
+        ensures later { IsLater (state self.old) (state self.new) }
+        ensures same_openings { (state self.new).openings ≡ (state self.old).openings };
 
     /// Opens a file as a disk of blocks of that many bytes, at least 1: as many whole blocks as
     /// the file has. The disk's counts begin at 0. Each opened disk is an object of its own.
@@ -59,29 +46,25 @@ pub trait Host {
     /// Absent: there is no such file. Failed: the host failed.
     fn open_disk(&mut self, name: &str, block_size: u32) -> Result<Self::Disk, HostNo>
         requires { 0 < block_size }
-        ensures size { IfOk result (λ d. Self.Disk.block_size d ≡ block_size) }
-        ensures over { IfOk result (λ d. IsOpenedOver (told self.old name.now) block_size (Self.Disk.blocks d) (Self.Disk.content d)) }
-        ensures whole { IfOk result (λ d. HasBlocks (Self.Disk.content d) (Self.Disk.blocks d) block_size) }
-        ensures no_faults { IfOk result (λ d. Self.Disk.faults d ≡ 0) }
-        ensures no_flushes { IfOk result (λ d. Self.Disk.flushes d ≡ 0) }
-        ensures row { IfOk result (λ d. AddsOpening (openings self.old) (openings self.new)
-            (open_row name.now (Self.Disk.blocks d)) (Self.Disk.place d)) }
-        ensures no_row { OnErr result (openings self.new ≡ openings self.old) }
-        ensures absent { IsErrOf result HostNo.Absent → IsAbsent (told self.old name.now) }
+        ensures size { IfOk result (λ d. (Self.Disk.state d).block_size ≡ block_size) }
+        ensures over { IfOk result (λ d. IsOpenedOver ((state self.old).told name.now) (Self.Disk.state d)) }
+        ensures whole { IfOk result (λ d. HasWholeBlocks (Self.Disk.state d)) }
+        ensures no_faults { IfOk result (λ d. (Self.Disk.state d).faults ≡ 0) }
+        ensures no_flushes { IfOk result (λ d. (Self.Disk.state d).flushes ≡ 0) }
+        ensures row { IfOk result (λ d. Opens (state self.old) (state self.new) name.now (Self.Disk.state d)) }
+        ensures no_row { OnErr result ((state self.new).openings ≡ (state self.old).openings) }
+        ensures absent { IsErrOf result HostNo.Absent → IsAbsent ((state self.old).told name.now) }
 
-        ensures fault_count { faults self.old ≤ faults self.new }
-        ensures failed { IsErrOf result HostNo.Failed → Rises (faults self.old) (faults self.new) }
-        ensures absence_count { absences self.old ≤ absences self.new }
-        ensures absence { IsErrOf result HostNo.Absent → Rises (absences self.old) (absences self.new) }
-        ensures only_absence { absences self.old < absences self.new → IsErrOf result HostNo.Absent }
+        ensures failed { IsErrOf result HostNo.Failed → FailsAt (state self.old) (state self.new) name.now }
+        ensures absence { IsErrOf result HostNo.Absent → Misses (state self.old) (state self.new) name.now }
+        ensures only_absence { (other : List ℕ) → (state self.old).absences other < (state self.new).absences other → IsErrOf result HostNo.Absent }
 
-        ensures same_files { (other : List ℕ) → told self.new other ≡ told self.old other };
+        ensures later { IsLater (state self.old) (state self.new) };
 
     /// Closes a disk by its file's name: its row has its content and counts from then on. It can't fail.
     fn close_disk(&mut self, name: &str, disk: Self::Disk)
-        ensures row { openings self.new ≡ openings_closed (openings self.old) (Self.Disk.place disk) name.now
-            (record { content = Self.Disk.content disk; faults = Self.Disk.faults disk; flushes = Self.Disk.flushes disk }) }
-        ensures fault_count { faults self.new ≡ faults self.old }
-        ensures absence_count { absences self.new ≡ absences self.old }
-        ensures same_files { (other : List ℕ) → told self.new other ≡ told self.old other };
+        ensures row { Closes (state self.old) (state self.new) name.now (Self.Disk.state disk) }
+        ensures fault_count { (state self.new).faults ≡ (state self.old).faults }
+        ensures absence_count { (state self.new).absences ≡ (state self.old).absences }
+        ensures same_files { TellsTheSame (state self.old) (state self.new) };
 }

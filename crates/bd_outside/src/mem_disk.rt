@@ -1,6 +1,6 @@
 //! A disk in memory.
 ghost use Rattle.std.specs.Prelude.{◌≡◌, ◌<◌, ◌*◌, Some, None, length};
-ghost use Rattle.bd_outside.specs.Memory.{DiskState, disk_over};
+ghost use Rattle.bd_outside.specs.Memory.{MemoryDisk, disk_over};
 
 use crate::disk::Disk;
 use crate::failed::Failed;
@@ -19,7 +19,7 @@ pub struct MemDisk {
 }
 
 impl Model for MemDisk {
-    ghost Value = { DiskState };
+    ghost Value = { MemoryDisk };
 
     ghost view = { λ d. record { content = d.content.items; block_size = d.block_size; blocks = d.blocks; flushes = d.flushes; place = d.place } };
 
@@ -27,7 +27,7 @@ impl Model for MemDisk {
 }
 
 impl MemDisk {
-    /// A disk with the whole blocks of these bytes; what is behind the last whole block is dropped.
+    /// A disk with the whole blocks of these bytes; what comes after the last whole block is dropped.
     /// It takes no memory; the allocator comes first as in each call that makes a value which
     /// holds memory.
     pub fn new(_alloc: Global, content: Bytes, block_size: u32) -> MemDisk
@@ -84,17 +84,14 @@ impl MemDisk {
 }
 
 impl Disk for MemDisk {
-    ghost block_size = { λ d. d.block_size };
-
-    ghost blocks = { λ d. d.blocks };
-
-    ghost content = { λ d. Some d.content };
-
-    ghost faults = { λ _. 0 };
-
-    ghost flushes = { λ d. d.flushes };
-
-    ghost place = { λ d. d.place };
+    ghost state = { λ d. record {
+      block_size = d.block_size;
+      blocks = d.blocks;
+      content = Some d.content;
+      faults = 0;
+      flushes = d.flushes;
+      place = d.place;
+    } };
 
     fn blocks(&self) -> u64 {
         self.blocks

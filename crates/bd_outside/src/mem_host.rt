@@ -2,7 +2,7 @@
 ghost use Rattle.std.specs.Prelude.{◌≡◌, ◌<◌, ◌≤◌, ℕ, List, Some, false, length, take, drop, min, IsTrue, IsErr, IfOk, IsErrOf, MatchOption};
 ghost use Rattle.bd_outside.specs.Count.{one_more};
 ghost use Rattle.bd_outside.specs.File.{file_of, rest_of, NoFile, Content, GivesPiece};
-ghost use Rattle.bd_outside.specs.Memory.{HostState, host_of, next_fails, failed_call, absent_call, read_call, open_call, close_call, IsDiskOver};
+ghost use Rattle.bd_outside.specs.Memory.{MemoryHost, host_of, next_fails, failed_call, absent_call, read_call, open_call, close_call, IsDiskOver};
 ghost use Rattle.bd_outside.specs.declared.opening.Opening.{Opening};
 
 use crate::disk::Disk;
@@ -27,7 +27,7 @@ pub struct MemHost {
 }
 
 impl Model for MemHost {
-    ghost Value = { HostState };
+    ghost Value = { MemoryHost };
 
     ghost view = { λ h. record {
       files = h.files.items;
@@ -41,8 +41,8 @@ impl Model for MemHost {
 }
 
 impl MemHost {
-    /// A host of these files, which opens at most so many disks in all and keeps a row of each;
-    /// or want of memory. An opening beyond the rows answers Failed.
+    /// A host of these files, which opens at most `rows` disks in all and keeps a row of each; or
+    /// out of memory. An opening beyond the rows answers Failed.
     pub fn new(
         alloc: Global,
         files: Vec<(Name, Bytes)>,
@@ -143,13 +143,12 @@ fn copy_from(file: &[u8], at: u64, to: &mut [u8]) -> usize
 impl Host for MemHost {
     type Disk = MemDisk;
 
-    ghost faults = { λ h. h.faults };
-
-    ghost absences = { λ h. h.absences };
-
-    ghost told = { λ h name. file_of name h.files };
-
-    ghost openings = { λ h. Some h.openings };
+    ghost state = { λ h. record {
+      faults = λ name. h.faults;
+      absences = λ name. h.absences;
+      told = λ name. file_of name h.files;
+      openings = Some h.openings;
+    } };
 
     /// Gives as many bytes as there are and fit. Failed exactly where this call is one that fails.
     fn read_at(&mut self, name: &str, at: u64, to: &mut [u8]) -> Result<usize, HostNo>
@@ -173,7 +172,7 @@ impl Host for MemHost {
     }
 
     /// Opens a file as a disk with a copy of its whole blocks. Failed where this call is one that
-    /// fails, where there is a row for each opening that may be made, and for want of memory.
+    /// fails, where there is a row for each opening that may be made, and where it is out of memory.
     fn open_disk(&mut self, name: &str, block_size: u32) -> Result<MemDisk, HostNo>
         requires { 0 < block_size }
         ensures disk { IfOk result (λ d. IsDiskOver (file_of name.now self.old.files) block_size (length self.old.openings) d) }

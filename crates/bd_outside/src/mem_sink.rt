@@ -1,6 +1,6 @@
 //! Output in memory.
 ghost use Rattle.std.specs.Prelude.{◌≡◌, ◌++◌, ◌<◌, ◌≤◌, Some, length, take, min, IfOk, OnErr, vec_len, vec_capacity};
-ghost use Rattle.bd_outside.specs.Memory.{SinkState, empty_sink, space};
+ghost use Rattle.bd_outside.specs.Memory.{MemorySink, empty_sink, space};
 ghost use Rattle.bd_outside.specs.Count.{one_more};
 
 use crate::failed::Failed;
@@ -9,7 +9,7 @@ use bd_base::OutOfMemory;
 use std::alloc::Global;
 use std::marker::Model;
 
-/// A sink with room for so many bytes, which it reserves when it is made.
+/// A sink with room for a number of bytes, which it reserves when it is made.
 #[derive(Debug, Drop)]
 pub struct MemSink {
     bytes: Vec<u8>,
@@ -18,7 +18,7 @@ pub struct MemSink {
 }
 
 impl Model for MemSink {
-    ghost Value = { SinkState };
+    ghost Value = { MemorySink };
 
     ghost view = { λ s. record { bytes = s.bytes.items; room = s.room; faults = s.faults } };
 
@@ -26,7 +26,7 @@ impl Model for MemSink {
 }
 
 impl MemSink {
-    /// An empty sink with room for so many bytes, or want of memory.
+    /// An empty sink with room for `room` bytes, or out of memory.
     pub fn new(alloc: Global, room: u64) -> Result<MemSink, OutOfMemory>
         ensures { IfOk result (λ s. s ≡ empty_sink room) }
     {
@@ -54,9 +54,7 @@ impl MemSink {
 }
 
 impl Sink for MemSink {
-    ghost faults = { λ s. s.faults };
-
-    ghost written = { λ s. Some s.bytes };
+    ghost state = { λ s. record { faults = s.faults; written = Some s.bytes } };
 
     /// Takes as many bytes as there is room for. Failed exactly where there are bytes and no room.
     fn put(&mut self, bytes: &[u8]) -> Result<usize, Failed>

@@ -1,13 +1,14 @@
 -- How pieces of a file, and of an output, come together.
-use Rattle.std.proofs.Common.{◌≡◌, ℕ, ◌+◌, ◌-◌, ◌<◌, ◌≤◌, inl, inr, List, ◌++◌, length, take, drop, Option, None, Some, sym, ◌∙◌, ap, subst, append_assoc, length-append, arith}
+use Rattle.std.proofs.Common.{◌≡◌, ℕ, ◌+◌, ◌-◌, ◌<◌, ◌≤◌, inl, inr, List, [], ◌++◌, length, take, drop, Option, None, Some, refl, sym, ◌∙◌, ap, subst, append_assoc, length-append, arith}
 use Rattle.std.proofs.Math.Seq.{take-add}
 use Rattle.std.proofs.lemmas.List.{length-take, length-drop, append-nil, take_all, take-take}
+use Rattle.std.specs.Io.KnownBytes.{Appends, Keeps}
 use Rattle.bd_outside.specs.Count.{Rises}
 use Rattle.bd_outside.specs.File.{Told, Untold, NoFile, Content, GivesPiece, ReadsAt, IsWhole}
-use Rattle.bd_outside.specs.Sink.{Appends}
+use Rattle.bd_outside.specs.Host.{HostState, IsLater, FailsAt, Misses}
 use Rattle.bd_top.specs.Files.{IsRead, IsTooLong}
 
--- these bytes are the front of the file, where it is told
+-- these bytes are a prefix of the file, where it is told
 abbrev pub IsFront : Told → List ℕ → Type 0
 IsFront Untold all = Unit {0}
 IsFront NoFile all = Unit {0}
@@ -16,6 +17,26 @@ IsFront (Content file) all = all ≡ take (length all) file
 pub rises_from : (a b c : ℕ) → a ≤ b → Rises b c → Rises a c
 rises_from a b c le (inl lt) = inl (omega arith)
 rises_from a b c le (inr e) = inr e
+
+-- ---- states of a host
+
+pub later_same : (a : HostState) → IsLater a a
+later_same a = record { told = λ name. refl; faults = λ name. omega arith; absences = λ name. omega arith }
+
+pub later_then : (a b c : HostState) → IsLater a b → IsLater b c → IsLater a c
+later_then a b c p q = record {
+  told = λ name. q.told name ∙ p.told name;
+  faults = λ name. omega (arith, p.faults name, q.faults name);
+  absences = λ name. omega (arith, p.absences name, q.absences name);
+}
+
+pub fails_from : (a b c : HostState) (name : List ℕ) → IsLater a b → FailsAt b c name → FailsAt a c name
+fails_from a b c name p q = rises_from (a.faults name) (b.faults name) (c.faults name) (p.faults name) q
+
+pub misses_from : (a b c : HostState) (name : List ℕ) → IsLater a b → Misses b c name → Misses a c name
+misses_from a b c name p q = rises_from (a.absences name) (b.absences name) (c.absences name) (p.absences name) q
+
+-- ---- pieces of a file
 
 front_more_in : (file all chunk : List ℕ) (n m : ℕ) → all ≡ take (length all) file → ReadsAt file (length all) n chunk → m ≤ n → all ++ take m chunk ≡ take (length (all ++ take m chunk)) file
 front_more_in file all chunk n m front given le =
@@ -30,7 +51,7 @@ front_more_at Untold all chunk n m front given le = tt
 front_more_at NoFile all chunk n m front given le = tt
 front_more_at (Content file) all chunk n m front given le = front_more_in file all chunk n m front given le
 
--- a piece read behind a front, or the front of such a piece
+-- a piece read after a prefix, or a prefix of such a piece
 pub front_more : (t u : Told) (all chunk : List ℕ) (n m : ℕ) → u ≡ t → IsFront t all → GivesPiece u (length all) n chunk → m ≤ n → IsFront t (all ++ take m chunk)
 front_more t u all chunk n m e front given le =
     let P : Told → Type 0 = λ x. GivesPiece x (length all) n chunk in
@@ -51,7 +72,7 @@ front_end t u all chunk n m e front given zero le some short =
     let read : IsRead t all = record { whole = front_end_at t all chunk n front (subst P e given) zero some; short = omega arith } in
     subst R (sym nothing) (subst Q (sym (append-nil all)) read)
 
--- a front that is longer than a file may be, of a file that some piece came from
+-- a prefix that is longer than a file may be, of a file that some piece came from
 pub front_over : (t u : Told) (all chunk : List ℕ) (at n : ℕ) → u ≡ t → GivesPiece u at n chunk → IsFront t all → length all ≡ 8388609 → IsTooLong t
 front_over t u all chunk at n e given front size = front_over_at t all chunk at n (let P : Told → Type 0 = λ x. GivesPiece x at n chunk in subst P e given) front size
   where
@@ -60,12 +81,23 @@ front_over t u all chunk at n e given front size = front_over_at t all chunk at 
     front_over_at NoFile all chunk at n given front size = given
     front_over_at (Content file) all chunk at n given front size = omega (arith, ap length front, length-take (length all) file)
 
+-- ---- pieces of an output
+
+pub appends_nothing : (a : Option (List ℕ)) → Appends a a []
+appends_nothing None = tt
+appends_nothing (Some xs) = sym (append-nil xs)
+
+pub appends_kept : (a b c : Option (List ℕ)) (xs : List ℕ) → Appends a b xs → Keeps b c → Appends a c xs
+appends_kept None b c xs p q = tt
+appends_kept (Some old) None c xs p q = absurd p
+appends_kept (Some old) (Some mid) None xs p q = absurd q
+appends_kept (Some old) (Some mid) (Some new) xs p q = q ∙ p
+
 pub appends_more : (a b c : Option (List ℕ)) (xs ys : List ℕ) → Appends a b xs → Appends b c ys → Appends a c (xs ++ ys)
-appends_more None None c xs ys p q = q
-appends_more None (Some b) c xs ys p q = absurd (cc)
-appends_more (Some a) None c xs ys p q = absurd (cc)
-appends_more (Some a) (Some b) c xs ys p q =
-    let e : b ≡ a ++ xs = cc in q ∙ ap (λ z. Some (z ++ ys)) e ∙ ap Some (append_assoc a xs ys)
+appends_more None b c xs ys p q = tt
+appends_more (Some old) None c xs ys p q = absurd p
+appends_more (Some old) (Some mid) None xs ys p q = absurd q
+appends_more (Some old) (Some mid) (Some new) xs ys p q = q ∙ ap (λ z. z ++ ys) p ∙ append_assoc old xs ys
 
 -- the next piece of the same bytes, of which `&bytes[i..]` was handed out
 pub appends_next : (a b c : Option (List ℕ)) (bytes : List ℕ) (i n : ℕ) → Appends a b (take i bytes) → Appends b c (take n (take (length bytes - i) (drop i bytes))) → Appends a c (take (i + n) bytes)

@@ -1,5 +1,5 @@
--- Where both files are in form and nothing fails, a run ends well but for want of memory.
-use Rattle.std.proofs.Common.{◌≡◌, ℕ, ◌+◌, ◌≤◌, ◌<◌, Bool, true, false, ◌==◌, not, ◌||◌, ◌⊎◌, inl, inr, List, [], ◌∷◌, ◌++◌, length, take, drop, None, Some, refl, sym, ◌∙◌, ap, subst, arith}
+-- Where both files are in form and nothing fails, a run ends well unless it is out of memory.
+use Rattle.std.proofs.Common.{◌≡◌, ℕ, ◌+◌, ◌≤◌, ◌<◌, Bool, true, false, ◌==◌, not, ◌||◌, ◌⊎◌, inl, inr, List, [], ◌∷◌, ◌++◌, length, take, drop, None, Some, refl, sym, ◌∙◌, ap, subst, arith, string_bytes}
 use Rattle.std.specs.Prelude.{option_map}
 use Rattle.std.specs.List.{list_all, list_any}
 use Rattle.std.proofs.lemmas.Bool.{and_parts}
@@ -10,12 +10,14 @@ use Rattle.bd_base.specs.declared.job.Script.{Script}
 use Rattle.bd_jobs.specs.ScriptGrammar.{commands_from, commands_of, scripts_below, scripts_of, IsFirstOutside, text_lines}
 use Rattle.bd_jobs.proofs.ReadLemmas.{from-append, from-none}
 use Rattle.bd_outside.specs.File.{Told, Content}
+use Rattle.bd_outside.specs.Host.{HostState}
+use Rattle.bd_outside.specs.Sink.{SinkState}
 use Rattle.bd_top.specs.declared.fault.Fault.{Fault}
 use Rattle.bd_top.specs.declared.fault.Fault.TheVariants as faults
 use Rattle.bd_top.specs.Built.{lines_in, AreBuilt, is_built_line, is_not_built_at, IsFirstNotBuilt}
 use Rattle.bd_top.specs.Config.{IsConfig}
 use Rattle.bd_top.specs.Files.{IsRead, IsTooLong, max_file}
-use Rattle.bd_top.specs.Run.{AreInForm, Cause, FileCause, IsNoText, IsNotSupported, IsOutside, Moved, NothingFails}
+use Rattle.bd_top.specs.Run.{AreInForm, Cause, FileCause, IsDue, IsNoText, IsNotSupported, IsOutside, NothingFails}
 use Rattle.bd_top.specs.Words.{Arguments, arguments_of}
 
 -- ---- what is read of a file that is told
@@ -79,37 +81,38 @@ script_supported threads t file scripts line e mean built out =
     let first : IsFirstNotBuilt (lines_in scripts) line = subst P one out.first in
     none_at line (lines_in scripts) built first.here
 
-module _ (words : List (List ℕ)) (told : List ℕ → Told) (m : Moved) (form : AreInForm words told) (quiet : NothingFails m) where
+module _ (words : List (List ℕ)) (old new : HostState) (before after : SinkState) (form : AreInForm words old) (quiet : NothingFails old new before after) where
   same_arguments : (asked : Arguments) → arguments_of words ≡ Some asked → form.arguments ≡ asked
   same_arguments asked named =
       let both : Some form.arguments ≡ Some asked = sym form.named ∙ named in
       cc
 
+  -- neither of the two files is too long
+  none_too_long : (name : List ℕ) → IsDue old form.arguments.config form.arguments.jobs name → IsTooLong (old.told name) → ⊥
+  none_too_long name (inl e) long = not_too_long (old.told name) form.config (ap old.told e ∙ form.config_told) form.config_means.short long
+  none_too_long name (inr due) long = not_too_long (old.told name) form.jobs (ap old.told due.0 ∙ form.jobs_told) form.jobs_short long
+
   -- neither file gives a fault
-  pub file_gives_none : (fault : Fault) → FileCause told form.arguments.config form.arguments.jobs form.arguments.threads m.host fault → fault ≡ faults.OutOfMemory
+  pub file_gives_none : (fault : Fault) → FileCause old new form.arguments.config form.arguments.jobs form.arguments.threads fault → fault ≡ faults.OutOfMemory
   file_gives_none faults.Usage cause = absurd cause
-  file_gives_none (faults.NoFile name) cause = absurd (quiet.files cause.2)
-  file_gives_none (faults.TooLong name) cause = absurd (neither cause.0)
-    where
-      neither : (name ≡ form.arguments.config) ⊎ (name ≡ form.arguments.jobs) → ⊥
-      neither (inl e) = not_too_long (told name) form.config (ap told e ∙ form.config_told) form.config_means.short cause.1
-      neither (inr e) = not_too_long (told name) form.jobs (ap told e ∙ form.jobs_told) form.jobs_short cause.1
-  file_gives_none (faults.ReadFault name) cause = absurd (quiet.host cause.1)
+  file_gives_none (faults.NoFile name) cause = absurd (quiet.files (string_bytes name) cause.2)
+  file_gives_none (faults.TooLong name) cause = absurd (none_too_long (string_bytes name) cause.0 cause.1)
+  file_gives_none (faults.ReadFault name) cause = absurd (quiet.host (string_bytes name) cause.1)
   file_gives_none faults.WriteFault cause = absurd cause
-  file_gives_none (faults.ConfigShape place) cause = absurd (config_inside (told form.arguments.config) form.config form.row form.config_told form.config_means cause.1)
+  file_gives_none (faults.ConfigShape place) cause = absurd (config_inside (old.told form.arguments.config) form.config form.row form.config_told form.config_means cause.1)
   file_gives_none (faults.JobText line) cause =
-      absurd (script_inside form.arguments.threads (told form.arguments.jobs) form.jobs form.scripts line form.jobs_told form.jobs_mean cause.1)
+      absurd (script_inside form.arguments.threads (old.told form.arguments.jobs) form.jobs form.scripts line form.jobs_told form.jobs_mean cause.1)
   file_gives_none (faults.NotSupported line) cause =
-      absurd (script_supported form.arguments.threads (told form.arguments.jobs) form.jobs form.scripts line form.jobs_told form.jobs_mean form.built cause.1)
+      absurd (script_supported form.arguments.threads (old.told form.arguments.jobs) form.jobs form.scripts line form.jobs_told form.jobs_mean form.built cause.1)
   file_gives_none faults.OutOfMemory cause = refl
 
-  of_files : (asked : Arguments) (fault : Fault) → arguments_of words ≡ Some asked → FileCause told asked.config asked.jobs asked.threads m.host fault → fault ≡ faults.OutOfMemory
+  of_files : (asked : Arguments) (fault : Fault) → arguments_of words ≡ Some asked → FileCause old new asked.config asked.jobs asked.threads fault → fault ≡ faults.OutOfMemory
   of_files asked fault named cause =
-      let P : Arguments → Type 0 = λ a. FileCause told a.config a.jobs a.threads m.host fault in
+      let P : Arguments → Type 0 = λ a. FileCause old new a.config a.jobs a.threads fault in
       file_gives_none fault (subst P (sym (same_arguments asked named)) cause)
 
-  -- the cause of a fault is want of memory
-  pub only_memory : (fault : Fault) → Cause words told m fault → fault ≡ faults.OutOfMemory
+  -- the cause of a fault is out of memory
+  pub only_memory : (fault : Fault) → Cause words old new before after fault → fault ≡ faults.OutOfMemory
   only_memory faults.Usage cause =
       let both : Some form.arguments ≡ None = sym form.named ∙ cause in
       absurd (cc)

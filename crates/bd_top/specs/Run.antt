@@ -1,5 +1,6 @@
 -- What a run that ends with Ok is, and why another one ends.
-use Rattle.std.specs.Prelude.{◌≡◌, ℕ, ◌<◌, ◌≤◌, true, List, [], ◌∷◌, ◌++◌, length, Option, None, Some, ◌⊎◌}
+use Rattle.std.specs.Prelude.{◌≡◌, ℕ, ◌<◌, ◌≤◌, true, List, [], ◌∷◌, ◌++◌, length, None, Some, ◌⊎◌, string_bytes}
+use Rattle.std.specs.Io.KnownBytes.{Appends}
 use Rattle.bd_base.specs.declared.act.Entry.{Entry}
 use Rattle.bd_base.specs.declared.device.DevRow.{DevRow}
 use Rattle.bd_base.specs.declared.id.DevId.{DevId}
@@ -11,9 +12,9 @@ use Rattle.bd_machine.specs.Run.{IsCompleteRun}
 use Rattle.bd_machine.specs.Start.{dev_of}
 use Rattle.bd_alone.specs.Laws.{GoesAsFar, IsAfterLastClose}
 use Rattle.bd_jobs.specs.ScriptGrammar.{scripts_of, IsFirstOutside}
-use Rattle.bd_outside.specs.Count.{Rises}
 use Rattle.bd_outside.specs.File.{Told, IsAbsent, Content}
-use Rattle.bd_outside.specs.Sink.{Appends}
+use Rattle.bd_outside.specs.Host.{HostState, FailsAt, Misses}
+use Rattle.bd_outside.specs.Sink.{SinkState, Fails}
 use Rattle.bd_report.specs.Report.{report_of}
 use Rattle.bd_top.specs.declared.fault.Fault.{Fault}
 use Rattle.bd_top.specs.declared.fault.Fault.TheVariants.{Usage, NoFile, TooLong, ReadFault, WriteFault, ConfigShape, JobText, NotSupported, OutOfMemory}
@@ -23,13 +24,14 @@ use Rattle.bd_top.specs.declared.inputs.ScriptNo.{ScriptNo}
 use Rattle.bd_top.specs.declared.inputs.ScriptNo.TheVariants as script_nos
 use Rattle.bd_top.specs.Built.{lines_in, AreBuilt, IsFirstNotBuilt}
 use Rattle.bd_top.specs.Config.{IsConfig}
-use Rattle.bd_top.specs.Files.{IsRead, IsTooLong, max_file, HostMoved, host_moved, ReadCause, AppendsFront}
+use Rattle.bd_top.specs.Files.{IsRead, IsTooLong, max_file, ReadCause, AppendsPrefix}
 use Rattle.bd_top.specs.Setup.{setup_of}
 use Rattle.bd_top.specs.Words.{Arguments, arguments_of}
 
 -- ---- a history
 
--- the script of each thread goes as far as it can: at the Shutdown it is at its end or at a line that waits, and the lines before that one are exactly those that were done
+-- the script of each thread goes as far as it can: at the Shutdown it is at its end or at a line that waits,
+-- and the lines before that one are exactly those that were done
 abbrev pub GoAsFar : Setup → List Entry → Type 0
 GoAsFar setup trace = (t : ℕ) → t < setup.threads → GoesAsFar setup [] trace t
 
@@ -43,7 +45,8 @@ AreDestructedOnce setup trace = (n : ℕ) → n < length setup.devices → count
 
 -- where a device is destructed, it was closed for the last time before
 abbrev pub AreAfterLastClose : Setup → List Entry → Type 0
-AreAfterLastClose setup trace = (dev : DevId) (before : List Entry) (e : Entry) (behind : List Entry) → trace ≡ before ++ e ∷ behind → is_destruct_of dev e.act ≡ true → IsAfterLastClose setup [] dev before behind
+AreAfterLastClose setup trace = (dev : DevId) (before : List Entry) (e : Entry) (after : List Entry)
+    → trace ≡ before ++ e ∷ after → is_destruct_of dev e.act ≡ true → IsAfterLastClose setup [] dev before after
 
 -- ---- Ok
 
@@ -53,7 +56,7 @@ pub record IsDevice (config : Told) (row : DevRow) : Type 0 where
   pub read : IsRead config bytes
   pub means : IsConfig bytes row
 
--- the bytes of the script give so many threads these scripts, and each of their commands is carried out
+-- the bytes of the script give these scripts of this number of threads, and each of their commands is carried out
 pub record IsScript (threads : ℕ) (jobs : Told) (scripts : List Script) : Type 0 where
   pub bytes : List ℕ
   pub read : IsRead jobs bytes
@@ -96,108 +99,100 @@ pub record IsPlayed (words : List (List ℕ)) (told : List ℕ → Told) (trace 
   pub says : report ≡ report_of (setup_of arguments.threads row jobs) trace
 
 -- the two files were played, and the output gained the report
-pub record IsRun (words : List (List ℕ)) (told : List ℕ → Told) (trace : List Entry) (old new : Option (List ℕ)) : Type 0 where
+pub record IsRun (words : List (List ℕ)) (host : HostState) (trace : List Entry) (old new : SinkState) : Type 0 where
   pub report : List ℕ
-  pub played : IsPlayed words told trace report
-  pub output : Appends old new report
+  pub played : IsPlayed words host.told trace report
+  pub output : Appends old.written new.written report
 
 -- ---- faults
 
+-- the bytes of the configuration give some device, as far as the host tells its file
+abbrev pub IsConfigured : Told → Type 0
+IsConfigured config = (row : DevRow) × IsDevice config row
+
+-- the file of this name was due: the configuration first, and the script only once the configuration is in form
+abbrev pub IsDue : HostState → List ℕ → List ℕ → List ℕ → Type 0
+IsDue host config jobs name = (name ≡ config) ⊎ ((name ≡ jobs) × IsConfigured (host.told config))
+
 -- why a configuration gives no device
-abbrev pub DeviceCause : Told → HostMoved → DeviceNo → Type 0
-DeviceCause config m (device_nos.File why) = ReadCause config m why
-DeviceCause config m device_nos.Outside = IsOutside config
-DeviceCause config m device_nos.OutOfMemory = Unit {0}
+abbrev pub DeviceCause : HostState → HostState → List ℕ → DeviceNo → Type 0
+DeviceCause old new config (device_nos.File why) = ReadCause old new config why
+DeviceCause old new config device_nos.Outside = IsOutside (old.told config)
+DeviceCause old new config device_nos.OutOfMemory = Unit {0}
 
--- why a file gives so many threads no scripts
-abbrev pub ScriptCause : ℕ → Told → HostMoved → ScriptNo → Type 0
-ScriptCause threads jobs m (script_nos.File why) = ReadCause jobs m why
-ScriptCause threads jobs m (script_nos.Text line) = IsNoText threads jobs line
-ScriptCause threads jobs m (script_nos.NotBuilt line) = IsNotSupported threads jobs line
-ScriptCause threads jobs m script_nos.OutOfMemory = Unit {0}
+-- why a file gives no scripts of this number of threads
+abbrev pub ScriptCause : HostState → HostState → List ℕ → ℕ → ScriptNo → Type 0
+ScriptCause old new jobs threads (script_nos.File why) = ReadCause old new jobs why
+ScriptCause old new jobs threads (script_nos.Text line) = IsNoText threads (old.told jobs) line
+ScriptCause old new jobs threads (script_nos.NotBuilt line) = IsNotSupported threads (old.told jobs) line
+ScriptCause old new jobs threads script_nos.OutOfMemory = Unit {0}
 
--- the fault comes from one of two files: the configuration, or with that in its form the script of so many threads
-abbrev pub FileCause : (List ℕ → Told) → List ℕ → List ℕ → ℕ → HostMoved → Fault → Type 0
-FileCause told config jobs threads m Usage = ⊥
-FileCause told config jobs threads m (NoFile name) = ((name ≡ config) ⊎ (name ≡ jobs)) × IsAbsent (told name) × Rises m.absences_old m.absences_new
-FileCause told config jobs threads m (TooLong name) = ((name ≡ config) ⊎ (name ≡ jobs)) × IsTooLong (told name)
-FileCause told config jobs threads m (ReadFault name) = ((name ≡ config) ⊎ (name ≡ jobs)) × Rises m.faults_old m.faults_new
-FileCause told config jobs threads m (ConfigShape place) = (place ≡ 0) × IsOutside (told config)
-FileCause told config jobs threads m (JobText line) = ((row : DevRow) × IsDevice (told config) row) × IsNoText threads (told jobs) line
-FileCause told config jobs threads m (NotSupported line) = ((row : DevRow) × IsDevice (told config) row) × IsNotSupported threads (told jobs) line
-FileCause told config jobs threads m WriteFault = ⊥
-FileCause told config jobs threads m OutOfMemory = Unit {0}
+-- the fault comes from one of two files: the configuration, or with that in its form the script of this number of threads
+abbrev pub FileCause : HostState → HostState → List ℕ → List ℕ → ℕ → Fault → Type 0
+FileCause old new config jobs threads Usage = ⊥
+FileCause old new config jobs threads (NoFile name) =
+    IsDue old config jobs (string_bytes name) × IsAbsent (old.told (string_bytes name)) × Misses old new (string_bytes name)
+FileCause old new config jobs threads (TooLong name) = IsDue old config jobs (string_bytes name) × IsTooLong (old.told (string_bytes name))
+FileCause old new config jobs threads (ReadFault name) = IsDue old config jobs (string_bytes name) × FailsAt old new (string_bytes name)
+FileCause old new config jobs threads (ConfigShape place) = (place ≡ 0) × IsOutside (old.told config)
+FileCause old new config jobs threads (JobText line) = IsConfigured (old.told config) × IsNoText threads (old.told jobs) line
+FileCause old new config jobs threads (NotSupported line) = IsConfigured (old.told config) × IsNotSupported threads (old.told jobs) line
+FileCause old new config jobs threads WriteFault = ⊥
+FileCause old new config jobs threads OutOfMemory = Unit {0}
 
 -- the words name two files, and one of them gives this fault
-pub record IsOfFiles (words : List (List ℕ)) (told : List ℕ → Told) (m : HostMoved) (fault : Fault) : Type 0 where
+pub record IsOfFiles (words : List (List ℕ)) (old new : HostState) (fault : Fault) : Type 0 where
   pub arguments : Arguments
   pub named : arguments_of words ≡ Some arguments
-  pub of_file : FileCause told arguments.config arguments.jobs arguments.threads m fault
+  pub of_file : FileCause old new arguments.config arguments.jobs arguments.threads fault
 
--- the output failed, after a front of the report of the two files
-pub record IsCutOff (words : List (List ℕ)) (told : List ℕ → Told) (failed_old failed_new : ℕ) (old new : Option (List ℕ)) : Type 0 where
+-- the output failed, after a prefix of the report of the two files
+pub record IsCutOff (words : List (List ℕ)) (host : HostState) (old new : SinkState) : Type 0 where
   pub trace : List Entry
   pub report : List ℕ
-  pub played : IsPlayed words told trace report
-  pub front : AppendsFront old new report
-  pub failed : Rises failed_old failed_new
+  pub played : IsPlayed words host.told trace report
+  pub prefix : AppendsPrefix old.written new.written report
+  pub failed : Fails old new
 
--- the counts of a host and a sink before and after a call, and what the sink took
-pub record Moved : Type 0 where
-  pub host : HostMoved
-  pub failed_old : ℕ
-  pub failed_new : ℕ
-  pub written_old : Option (List ℕ)
-  pub written_new : Option (List ℕ)
-
-abbrev pub moved : ℕ → ℕ → ℕ → ℕ → ℕ → ℕ → Option (List ℕ) → Option (List ℕ) → Moved
-moved faults_old faults_new absences_old absences_new failed_old failed_new written_old written_new = record {
-  host = host_moved faults_old faults_new absences_old absences_new;
-  failed_old = failed_old;
-  failed_new = failed_new;
-  written_old = written_old;
-  written_new = written_new;
-}
-
--- when each fault comes; want of memory is the one free answer
-abbrev pub Cause : List (List ℕ) → (List ℕ → Told) → Moved → Fault → Type 0
-Cause words told m Usage = arguments_of words ≡ None
-Cause words told m WriteFault = IsCutOff words told m.failed_old m.failed_new m.written_old m.written_new
-Cause words told m OutOfMemory = Unit {0}
-Cause words told m (NoFile name) = IsOfFiles words told m.host (NoFile name)
-Cause words told m (TooLong name) = IsOfFiles words told m.host (TooLong name)
-Cause words told m (ReadFault name) = IsOfFiles words told m.host (ReadFault name)
-Cause words told m (ConfigShape place) = IsOfFiles words told m.host (ConfigShape place)
-Cause words told m (JobText line) = IsOfFiles words told m.host (JobText line)
-Cause words told m (NotSupported line) = IsOfFiles words told m.host (NotSupported line)
+-- when each fault comes, by the host and the output before and after the call; out of memory is the one free answer
+abbrev pub Cause : List (List ℕ) → HostState → HostState → SinkState → SinkState → Fault → Type 0
+Cause words old new before after Usage = arguments_of words ≡ None
+Cause words old new before after WriteFault = IsCutOff words old before after
+Cause words old new before after OutOfMemory = Unit {0}
+Cause words old new before after (NoFile name) = IsOfFiles words old new (NoFile name)
+Cause words old new before after (TooLong name) = IsOfFiles words old new (TooLong name)
+Cause words old new before after (ReadFault name) = IsOfFiles words old new (ReadFault name)
+Cause words old new before after (ConfigShape place) = IsOfFiles words old new (ConfigShape place)
+Cause words old new before after (JobText line) = IsOfFiles words old new (JobText line)
+Cause words old new before after (NotSupported line) = IsOfFiles words old new (NotSupported line)
 
 -- ---- files in form
 
 -- the words name two files, and the host tells a configuration in the one, and in the other a script that is carried out
-pub record AreInForm (words : List (List ℕ)) (told : List ℕ → Told) : Type 0 where
+pub record AreInForm (words : List (List ℕ)) (host : HostState) : Type 0 where
   pub arguments : Arguments
   pub named : arguments_of words ≡ Some arguments
   pub config : List ℕ
-  pub config_told : told arguments.config ≡ Content config
+  pub config_told : host.told arguments.config ≡ Content config
   pub row : DevRow
   pub config_means : IsConfig config row
   pub jobs : List ℕ
-  pub jobs_told : told arguments.jobs ≡ Content jobs
+  pub jobs_told : host.told arguments.jobs ≡ Content jobs
   pub jobs_short : length jobs ≤ max_file
   pub scripts : List Script
   pub jobs_mean : scripts_of arguments.threads jobs ≡ Some scripts
   pub built : AreBuilt (lines_in scripts)
 
 -- no count rose: the host neither failed nor missed a file, and the output didn't fail
-pub record NothingFails (m : Moved) : Type 0 where
-  pub host : ¬ Rises m.host.faults_old m.host.faults_new
-  pub files : ¬ Rises m.host.absences_old m.host.absences_new
-  pub output : ¬ Rises m.failed_old m.failed_new
+pub record NothingFails (old new : HostState) (before after : SinkState) : Type 0 where
+  pub host : (name : List ℕ) → ¬ FailsAt old new name
+  pub files : (name : List ℕ) → ¬ Misses old new name
+  pub output : ¬ Fails before after
 
 -- ---- what a fault leaves
 
 -- the output is as before, but for a fault of the output itself
-abbrev pub WritesNothing : Option (List ℕ) → Option (List ℕ) → Fault → Type 0
+abbrev pub WritesNothing : SinkState → SinkState → Fault → Type 0
 WritesNothing old new WriteFault = Unit {0}
 WritesNothing old new Usage = new ≡ old
 WritesNothing old new (NoFile name) = new ≡ old

@@ -1,4 +1,4 @@
--- What a run begins from: so many threads with these scripts, over one device.
+-- What a run begins from: a number of threads with their scripts, over one device.
 use Rattle.std.specs.Prelude.{ℕ, List, [], ◌∷◌}
 use Rattle.bd_base.specs.declared.device.DevRow.{DevRow}
 use Rattle.bd_base.specs.declared.device.ErrKind.TheVariants.{Failure}

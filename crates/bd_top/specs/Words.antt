@@ -1,4 +1,4 @@
--- The words of a command line: run CONFIG JOBS, and behind the files the options --threads N and --schedule N.
+-- The words of a command line: run CONFIG JOBS, and after the files the options --threads N and --schedule N.
 use Rattle.std.specs.Prelude.{ℕ, Bool, false, not, ◌&&◌, ◌==◌, nat_le, List, [], ◌∷◌, codes, Option, None, Some, if◌then◌else◌}
 use Rattle.bd_base.specs.Name.{same_name}
 use Rattle.bd_jobs.specs.Words.{number_of}
@@ -29,7 +29,7 @@ arguments_with config jobs (Some threads) (Some schedule) =
     if is_thread_count threads then Some (record { config = config; jobs = jobs; threads = threads; schedule = schedule }) else None
 arguments_with config jobs _ _ = None
 
--- the options behind two files, in either order, each once at most: without them one thread plays by schedule 0
+-- the options after two files, in either order, each once at most: without them one thread plays by schedule 0
 abbrev pub with_options : List ℕ → List ℕ → List (List ℕ) → Option Arguments
 with_options config jobs [] = arguments_with config jobs (Some 1) (Some 0)
 with_options config jobs (name ∷ value ∷ []) =

@@ -2,7 +2,6 @@
 ghost use Rattle.std.specs.Prelude.{◌≡◌};
 ghost use Rattle.bd_top.specs.Fault.{status_of};
 
-use bd_base::Name;
 use std::error::Error;
 use std::fmt;
 
@@ -12,12 +11,12 @@ pub enum Fault {
     /// The words are outside the command line's grammar.
     Usage,
     /// There is no file of this name.
-    NoFile(Name),
+    NoFile(String),
     /// This file has more than 8,388,608 bytes.
-    TooLong(Name),
+    TooLong(String),
     /// The host failed to read this file.
-    ReadFault(Name),
-    /// The output failed; what was written before is a front of the report.
+    ReadFault(String),
+    /// The output failed; what was written before is a prefix of the report.
     WriteFault,
     /// The configuration is outside the form that is read today (0).
     ConfigShape(u32),
@@ -30,8 +29,8 @@ pub enum Fault {
 }
 
 impl Fault {
-    /// The exit status: 1 for a file's content, 2 for the words, 3 for the outside, 4 for want of
-    /// memory (this project's choice).
+    /// The exit status: 1 for a file's content, 2 for the words, 3 for the outside, 4 for out
+    /// of memory (this project's choice).
     pub fn status(&self) -> u8
         ensures { result ≡ status_of self.now }
     {
@@ -47,8 +46,13 @@ impl Fault {
     }
 }
 
-/// The line that the program prints on standard error.
+/// The line that the program prints on standard error, without its line feed.
 impl fmt::Display for Fault {
+    ghost use Rattle.std.specs.Prelude.{Some};
+    ghost use Rattle.bd_top.specs.Fault.{fault_line};
+
+    ghost output = { λ fault. Some (fault_line fault) };
+
     fn fmt<W: fmt::Write>(&self, f: &mut fmt::Formatter<W>) -> fmt::Result {
         match self {
             Fault::Usage => write!(

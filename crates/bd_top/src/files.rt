@@ -1,8 +1,9 @@
 //! Whole files, and whole texts.
-ghost use Rattle.std.specs.Prelude.{◌≡◌, ◌≤◌, ◌<◌, ℕ, List, length, IfOk, IfErr, OnOk, OnErr};
-ghost use Rattle.bd_outside.specs.Count.{Rises};
-ghost use Rattle.bd_outside.specs.Sink.{Appends};
-ghost use Rattle.bd_top.specs.Files.{IsRead, host_moved, ReadCause, AppendsFront};
+ghost use Rattle.std.specs.Prelude.{◌≡◌, ◌≤◌, length, IfOk, IfErr, OnOk, OnErr};
+ghost use Rattle.std.specs.Io.KnownBytes.{Appends};
+ghost use Rattle.bd_outside.specs.Host.{IsLater};
+ghost use Rattle.bd_outside.specs.Sink.{Fails};
+ghost use Rattle.bd_top.specs.Files.{IsRead, ReadCause, AppendsPrefix};
 
 use crate::config::MAX_FILE;
 use bd_base::{Bytes, OutOfMemory};
@@ -43,12 +44,11 @@ fn buffer(alloc: Global, size: usize) -> Result<Vec<u8>, AllocError>
 }
 
 /// Reads a file whole, which has at most 8,388,608 bytes.
+#[tactic(auto, using(crate::proofs::FileLemmas::later_same, crate::proofs::FileLemmas::later_then, crate::proofs::FileLemmas::fails_from, crate::proofs::FileLemmas::misses_from))]
 pub(crate) fn read_file<H: Host>(alloc: Global, host: &mut H, name: &str) -> Result<Bytes, ReadNo>
-    ensures read { IfOk result (IsRead (H.told host.old name.now)) }
-    ensures cause { IfErr result (ReadCause (H.told host.old name.now) (host_moved (H.faults host.old) (H.faults host.new) (H.absences host.old) (H.absences host.new))) }
-    ensures same_files { (other : List ℕ) → H.told host.new other ≡ H.told host.old other }
-    ensures fault_count { H.faults host.old ≤ H.faults host.new }
-    ensures absence_count { H.absences host.old ≤ H.absences host.new }
+    ensures read { IfOk result (IsRead ((H.state host.old).told name.now)) }
+    ensures cause { IfErr result (ReadCause (H.state host.old) (H.state host.new) name.now) }
+    ensures later { IsLater (H.state host.old) (H.state host.new) }
 {
     let mut all = Bytes::new(alloc);
     let Ok(mut chunk) = buffer(alloc, CHUNK) else {
@@ -73,13 +73,13 @@ pub(crate) fn read_file<H: Host>(alloc: Global, host: &mut H, name: &str) -> Res
     unreachable!()
 }
 
-/// Writes all of the bytes. Where the sink fails, a front of them was written.
-#[tactic(auto, using(crate::proofs::FileLemmas::appends_next, crate::proofs::FileLemmas::rises_from))]
+/// Writes all of the bytes. Where the sink fails, a prefix of them was written.
+#[tactic(auto, using(crate::proofs::FileLemmas::appends_nothing, crate::proofs::FileLemmas::appends_kept, crate::proofs::FileLemmas::appends_next, crate::proofs::FileLemmas::rises_from))]
 pub(crate) fn write_all<K: Sink>(out: &mut K, bytes: &[u8]) -> Result<(), Failed>
-    ensures ok { OnOk result (Appends (K.written out.old) (K.written out.new) bytes.now) }
-    ensures front { OnErr result (AppendsFront (K.written out.old) (K.written out.new) bytes.now) }
-    ensures count { K.faults out.old ≤ K.faults out.new }
-    ensures err { OnErr result (Rises (K.faults out.old) (K.faults out.new)) }
+    ensures ok { OnOk result (Appends (K.state out.old).written (K.state out.new).written bytes.now) }
+    ensures prefix { OnErr result (AppendsPrefix (K.state out.old).written (K.state out.new).written bytes.now) }
+    ensures count { (K.state out.old).faults ≤ (K.state out.new).faults }
+    ensures err { OnErr result (Fails (K.state out.old) (K.state out.new)) }
 {
     let mut at = 0;
     while at < bytes.len() {

@@ -1,14 +1,14 @@
 //! The two files of a run, and what they mean.
-ghost use Rattle.std.specs.Prelude.{◌≡◌, ◌≤◌, ◌⊎◌, ℕ, List, IfOk, IfErr};
-ghost use Rattle.bd_top.specs.Fault.{fault_of};
-ghost use Rattle.bd_top.specs.Files.{host_moved};
+ghost use Rattle.std.specs.Prelude.{IfOk, IfErr};
+ghost use Rattle.bd_outside.specs.Host.{IsLater};
+ghost use Rattle.bd_top.specs.Fault.{IsFaultOf};
 ghost use Rattle.bd_top.specs.Run.{IsDevice, IsScript, DeviceCause, ScriptCause, FileCause};
 
 use crate::built::first_not_built;
 use crate::config::{ConfigNo, read_config};
 use crate::fault::Fault;
 use crate::files::{ReadNo, read_file};
-use bd_base::{DevRow, Name, OutOfMemory, Rows, Script};
+use bd_base::{DevRow, OutOfMemory, Rows, Script};
 use bd_jobs::{JobNo, read_jobs};
 use bd_outside::Host;
 use std::alloc::Global;
@@ -25,11 +25,9 @@ pub(crate) enum DeviceNo {
 
 // The device that a configuration asks for.
 fn device<H: Host>(alloc: Global, host: &mut H, name: &str) -> Result<DevRow, DeviceNo>
-    ensures device { IfOk result (IsDevice (H.told host.old name.now)) }
-    ensures cause { IfErr result (DeviceCause (H.told host.old name.now) (host_moved (H.faults host.old) (H.faults host.new) (H.absences host.old) (H.absences host.new))) }
-    ensures same_files { (other : List ℕ) → H.told host.new other ≡ H.told host.old other }
-    ensures fault_count { H.faults host.old ≤ H.faults host.new }
-    ensures absence_count { H.absences host.old ≤ H.absences host.new }
+    ensures device { IfOk result (IsDevice ((H.state host.old).told name.now)) }
+    ensures cause { IfErr result (DeviceCause (H.state host.old) (H.state host.new) name.now) }
+    ensures later { IsLater (H.state host.old) (H.state host.new) }
 {
     let bytes = match read_file(alloc, host, name) {
         Ok(bytes) => bytes,
@@ -54,18 +52,16 @@ pub(crate) enum ScriptNo {
     OutOfMemory,
 }
 
-// The scripts of so many threads.
+// The scripts of this number of threads.
 fn scripts<H: Host>(
     alloc: Global,
     host: &mut H,
     name: &str,
     threads: u32,
 ) -> Result<Rows<Script>, ScriptNo>
-    ensures script { IfOk result (IsScript threads (H.told host.old name.now)) }
-    ensures cause { IfErr result (ScriptCause threads (H.told host.old name.now) (host_moved (H.faults host.old) (H.faults host.new) (H.absences host.old) (H.absences host.new))) }
-    ensures same_files { (other : List ℕ) → H.told host.new other ≡ H.told host.old other }
-    ensures fault_count { H.faults host.old ≤ H.faults host.new }
-    ensures absence_count { H.absences host.old ≤ H.absences host.new }
+    ensures script { IfOk result (IsScript threads ((H.state host.old).told name.now)) }
+    ensures cause { IfErr result (ScriptCause (H.state host.old) (H.state host.new) name.now threads) }
+    ensures later { IsLater (H.state host.old) (H.state host.new) }
 {
     let bytes = match read_file(alloc, host, name) {
         Ok(bytes) => bytes,
@@ -84,9 +80,9 @@ fn scripts<H: Host>(
 
 // The fault of a file of this name that wasn't read.
 fn fault_of(alloc: Global, name: &str, no: ReadNo) -> Fault
-    ensures { (result ≡ Fault.OutOfMemory) ⊎ (result ≡ fault_of name.now no) }
+    ensures { IsFaultOf name.now no result }
 {
-    let Ok(name) = Name::from_slice(alloc, name.as_bytes()) else {
+    let Ok(name) = String::from_str(alloc, name) else {
         return Fault::OutOfMemory;
     };
     match no {
@@ -104,7 +100,7 @@ pub(crate) struct Inputs {
     pub scripts: Rows<Script>,
 }
 
-/// Reads the two files, the configuration first; the script is one of so many threads.
+/// Reads the two files, the configuration first; the script is one of this number of threads.
 pub(crate) fn read_inputs<H: Host>(
     alloc: Global,
     host: &mut H,
@@ -112,9 +108,9 @@ pub(crate) fn read_inputs<H: Host>(
     jobs: &str,
     threads: u32,
 ) -> Result<Inputs, Fault>
-    ensures device { IfOk result (λ inputs. IsDevice (H.told host.old config.now) inputs.row) }
-    ensures script { IfOk result (λ inputs. IsScript threads (H.told host.old jobs.now) inputs.scripts) }
-    ensures cause { IfErr result (FileCause (H.told host.old) config.now jobs.now threads (host_moved (H.faults host.old) (H.faults host.new) (H.absences host.old) (H.absences host.new))) }
+    ensures device { IfOk result (λ inputs. IsDevice ((H.state host.old).told config.now) inputs.row) }
+    ensures script { IfOk result (λ inputs. IsScript threads ((H.state host.old).told jobs.now) inputs.scripts) }
+    ensures cause { IfErr result (FileCause (H.state host.old) (H.state host.new) config.now jobs.now threads) }
 {
     let row = match device(alloc, host, config) {
         Ok(row) => row,

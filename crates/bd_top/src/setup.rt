@@ -41,7 +41,7 @@ fn one<T: Drop>(alloc: Global, row: T) -> Result<Rows<T>, OutOfMemory>
     Ok(rows)
 }
 
-/// So many threads with these scripts, over one device.
+/// This number of threads with these scripts, over one device.
 pub(crate) fn setup_of(
     alloc: Global,
     threads: u32,

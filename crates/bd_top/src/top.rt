@@ -2,7 +2,7 @@
 ghost use Rattle.std.specs.Prelude.{◌≡◌, ◌<◌, [], map, string_bytes, IfOk, IfErr, None, Err};
 ghost use Rattle.bd_machine.specs.Run.{IsCompleteRun};
 ghost use Rattle.bd_report.specs.Report.{report_of};
-ghost use Rattle.bd_top.specs.Run.{moved, IsRun, Cause, AreInForm, NothingFails, WritesNothing};
+ghost use Rattle.bd_top.specs.Run.{IsRun, Cause, AreInForm, NothingFails, WritesNothing};
 ghost use Rattle.bd_top.specs.Words.{arguments_of};
 
 use crate::fault::Fault;
@@ -42,12 +42,13 @@ fn play_and_report(alloc: Global, setup: &Setup, schedule: u64) -> Result<Played
 }
 
 /// Reads the configuration and the script that the words `run CONFIG JOBS` name, plays the script
-/// on as many threads as `--threads` says (1 to 16, else 1) by the schedule that grows from the
-/// number of `--schedule` (else 0), and writes the report.
+/// on as many threads as `--threads` says (1 to 16, else 1) by the schedule that the number of
+/// `--schedule` (else 0) seeds, and writes the report.
 ///
 /// Faults are looked for in this order: the words; the configuration's file and its form; the
 /// script's file, its grammar, and commands that aren't carried out; the output. `cause` says when
-/// each comes.
+/// each comes: a file's fault names the file that was due, and the script is due only once the
+/// configuration is in form.
 pub fn run<H: Host, K: Sink, C: Clock, G: Gate>(
     alloc: Global,
     words: &[String],
@@ -56,12 +57,14 @@ pub fn run<H: Host, K: Sink, C: Clock, G: Gate>(
     _clock: &C,
     _gate: &G,
 ) -> Result<Ran, Fault>
-    ensures run { IfOk result (λ r. IsRun (map string_bytes words.now) (H.told host.old) r.trace (K.written out.old) (K.written out.new)) }
+    ensures run { IfOk result (λ r. IsRun (map string_bytes words.now) (H.state host.old) r.trace (K.state out.old) (K.state out.new)) }
     ensures status { IfOk result (λ r. r.status ≡ 0) }
     ensures usage { arguments_of (map string_bytes words.now) ≡ None → result ≡ Err Fault.Usage }
-    ensures cause { IfErr result (Cause (map string_bytes words.now) (H.told host.old) (moved (H.faults host.old) (H.faults host.new) (H.absences host.old) (H.absences host.new) (K.faults out.old) (K.faults out.new) (K.written out.old) (K.written out.new))) }
-    ensures complete { AreInForm (map string_bytes words.now) (H.told host.old) → NothingFails (moved (H.faults host.old) (H.faults host.new) (H.absences host.old) (H.absences host.new) (K.faults out.old) (K.faults out.new) (K.written out.old) (K.written out.new)) → IfErr result (λ fault. fault ≡ Fault.OutOfMemory) }
-    ensures nothing { IfErr result (WritesNothing (K.written out.old) (K.written out.new)) }
+    ensures cause { IfErr result (Cause (map string_bytes words.now) (H.state host.old) (H.state host.new) (K.state out.old) (K.state out.new)) }
+    ensures complete { AreInForm (map string_bytes words.now) (H.state host.old)
+        → NothingFails (H.state host.old) (H.state host.new) (K.state out.old) (K.state out.new)
+        → IfErr result (λ fault. fault ≡ Fault.OutOfMemory) }
+    ensures nothing { IfErr result (WritesNothing (K.state out.old) (K.state out.new)) }
 {
     let Some(asked) = parse(words) else {
         return Err(Fault::Usage);

@@ -62,7 +62,7 @@ fn arguments_with<'a>(
     })
 }
 
-// Two files with the options behind them.
+// Two files with the options after them.
 fn with_options<'a>(config: &'a str, jobs: &'a str, options: &'a [String]) -> Option<Arguments<'a>>
     ensures meaning { option_map seen result ≡ with_options config.now jobs.now (map string_bytes options.now) }
     ensures threads { IfSome result (λ a. 0 < a.threads) }

@@ -93,13 +93,12 @@ impl<R: Files> Host for SystemHost<'_, R> {
 
     type Disk = MemDisk;
 
-    ghost faults = { λ h. h.faults };
-
-    ghost absences = { λ h. h.absences };
-
-    ghost told = { λ h name. Untold };
-
-    ghost openings = { λ h. None };
+    ghost state = { λ h. record {
+      faults = λ name. h.faults;
+      absences = λ name. h.absences;
+      told = λ name. Untold;
+      openings = None;
+    } };
 
     /// Absent where the system says that there is no such file. Every other failure, as of a
     /// folder, a path through a file or a file that may not be read, is Failed.

@@ -2,10 +2,12 @@
 //! `bdevrun run CONFIG JOBS`.
 #![tactic(auto)]
 
+mod answer;
 mod clock;
 mod host;
 mod output;
 
+use answer::answer_to;
 use bd_outside::OpenGate;
 use bd_top::{Fault, run};
 use clock::SystemClock;
@@ -33,7 +35,7 @@ usage: bdevrun run CONFIG JOBS [--threads N] [--schedule N]
 A configuration, a script, a report and every fault are described in the file
 docs/FORMATS.md of the repository.";
 
-// The words of the command line behind the program's name. One that isn't text is a faulty usage.
+// The words of the command line after the program's name. One that isn't text is a faulty usage.
 fn words<R: Runtime + AllocGlobal>(rt: &R) -> Result<Vec<String>, Fault> {
     let mut args = match env::args(rt) {
         Ok(args) => args,
@@ -75,12 +77,8 @@ fn serve<R: Runtime + AllocGlobal>(rt: &R) -> Result<u8, Fault> {
 }
 
 fn main(rt: HostRuntime) -> ExitCode {
-    match serve(&rt) {
-        Ok(status) => ExitCode::from(status),
-        Err(fault) => {
-            // Where standard error is closed too, the status alone tells of the fault.
-            let _ = eprintln!(rt; "{fault}");
-            ExitCode::from(fault.status())
-        }
-    }
+    let answer = answer_to(serve(&rt));
+    // Where standard error is closed too, the status alone tells of the fault.
+    let _ = eprint!(rt; "{answer}");
+    ExitCode::from(answer.status)
 }
