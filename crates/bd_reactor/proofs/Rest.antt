@@ -15,7 +15,8 @@ use Rattle.bd_machine.specs.Same.{same_dev}
 use Rattle.bd_machine.specs.Start.{dev_of, start}
 use Rattle.bd_machine.specs.Step.{after}
 use Rattle.bd_machine.specs.View.{View}
-use Rattle.bd_alone.proofs.Entries.{after_on, run_on}
+use Rattle.bd_machine.proofs.Complete.{all_below}
+use Rattle.bd_machine.proofs.Runs.{after_on, run_on}
 use Rattle.bd_turns.specs.Laws.{AreAtRest, AreBlocked, AreDestructed, IsShut, shutdown_at}
 use Rattle.bd_turns.specs.Tied.{IsTied}
 use Rattle.bd_turns.specs.declared.queue.Message.{Message}
@@ -50,16 +51,6 @@ none_held held e id = ap (λ (h : List (Id × Kept)). here_in h id) e
 one_of : (b c : Bool) → (not b || c) ≡ true → b ≡ true → c ≡ true
 one_of true c h e = h
 one_of false c h e = cc
-
-range_at : (p : ℕ → Bool) (k a n : ℕ) → list_all p (range_with_len a k) ≡ true → a ≤ n → n < a + k → p n ≡ true
-range_at p zero a n h low high = absurd (omega (arith, low, high))
-range_at p (suc k) a n h low high =
-    let both = and_parts (p a) (list_all p (range_with_len (a + 1) k)) h in
-    go (cases_eq a n) both.0 (λ ne. range_at p k (a + 1) n both.1 (omega (arith, low, ne)) (omega (arith, high)))
-  where
-    go : (a ≡ n) ⊎ (a ≡ n → ⊥) → p a ≡ true → ((a ≡ n → ⊥) → p n ≡ true) → p n ≡ true
-    go (inl same) here rest = subst (λ (m : ℕ). p m ≡ true) same here
-    go (inr ne) here rest = rest ne
 
 pub idle_parts : (shut over idle : Bool) → cond shut (cond over Done Busy) (cond idle Idle Busy) ≡ Idle → (shut ≡ false) × (idle ≡ true)
 idle_parts true true idle h = cc
@@ -103,7 +94,7 @@ module _ (setup : Setup) (threads : List Thread) (links : Links) (w : IsWhole se
       of_each has_destructed_all (λ t v. (t ≡ at) → list_any (same_dev (dev_of n)) v.part.destructed ≡ true) all
       (λ t given h same.
       let every = (and_parts (nat_lt (length t.setup.now.devices) (2 ^ 32)) (list_all (is_done_with t.setup.now t.me t.part.destructed) (range_with_len 0 (length t.setup.now.devices))) h).1 in
-      let one = range_at (is_done_with t.setup.now t.me t.part.destructed) (length t.setup.now.devices) 0 n every (omega arith) (subst (λ (s : Setup). n < 0 + length s.devices) (sym given) (omega (arith, lt))) in
+      let one = all_below (is_done_with t.setup.now t.me t.part.destructed) (length t.setup.now.devices) n every (subst (λ (s : Setup). n < length s.devices) (sym given) lt) in
       one_of (home t.setup.now (dev_of n) == t.me) (list_any (same_dev (dev_of n)) t.part.destructed) one
       (eq-eqb (home t.setup.now (dev_of n)) t.me (ap (λ (s : Setup). home s (dev_of n)) given ∙ sym same)))
       at (mod_below (base_of setup (dev_of n)).0 setup.threads w.some) refl
