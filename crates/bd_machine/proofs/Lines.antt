@@ -32,7 +32,7 @@ use Rattle.bd_machine.specs.Content.{Told}
 use Rattle.bd_machine.specs.Guards.{guards, change, is_built}
 use Rattle.bd_machine.specs.Homes.{base_here, change_applied}
 use Rattle.bd_machine.specs.Laws.{one_if, count_of}
-use Rattle.bd_machine.specs.Lines.{LinesArePrefix, ScriptsGoAsFar, GoesAsFar, line_of_act, line_by, lines_done, number_of}
+use Rattle.bd_machine.specs.Lines.{LinesArePrefix, ScriptsGoAsFar, GoesAsFar, line_of_act, line_by, lines_done, number_of, shutdown_at}
 use Rattle.bd_machine.specs.Messages.{part_took}
 use Rattle.bd_machine.specs.Rest.{are_all_taken, are_all_put, are_all_completed, is_at_rest, are_scripts_blocked}
 use Rattle.bd_machine.specs.Run.{IsRunFrom, after_all, is_destructed}
@@ -137,9 +137,6 @@ not_both false h k = cc
 
 no_more : (a b : ℕ) → a ≡ 0 → b ≡ 0 → a + b ≡ 0
 no_more a b p q = omega arith
-
-abbrev shutdown_at : ℕ → Entry
-shutdown_at stamp = record { stamp = stamp; thread = 0; act = acts.Shutdown }
 
 shut_by : (setup : Setup) (s : State) (stamp : ℕ) → (after setup s (shutdown_at stamp)).shut ≡ true
 unfolding after

@@ -27,6 +27,10 @@ lines_done t es = filter_map (line_by t) es
 abbrev pub number_of : Line → ℕ
 number_of line = line.number
 
+-- the Shutdown, an entry of thread 0
+abbrev pub shutdown_at : ℕ → Entry
+shutdown_at stamp = record { stamp = stamp; thread = 0; act = acts.Shutdown }
+
 -- ---- the laws
 
 -- in a run, the lines that a thread did are a prefix of its script, up to the line that it is at
@@ -39,7 +43,7 @@ pub record GoesAsFar (setup : Setup) (told : Told) (es : List Entry) (t : ℕ) :
   pub before : List Entry
   pub stamp : ℕ
   pub rest : List Entry
-  pub entries : es ≡ before ++ record { stamp = stamp; thread = 0; act = acts.Shutdown } ∷ rest
+  pub entries : es ≡ before ++ shutdown_at stamp ∷ rest
   pub one_shutdown : count_of is_shutdown es ≡ 1
   pub blocked : is_script_blocked setup t (part_of (state_after setup told before) t) ≡ true
   pub done : lines_done t es ≡ map number_of (take (part_of (state_after setup told before) t).next (lines_of setup t))

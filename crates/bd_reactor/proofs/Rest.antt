@@ -1,7 +1,7 @@
 -- When a node is at rest: a Shutdown may come, and behind it the run is complete.
-use Rattle.std.proofs.Common.{◌≡◌, ℕ, zero, suc, ◌+◌, ◌^◌, ◌<◌, ◌≤◌, ◌⊎◌, inl, inr, Bool, true, false, cond, not, ◌||◌, ◌==◌, List, [], ◌∷◌, length, Option, Some, None, refl, sym, ◌∙◌, ap, subst, eq-eqb, eqb-true, arith, nat_lt}
+use Rattle.std.proofs.Common.{◌≡◌, ℕ, zero, suc, ◌+◌, ◌^◌, ◌<◌, Bool, true, false, cond, not, ◌||◌, ◌==◌, List, [], ◌∷◌, length, Option, Some, None, refl, sym, ◌∙◌, ap, subst, eq-eqb, eqb-true, arith, nat_lt}
 use Rattle.std.specs.List.{list_all, list_any, range_with_len, slice_get}
-use Rattle.std.proofs.lemmas.Bool.{and_parts, cases_eq}
+use Rattle.std.proofs.lemmas.Bool.{and_parts}
 use Rattle.std.proofs.lemmas.List.{length-append}
 use Rattle.std.proofs.lemmas.Nat.{mod_below}
 use Rattle.bd_base.specs.declared.setup.Setup.{Setup}
@@ -10,6 +10,7 @@ use Rattle.bd_machine.specs.declared.state.Kept.{Kept}
 use Rattle.bd_machine.specs.declared.state.State.{State}
 use Rattle.bd_machine.specs.Asked.{is_script_blocked}
 use Rattle.bd_machine.specs.BlockMap.{base_of, home}
+use Rattle.bd_machine.specs.Lines.{shutdown_at}
 use Rattle.bd_machine.specs.Run.{IsCompleteRun, state_after}
 use Rattle.bd_machine.specs.Same.{same_dev}
 use Rattle.bd_machine.specs.Start.{dev_of, start}
@@ -17,7 +18,7 @@ use Rattle.bd_machine.specs.Step.{after}
 use Rattle.bd_machine.specs.View.{View}
 use Rattle.bd_machine.proofs.Complete.{all_below}
 use Rattle.bd_machine.proofs.Runs.{after_on, run_on}
-use Rattle.bd_turns.specs.Laws.{AreAtRest, AreBlocked, AreDestructed, IsShut, shutdown_at}
+use Rattle.bd_turns.specs.Laws.{AreAtRest, AreBlocked, AreDestructed, IsShut}
 use Rattle.bd_turns.specs.Tied.{IsTied}
 use Rattle.bd_turns.specs.declared.queue.Message.{Message}
 use Rattle.bd_turns.proofs.Rest.{rest_is_complete, shutdown_is_allowed}

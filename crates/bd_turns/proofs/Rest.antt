@@ -15,6 +15,7 @@ use Rattle.bd_machine.specs.declared.state.State.{State}
 use Rattle.bd_machine.specs.declared.state.Tracked.{Tracked}
 use Rattle.bd_machine.specs.Asked.{is_script_blocked}
 use Rattle.bd_machine.specs.BlockMap.{home, base_of}
+use Rattle.bd_machine.specs.Lines.{shutdown_at}
 use Rattle.bd_machine.specs.Placement.{place_of}
 use Rattle.bd_machine.specs.Rest.{is_ring, is_in_ring, is_nothing_due, is_nowhere, is_request, is_open_request, are_all_taken, are_all_put, are_all_completed, is_at_rest, are_scripts_blocked}
 use Rattle.bd_machine.specs.Run.{is_destructed, is_finished}
@@ -23,7 +24,7 @@ use Rattle.bd_machine.specs.Start.{dev_of}
 use Rattle.bd_machine.specs.Step.{IsAllowed, is_in_order, after}
 use Rattle.bd_machine.specs.Table.{look_up}
 use Rattle.bd_machine.specs.View.{View, here_of, kept_on, part_of, blank_part}
-use Rattle.bd_turns.specs.Laws.{AreAtRest, AreBlocked, AreDestructed, ShutdownIsAllowed, RestIsComplete, shutdown_at}
+use Rattle.bd_turns.specs.Laws.{AreAtRest, AreBlocked, AreDestructed, ShutdownIsAllowed, RestIsComplete}
 use Rattle.bd_turns.specs.Local.{Shared, Local, local_after}
 use Rattle.bd_turns.specs.Tied.{IsQueued, IsPlaced, IsTied}
 use Rattle.bd_turns.proofs.Allowed.{all_pass, in_order}
