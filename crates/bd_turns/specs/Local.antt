@@ -4,17 +4,16 @@ use Rattle.bd_base.specs.declared.act.Act.{Act}
 use Rattle.bd_base.specs.declared.act.Act.TheVariants as acts
 use Rattle.bd_base.specs.declared.act.Entry.{Entry}
 use Rattle.bd_base.specs.declared.act.Token.{Token}
-use Rattle.bd_base.specs.declared.id.DevId.{DevId}
 use Rattle.bd_base.specs.declared.setup.Setup.{Setup}
 use Rattle.bd_machine.specs.declared.guard.TheConstants.{UNBUILT, IN_ORDER}
 use Rattle.bd_machine.specs.declared.state.Kept.{Kept}
 use Rattle.bd_machine.specs.declared.state.Registry.{Registry}
 use Rattle.bd_machine.specs.Alone.{view_by}
 use Rattle.bd_machine.specs.Guards.{guards, change, is_built}
-use Rattle.bd_machine.specs.Registry.{answer_to, is_unused, registry_after}
+use Rattle.bd_machine.specs.Registry.{answer_to, registry_after}
 use Rattle.bd_machine.specs.Same.{same_id}
 use Rattle.bd_machine.specs.Step.{first_failing, is_shutdown}
-use Rattle.bd_machine.specs.View.{View, Came, Change, Move, Taking, took, asked, destructed_by, id_of}
+use Rattle.bd_machine.specs.View.{View, Came, Change, Move, Taking, is_unused_if_any, took, asked, destructed_by, id_of}
 use Rattle.bd_turns.specs.declared.queue.Message.{Message}
 
 -- the stamp of the last entry; whether a Shutdown stands; the registry; for each receiver its messages in the order in which they were put
@@ -40,16 +39,11 @@ abbrev pub first_of : ℕ → List Message → Taking → Option Kept
 first_of t [] taking = None
 first_of t (m ∷ ms) taking = cond (is_named t taking m) (Some m.kept) None
 
--- a device that an act destructs, with no handle of it open
-abbrev pub is_unused_in : Registry → Option DevId → Bool
-is_unused_in registry None = false
-is_unused_in registry (Some dev) = is_unused registry dev
-
 abbrev pub came_local : Setup → ℕ → Local → Act → Came
 came_local setup t l act = record {
   message = option_and_then (first_of t (l.shared.queues t)) (took act);
   answer = option_and_then (λ q. answer_to setup l.shared.registry t q.event) (asked act);
-  unused = is_unused_in l.shared.registry (destructed_by act);
+  unused = is_unused_if_any l.shared.registry (destructed_by act);
   shut = l.shared.shut;
 }
 
