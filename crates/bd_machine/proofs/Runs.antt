@@ -1,6 +1,7 @@
 -- The laws of whole runs.
-use Rattle.std.proofs.Common.{◌≡◌, ℕ, ◌+◌, ◌<◌, ◌≤◌, not, ◌⊎◌, inl, inr, List, [], ◌∷◌, ◌++◌, Option, Some, None, refl, sym, ◌∙◌, ap, subst, arith}
+use Rattle.std.proofs.Common.{◌≡◌, ℕ, ◌+◌, ◌<◌, ◌≤◌, true, not, ◌||◌, ◌⊎◌, inl, inr, List, [], ◌∷◌, ◌++◌, length, Option, Some, None, refl, sym, ◌∙◌, ap, subst, arith}
 use Rattle.std.proofs.lemmas.Bool.{cases_eq}
+use Rattle.std.proofs.lemmas.List.{length-set}
 use Rattle.bd_base.specs.declared.id.ReqId.{ReqId}
 use Rattle.bd_base.specs.declared.act.Entry.{Entry}
 use Rattle.bd_base.specs.declared.setup.Setup.{Setup}
@@ -11,13 +12,13 @@ use Rattle.bd_machine.specs.declared.state.Place.TheVariants.{At, Ring, Nowhere}
 use Rattle.bd_machine.specs.declared.state.State.{State}
 use Rattle.bd_machine.specs.declared.state.Tracked.{Tracked}
 use Rattle.bd_machine.specs.Content.{Told}
-use Rattle.bd_machine.specs.Laws.{FrontIsRun, StepIsDetermined, ContentChangesByApply, CompletedStaysClosed, EachIsCompletedOnce, EachIsDestructedOnce, OwnViewFollows, OtherViewsStay, AllOn, is_accept_of, is_complete_of, count_of, one_if, stored, stored_at}
+use Rattle.bd_machine.specs.Laws.{PrefixIsRun, StepIsDetermined, ContentChangesByApply, CompletedStaysClosed, EachIsCompletedOnce, EachIsDestructedOnce, OwnViewFollows, OtherViewsStay, AllOn, is_accept_of, is_complete_of, count_of, one_if, stored, stored_at}
 use Rattle.bd_machine.specs.Placement.{place_of}
 use Rattle.bd_machine.specs.Rest.{is_nowhere}
 use Rattle.bd_machine.specs.Run.{IsRun, IsRunFrom, after_all, state_after}
 use Rattle.bd_machine.specs.Same.{same_id}
 use Rattle.bd_machine.specs.Start.{start}
-use Rattle.bd_machine.specs.Step.{IsAllowed, after, change_in}
+use Rattle.bd_machine.specs.Step.{after, change_in, is_shutdown}
 use Rattle.bd_machine.specs.Table.{look_up}
 use Rattle.bd_machine.specs.View.{Change, view, came_for}
 use Rattle.bd_machine.proofs.Acts.{IsFresh}
@@ -26,12 +27,40 @@ use Rattle.bd_machine.proofs.Laws.{part-own, part-other, view-own}
 use Rattle.bd_machine.proofs.Meaning.{content_stays, open_if, open_now}
 use Rattle.bd_machine.proofs.Steps.{allowed_thread, fresh_after, frame}
 
-front_from : (setup : Setup) (s : State) (es fs : List Entry) → IsRunFrom setup s (es ++ fs) → IsRunFrom setup s es
-front_from setup s [] fs run = tt
-front_from setup s (e ∷ es) fs run = (run.0, front_from setup (after setup s e) es fs run.1)
+-- ---- entries, and those after them
 
-pub front_is_run : FrontIsRun
-front_is_run setup told es fs run = front_from setup (start setup told) es fs run
+prefix_from : (setup : Setup) (s : State) (es fs : List Entry) → IsRunFrom setup s (es ++ fs) → IsRunFrom setup s es
+prefix_from setup s [] fs run = tt
+prefix_from setup s (e ∷ es) fs run = (run.0, prefix_from setup (after setup s e) es fs run.1)
+
+pub prefix_is_run : PrefixIsRun
+prefix_is_run setup told es fs run = prefix_from setup (start setup told) es fs run
+
+-- the rest of a run is a run from where its prefix led
+pub run_after : (setup : Setup) (s : State) (es fs : List Entry) → IsRunFrom setup s (es ++ fs) → IsRunFrom setup (after_all setup s es) fs
+run_after setup s [] fs run = run
+run_after setup s (e ∷ es) fs run = run_after setup (after setup s e) es fs run.1
+
+-- and where a run goes on from there, both together are one
+pub run_on : (setup : Setup) (s : State) (es fs : List Entry) → IsRunFrom setup s es → IsRunFrom setup (after_all setup s es) fs → IsRunFrom setup s (es ++ fs)
+run_on setup s [] fs run rest = rest
+run_on setup s (e ∷ es) fs run rest = (run.0, run_on setup (after setup s e) es fs run.1 rest)
+
+pub after_on : (setup : Setup) (s : State) (es fs : List Entry) → after_all setup s (es ++ fs) ≡ after_all setup (after_all setup s es) fs
+after_on setup s [] fs = refl
+after_on setup s (e ∷ es) fs = after_on setup (after setup s e) es fs
+
+-- ---- what every entry leaves
+
+pub threads_stay : (setup : Setup) (s : State) (e : Entry) → length (after setup s e).parts ≡ length s.parts
+unfolding after
+threads_stay setup s e = length-set s.parts e.thread (change_in setup s e.thread e.act).part
+
+pub shut_after : (setup : Setup) (s : State) (e : Entry) → s.shut ≡ true → (after setup s e).shut ≡ true
+unfolding after
+shut_after setup s e h = ap (λ b. b || is_shutdown e.act) h
+
+-- ---- the laws of an entry, and of a request
 
 pub step_is_determined : StepIsDetermined
 step_is_determined setup s e s1 s2 a b = a.1 ∙ sym b.1
@@ -101,15 +130,7 @@ fresh_by setup s (e ∷ es) fresh run = fresh_by setup (after setup s e) es (fre
 pub fresh_run : (setup : Setup) (told : Told) (es : List Entry) → IsRun setup told es → IsFresh (state_after setup told es)
 fresh_run setup told es run = fresh_by setup (start setup told) es (fresh_start setup told) run
 
-last_allowed : (setup : Setup) (s : State) (es : List Entry) (e : Entry) → IsRunFrom setup s (es ++ e ∷ []) → IsAllowed setup (after_all setup s es) e
-last_allowed setup s [] e run = run.0
-last_allowed setup s (x ∷ es) e run = last_allowed setup (after setup s x) es e run.1
-
-after_last : (setup : Setup) (s : State) (es : List Entry) (e : Entry) → after_all setup s (es ++ e ∷ []) ≡ after setup (after_all setup s es) e
-after_last setup s [] e = refl
-after_last setup s (x ∷ es) e = after_last setup (after setup s x) es e
-
 pub other_views_stay : OtherViewsStay
 other_views_stay setup told es e run t ne =
-    ap (λ (s : State). view s t) (after_last setup (start setup told) es e)
-    ∙ frame setup (state_after setup told es) e (fresh_run setup told es (front_is_run setup told es (e ∷ []) run)) (last_allowed setup (start setup told) es e run) t ne
+    ap (λ (s : State). view s t) (after_on setup (start setup told) es (e ∷ []))
+    ∙ frame setup (state_after setup told es) e (fresh_run setup told es (prefix_is_run setup told es (e ∷ []) run)) (run_after setup (start setup told) es (e ∷ []) run).0 t ne

@@ -71,8 +71,8 @@ stored_at s t = stored (part_of s t).bases
 -- ---- the laws
 
 -- a prefix of a run is a run
-abbrev pub FrontIsRun : Type 0
-FrontIsRun = (setup : Setup) (told : Told) (es fs : List Entry) → IsRun setup told (es ++ fs) → IsRun setup told es
+abbrev pub PrefixIsRun : Type 0
+PrefixIsRun = (setup : Setup) (told : Told) (es fs : List Entry) → IsRun setup told (es ++ fs) → IsRun setup told es
 
 -- an entry leads from a state to one state at most
 abbrev pub StepIsDetermined : Type 0

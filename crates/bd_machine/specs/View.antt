@@ -15,6 +15,7 @@ use Rattle.bd_machine.specs.declared.state.Kept.{Kept}
 use Rattle.bd_machine.specs.declared.state.Tracked.{Tracked}
 use Rattle.bd_machine.specs.declared.state.Handle.{Handle}
 use Rattle.bd_machine.specs.declared.state.Part.{Part}
+use Rattle.bd_machine.specs.declared.state.Registry.{Registry}
 use Rattle.bd_machine.specs.declared.state.State.{State}
 use Rattle.bd_machine.specs.Registry.{Question, answer_to, is_unused}
 use Rattle.bd_machine.specs.Same.{same_id}
@@ -128,14 +129,14 @@ message_of s r n (Some token) = kept_in s r n token.place token.kept
 abbrev pub message_for : State → ℕ → Taking → Option Kept
 message_for s t m = message_of m.source t m.number (look_up same_id s.tokens (id_of m.source t m.number m.what))
 
-abbrev pub is_unused_if_any : State → Option DevId → Bool
-is_unused_if_any s None = false
-is_unused_if_any s (Some dev) = is_unused s.registry dev
+abbrev pub is_unused_if_any : Registry → Option DevId → Bool
+is_unused_if_any registry None = false
+is_unused_if_any registry (Some dev) = is_unused registry dev
 
 abbrev pub came_for : Setup → State → ℕ → Act → Came
 came_for setup s t act = record {
   message = option_and_then (message_for s t) (took act);
   answer = option_and_then (λ q. answer_to setup s.registry t q.event) (asked act);
-  unused = is_unused_if_any s (destructed_by act);
+  unused = is_unused_if_any s.registry (destructed_by act);
   shut = s.shut;
 }

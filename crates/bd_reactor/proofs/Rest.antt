@@ -1,7 +1,7 @@
 -- When a node is at rest: a Shutdown may come, and after it the run is complete.
-use Rattle.std.proofs.Common.{◌≡◌, ℕ, zero, suc, ◌+◌, ◌^◌, ◌<◌, ◌≤◌, ◌⊎◌, inl, inr, Bool, true, false, cond, not, ◌||◌, ◌==◌, List, [], ◌∷◌, length, Option, Some, None, refl, sym, ◌∙◌, ap, subst, eq-eqb, eqb-true, arith, nat_lt}
+use Rattle.std.proofs.Common.{◌≡◌, ℕ, zero, suc, ◌+◌, ◌^◌, ◌<◌, Bool, true, false, cond, not, ◌||◌, ◌==◌, List, [], ◌∷◌, length, Option, Some, None, refl, sym, ◌∙◌, ap, subst, eq-eqb, eqb-true, arith, nat_lt}
 use Rattle.std.specs.List.{list_all, list_any, range_with_len, slice_get}
-use Rattle.std.proofs.lemmas.Bool.{and_parts, cases_eq}
+use Rattle.std.proofs.lemmas.Bool.{and_parts}
 use Rattle.std.proofs.lemmas.List.{length-append}
 use Rattle.std.proofs.lemmas.Nat.{mod_below}
 use Rattle.bd_base.specs.declared.setup.Setup.{Setup}
@@ -10,13 +10,15 @@ use Rattle.bd_machine.specs.declared.state.Kept.{Kept}
 use Rattle.bd_machine.specs.declared.state.State.{State}
 use Rattle.bd_machine.specs.Asked.{is_script_blocked}
 use Rattle.bd_machine.specs.BlockMap.{base_of, home}
+use Rattle.bd_machine.specs.Lines.{shutdown_at}
 use Rattle.bd_machine.specs.Run.{IsCompleteRun, state_after}
 use Rattle.bd_machine.specs.Same.{same_dev}
 use Rattle.bd_machine.specs.Start.{dev_of, start}
 use Rattle.bd_machine.specs.Step.{after}
 use Rattle.bd_machine.specs.View.{View}
-use Rattle.bd_alone.proofs.Entries.{after_on, run_on}
-use Rattle.bd_turns.specs.Laws.{AreAtRest, AreBlocked, AreDestructed, IsShut, shutdown_at}
+use Rattle.bd_machine.proofs.Complete.{all_below}
+use Rattle.bd_machine.proofs.Runs.{after_on, run_on}
+use Rattle.bd_turns.specs.Laws.{AreAtRest, AreBlocked, AreDestructed, IsShut}
 use Rattle.bd_turns.specs.Tied.{IsTied}
 use Rattle.bd_turns.specs.declared.queue.Message.{Message}
 use Rattle.bd_turns.proofs.Rest.{rest_is_complete, shutdown_is_allowed}
@@ -50,16 +52,6 @@ none_held held e id = ap (λ (h : List (Id × Kept)). here_in h id) e
 one_of : (b c : Bool) → (not b || c) ≡ true → b ≡ true → c ≡ true
 one_of true c h e = h
 one_of false c h e = cc
-
-range_at : (p : ℕ → Bool) (k a n : ℕ) → list_all p (range_with_len a k) ≡ true → a ≤ n → n < a + k → p n ≡ true
-range_at p zero a n h low high = absurd (omega (arith, low, high))
-range_at p (suc k) a n h low high =
-    let both = and_parts (p a) (list_all p (range_with_len (a + 1) k)) h in
-    go (cases_eq a n) both.0 (λ ne. range_at p k (a + 1) n both.1 (omega (arith, low, ne)) (omega (arith, high)))
-  where
-    go : (a ≡ n) ⊎ (a ≡ n → ⊥) → p a ≡ true → ((a ≡ n → ⊥) → p n ≡ true) → p n ≡ true
-    go (inl same) here rest = subst (λ (m : ℕ). p m ≡ true) same here
-    go (inr ne) here rest = rest ne
 
 pub idle_parts : (shut over idle : Bool) → cond shut (cond over Done Busy) (cond idle Idle Busy) ≡ Idle → (shut ≡ false) × (idle ≡ true)
 idle_parts true true idle h = cc
@@ -103,7 +95,7 @@ module _ (setup : Setup) (threads : List Thread) (links : Links) (w : IsWhole se
       of_each has_destructed_all (λ t v. (t ≡ at) → list_any (same_dev (dev_of n)) v.part.destructed ≡ true) all
       (λ t given h same.
       let every = (and_parts (nat_lt (length t.setup.now.devices) (2 ^ 32)) (list_all (is_done_with t.setup.now t.me t.part.destructed) (range_with_len 0 (length t.setup.now.devices))) h).1 in
-      let one = range_at (is_done_with t.setup.now t.me t.part.destructed) (length t.setup.now.devices) 0 n every (omega arith) (subst (λ (s : Setup). n < 0 + length s.devices) (sym given) (omega (arith, lt))) in
+      let one = all_below (is_done_with t.setup.now t.me t.part.destructed) (length t.setup.now.devices) n every (subst (λ (s : Setup). n < length s.devices) (sym given) lt) in
       one_of (home t.setup.now (dev_of n) == t.me) (list_any (same_dev (dev_of n)) t.part.destructed) one
       (eq-eqb (home t.setup.now (dev_of n)) t.me (ap (λ (s : Setup). home s (dev_of n)) given ∙ sym same)))
       at (mod_below (base_of setup (dev_of n)).0 setup.threads w.some) refl

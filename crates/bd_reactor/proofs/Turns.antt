@@ -11,7 +11,7 @@ use Rattle.bd_machine.specs.declared.state.State.{State}
 use Rattle.bd_machine.specs.Run.{IsRun, after_all, state_after}
 use Rattle.bd_machine.specs.Start.{start}
 use Rattle.bd_machine.specs.View.{View, is_of, view}
-use Rattle.bd_alone.proofs.Entries.{after_on, run_on}
+use Rattle.bd_machine.proofs.Runs.{after_on, run_on}
 use Rattle.bd_turns.specs.Laws.{IsTurn, with_view}
 use Rattle.bd_turns.specs.Local.{Leads, Shared}
 use Rattle.bd_turns.specs.Tied.{IsTied}

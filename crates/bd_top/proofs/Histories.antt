@@ -5,9 +5,9 @@ use Rattle.bd_base.specs.declared.device.DevRow.{DevRow}
 use Rattle.bd_base.specs.declared.job.Script.{Script}
 use Rattle.bd_base.specs.declared.setup.Setup.{Setup}
 use Rattle.bd_machine.specs.Run.{IsRun, IsCompleteRun}
+use Rattle.bd_machine.proofs.LastClose.{destructed_after_last_close}
+use Rattle.bd_machine.proofs.Lines.{scripts_go_as_far}
 use Rattle.bd_machine.proofs.Runs.{each_is_completed_once, each_is_destructed_once}
-use Rattle.bd_alone.proofs.Closes.{destructed_after_last_close}
-use Rattle.bd_alone.proofs.Far.{scripts_go_as_far}
 use Rattle.bd_outside.specs.File.{Told}
 use Rattle.bd_report.specs.Report.{report_of}
 use Rattle.bd_top.specs.Run.{GoAsFar, AreCompletedOnce, AreDestructedOnce, AreAfterLastClose, IsDevice, IsScript, IsPlayed}

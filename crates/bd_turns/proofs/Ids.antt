@@ -1,6 +1,5 @@
 -- The facts of ids in a tied state are those that the machine's own laws speak of.
-use Rattle.std.proofs.Common.{◌≡◌, List, [], ◌∷◌, Option, Some, None, refl, sym, ◌∙◌}
-use Rattle.bd_machine.specs.declared.state.Id.{Id}
+use Rattle.std.proofs.Common.{◌≡◌, Option, Some, None, refl, sym, ◌∙◌}
 use Rattle.bd_machine.specs.declared.state.Id.TheVariants.{Request}
 use Rattle.bd_machine.specs.declared.state.Kept.{Kept}
 use Rattle.bd_machine.specs.declared.state.Kept.TheVariants as keeps
@@ -9,16 +8,7 @@ use Rattle.bd_machine.specs.declared.state.Tracked.{Tracked}
 use Rattle.bd_machine.specs.Same.{same_id}
 use Rattle.bd_machine.specs.Table.{look_up}
 use Rattle.bd_machine.proofs.Acts as acts
-use Rattle.bd_alone.proofs.Keys as keys
-use Rattle.bd_turns.specs.Tied.{IsKeyed, is_cut_kept, is_cut, AreFresh}
-
-pub keyed_to : (ts : List (Id × Tracked)) → IsKeyed ts → keys.IsKeyed ts
-keyed_to [] h = tt
-keyed_to (x ∷ xs) h = (h.0, keyed_to xs h.1)
-
-pub keyed_from : (ts : List (Id × Tracked)) → keys.IsKeyed ts → IsKeyed ts
-keyed_from [] h = tt
-keyed_from (x ∷ xs) h = (h.0, keyed_from xs h.1)
+use Rattle.bd_turns.specs.Tied.{is_cut_kept, is_cut, AreFresh}
 
 kept_same : (kept : Kept) → is_cut_kept kept ≡ acts.cut_of kept
 kept_same (keeps.Request r) = refl

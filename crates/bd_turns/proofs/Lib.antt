@@ -1,5 +1,7 @@
 pub mod Queues
 pub mod Ids
+pub mod Keys
+pub mod Allowed
 pub mod Start
 pub mod Effects
 pub mod Rings

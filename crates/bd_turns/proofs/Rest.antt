@@ -15,6 +15,7 @@ use Rattle.bd_machine.specs.declared.state.State.{State}
 use Rattle.bd_machine.specs.declared.state.Tracked.{Tracked}
 use Rattle.bd_machine.specs.Asked.{is_script_blocked}
 use Rattle.bd_machine.specs.BlockMap.{home, base_of}
+use Rattle.bd_machine.specs.Lines.{shutdown_at}
 use Rattle.bd_machine.specs.Placement.{place_of}
 use Rattle.bd_machine.specs.Rest.{is_ring, is_in_ring, is_nothing_due, is_nowhere, is_request, is_open_request, are_all_taken, are_all_put, are_all_completed, is_at_rest, are_scripts_blocked}
 use Rattle.bd_machine.specs.Run.{is_destructed, is_finished}
@@ -23,13 +24,11 @@ use Rattle.bd_machine.specs.Start.{dev_of}
 use Rattle.bd_machine.specs.Step.{IsAllowed, is_in_order, after}
 use Rattle.bd_machine.specs.Table.{look_up}
 use Rattle.bd_machine.specs.View.{View, here_of, kept_on, part_of, blank_part}
-use Rattle.bd_alone.specs.World.{unless_closed}
-use Rattle.bd_alone.proofs.Keys.{none_such}
-use Rattle.bd_alone.proofs.Worlds.{all_pass, in_order}
-use Rattle.bd_turns.specs.Laws.{AreAtRest, AreBlocked, AreDestructed, ShutdownIsAllowed, RestIsComplete, shutdown_at}
+use Rattle.bd_turns.specs.Laws.{AreAtRest, AreBlocked, AreDestructed, ShutdownIsAllowed, RestIsComplete}
 use Rattle.bd_turns.specs.Local.{Shared, Local, local_after}
 use Rattle.bd_turns.specs.Tied.{IsQueued, IsPlaced, IsTied}
-use Rattle.bd_turns.proofs.Ids.{keyed_to}
+use Rattle.bd_turns.proofs.Allowed.{all_pass, in_order}
+use Rattle.bd_turns.proofs.Keys.{is_closed, none_such}
 use Rattle.bd_turns.proofs.Turns.{tied_after, same_view}
 
 -- ---- a test of each
@@ -64,8 +63,8 @@ module _ (setup : Setup) (s : State) (views : ℕ → View) (shared : Shared) (t
   part_is t lt = ap (λ (v : View). v.part) (tied.views_are t lt)
 
   -- a token is neither on a thread nor in a ring
-  none_live : (id : Id) → unless_closed (look_up same_id s.tokens id) ≡ None
-  none_live id = go (look_up same_id s.tokens id) (tied.placed id) (λ t lt. ap (λ (v : View). v.here id) (tied.views_are t lt) ∙ rests.none_here t lt id)
+  all_closed : (id : Id) → is_closed (look_up same_id s.tokens id) ≡ true
+  all_closed id = go (look_up same_id s.tokens id) (tied.placed id) (λ t lt. ap (λ (v : View). v.here id) (tied.views_are t lt) ∙ rests.none_here t lt id)
     where
       differ : {X : Type 0} (x : X) → Some x ≡ None → ⊥
       differ x h = cc
@@ -75,15 +74,15 @@ module _ (setup : Setup) (s : State) (views : ℕ → View) (shared : Shared) (t
       shut (Ring a r n) kept placed here = absurd (subst (IsQueued id r (part_of s r).taken) (rests.none_queued r) placed)
       shut Nowhere kept placed here = refl
 
-      go : (o : Option Tracked) → IsPlaced setup s shared.queues id (place_of o) → ((t : ℕ) → t < setup.threads → here_of t o ≡ None) → unless_closed o ≡ None
+      go : (o : Option Tracked) → IsPlaced setup s shared.queues id (place_of o) → ((t : ℕ) → t < setup.threads → here_of t o ≡ None) → is_closed o ≡ true
       go None placed here = refl
-      go (Some token) placed here = ap (λ b. cond b None (Some token)) (shut token.place token.kept placed here)
+      go (Some token) placed here = shut token.place token.kept placed here
 
   all_taken : are_all_taken s ≡ true
-  all_taken = ap not (none_such is_in_ring closed_not_taken s.tokens (keyed_to s.tokens tied.keyed) none_live)
+  all_taken = ap not (none_such is_in_ring closed_not_taken s.tokens tied.keyed all_closed)
 
   all_completed : are_all_completed s ≡ true
-  all_completed = ap not (none_such is_open_request closed_not_open s.tokens (keyed_to s.tokens tied.keyed) none_live)
+  all_completed = ap not (none_such is_open_request closed_not_open s.tokens tied.keyed all_closed)
 
   below : (i : ℕ) → i < length s.parts → i < setup.threads
   below i lt = subst (λ (n : ℕ). i < n) tied.threads_are lt

@@ -1,24 +1,14 @@
 -- The start of any setup is tied to what each thread sees there, with empty queues.
-use Rattle.std.proofs.Common.{◌≡◌, ℕ, zero, suc, ◌+◌, List, [], ◌∷◌, map, get_or, refl, sym, ◌∙◌, ap, zero-add}
+use Rattle.std.proofs.Common.{ℕ, ◌+◌, List, refl, sym, ◌∙◌, ap, zero-add}
 use Rattle.std.specs.List.{range_with_len}
 use Rattle.std.proofs.lemmas.List.FromFn.{get_or-map-range_with_len, length-map-range_with_len}
-use Rattle.bd_base.specs.declared.setup.Setup.{Setup}
-use Rattle.bd_machine.specs.Content.{Told}
+use Rattle.bd_machine.specs.declared.state.Part.{Part}
 use Rattle.bd_machine.specs.Messages.{count_at}
 use Rattle.bd_machine.specs.Start.{start, part_at_start}
 use Rattle.bd_machine.specs.View.{view, blank_part}
+use Rattle.bd_machine.proofs.Complete.{begins}
 use Rattle.bd_machine.proofs.Laws.{view_eq}
 use Rattle.bd_turns.specs.Laws.{StartIsTied, view_at_start}
-
-none_put : (setup : Setup) (told : Told) (us : List ℕ) (i : ℕ) → (get_or (map (part_at_start setup told) us) i blank_part).put ≡ []
-none_put setup told [] i = refl
-none_put setup told (u ∷ us) zero = refl
-none_put setup told (u ∷ us) (suc i) = none_put setup told us i
-
-none_taken : (setup : Setup) (told : Told) (us : List ℕ) (i : ℕ) → (get_or (map (part_at_start setup told) us) i blank_part).taken ≡ []
-none_taken setup told [] i = refl
-none_taken setup told (u ∷ us) zero = refl
-none_taken setup told (u ∷ us) (suc i) = none_taken setup told us i
 
 pub start_is_tied : StartIsTied
 start_is_tied setup told = record {
@@ -30,8 +20,8 @@ start_is_tied setup told = record {
       (get_or-map-range_with_len (part_at_start setup told) 0 setup.threads t t blank_part lt (zero-add t)) (λ id. refl) refl;
   stand = λ r. tt;
   counts = λ r a.
-      ap (λ (p : List (ℕ × ℕ)). count_at p r) (none_put setup told (range_with_len 0 setup.threads) a)
-      ∙ sym (ap (λ (p : List (ℕ × ℕ)). count_at p a + 0) (none_taken setup told (range_with_len 0 setup.threads) r));
+      ap (λ (p : List (ℕ × ℕ)). count_at p r) (begins (λ (p : Part). p.put) setup told (λ u. refl) (range_with_len 0 setup.threads) a)
+      ∙ sym (ap (λ (p : List (ℕ × ℕ)). count_at p a + 0) (begins (λ (p : Part). p.taken) setup told (λ u. refl) (range_with_len 0 setup.threads) r));
   placed = λ id. tt;
   keyed = tt;
   fresh = record { requests = λ r h. refl; notices = λ a b n h. refl; pieces = λ r k h. refl };

@@ -16,15 +16,16 @@ use Rattle.bd_machine.specs.Run.{after_all}
 use Rattle.bd_machine.specs.Step.{IsAllowed, first_failing, guards_in, guards_shutdown, is_in_order, is_shutdown, change_in, after}
 use Rattle.bd_machine.specs.View.{View, Came, Change, Taking, view, part_of, came_for, asked}
 use Rattle.bd_machine.proofs.Acts.{Passes, passed, IsFresh}
+use Rattle.bd_machine.proofs.Runs.{threads_stay}
 use Rattle.bd_machine.proofs.Steps.{own, frame, fresh_after}
-use Rattle.bd_alone.proofs.Keys.{after_keyed}
-use Rattle.bd_alone.proofs.Worlds.{all_pass, no_guards_shutdown, in_order, threads_stay}
 use Rattle.bd_turns.specs.declared.queue.Message.{Message}
 use Rattle.bd_turns.specs.Laws.{TurnIsRun, IsTurn, with_view}
 use Rattle.bd_turns.specs.Local.{Shared, Local, first_of, came_local, refusal_local, change_local, queue_after, carried_local, local_after, Leads}
 use Rattle.bd_turns.specs.Tied.{Stand, IsTied}
+use Rattle.bd_turns.proofs.Allowed.{all_pass, no_guards_shutdown, in_order}
 use Rattle.bd_turns.proofs.Effects.{Kind, Puts, Tooks, Quiet, kind_of, brings_some}
-use Rattle.bd_turns.proofs.Ids.{keyed_to, keyed_from, fresh_to, fresh_from}
+use Rattle.bd_turns.proofs.Ids.{fresh_to, fresh_from}
+use Rattle.bd_turns.proofs.Keys.{after_keyed}
 use Rattle.bd_turns.proofs.PutRings.{put_rings}
 use Rattle.bd_turns.proofs.Queues.{First, first_is, taken_first}
 use Rattle.bd_turns.proofs.Rings.{AreRings, quiet_rings}
@@ -115,7 +116,7 @@ module _ (setup : Setup) (s : State) (views : ℕ → View) (shared : Shared) (e
     stand = now.stand;
     counts = now.counts;
     placed = now.placed;
-    keyed = keyed_from (after setup s e).tokens (after_keyed setup s e (keyed_to s.tokens tied.keyed));
+    keyed = after_keyed setup s e tied.keyed;
     fresh = fresh_from (after setup s e) (fresh_after setup s e fresh_of allowed);
   }
     where

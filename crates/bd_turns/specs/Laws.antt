@@ -1,7 +1,6 @@
 -- The laws of turns: what each thread does by what it sees and by what is shared is a run of the machine.
 use Rattle.std.specs.Prelude.{◌≡◌, ℕ, ◌<◌, true, false, cond, ◌==◌, List, [], length, None}
 use Rattle.std.specs.List.{list_any}
-use Rattle.bd_base.specs.declared.act.Act.TheVariants as acts
 use Rattle.bd_base.specs.declared.act.Entry.{Entry}
 use Rattle.bd_base.specs.declared.setup.Setup.{Setup}
 use Rattle.bd_machine.specs.declared.state.Id.{Id}
@@ -9,6 +8,7 @@ use Rattle.bd_machine.specs.declared.state.State.{State}
 use Rattle.bd_machine.specs.Asked.{is_script_blocked}
 use Rattle.bd_machine.specs.BlockMap.{home}
 use Rattle.bd_machine.specs.Content.{Told}
+use Rattle.bd_machine.specs.Lines.{shutdown_at}
 use Rattle.bd_machine.specs.Run.{IsRunFrom, after_all, is_finished}
 use Rattle.bd_machine.specs.Same.{same_dev}
 use Rattle.bd_machine.specs.Start.{start, part_at_start, dev_of}
@@ -58,9 +58,6 @@ pub record AreAtRest (setup : Setup) (views : ℕ → View) (shared : Shared) : 
 -- every script is at its end, or its next line waits
 abbrev pub AreBlocked : Setup → (ℕ → View) → Type 0
 AreBlocked setup views = (t : ℕ) → t < setup.threads → is_script_blocked setup t (views t).part ≡ true
-
-abbrev pub shutdown_at : ℕ → Entry
-shutdown_at stamp = record { stamp = stamp; thread = 0; act = acts.Shutdown }
 
 -- the Shutdown is allowed, and it changes nothing but that it stands, with its stamp
 pub record IsShut (setup : Setup) (s : State) (views : ℕ → View) (shared : Shared) (stamp : ℕ) : Type 0 where

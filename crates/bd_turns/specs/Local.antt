@@ -13,8 +13,7 @@ use Rattle.bd_machine.specs.Guards.{guards, change, is_built}
 use Rattle.bd_machine.specs.Registry.{answer_to, registry_after}
 use Rattle.bd_machine.specs.Same.{same_id}
 use Rattle.bd_machine.specs.Step.{first_failing, is_shutdown}
-use Rattle.bd_machine.specs.View.{View, Came, Change, Move, Taking, took, asked, destructed_by, id_of}
-use Rattle.bd_alone.specs.World.{is_unused_in}
+use Rattle.bd_machine.specs.View.{View, Came, Change, Move, Taking, is_unused_if_any, took, asked, destructed_by, id_of}
 use Rattle.bd_turns.specs.declared.queue.Message.{Message}
 
 -- the stamp of the last entry; whether the Shutdown came; the registry; for each receiver its messages in the order in which they were put
@@ -44,7 +43,7 @@ abbrev pub came_local : Setup → ℕ → Local → Act → Came
 came_local setup t l act = record {
   message = option_and_then (first_of t (l.shared.queues t)) (took act);
   answer = option_and_then (λ q. answer_to setup l.shared.registry t q.event) (asked act);
-  unused = is_unused_in l.shared.registry (destructed_by act);
+  unused = is_unused_if_any l.shared.registry (destructed_by act);
   shut = l.shared.shut;
 }
 

@@ -1,5 +1,5 @@
--- In a run each token has one place in the list of tokens, so that what look_up shows of them all says what the list has.
-use Rattle.std.proofs.Common.{◌≡◌, ℕ, Bool, true, false, cond, ◌||◌, List, [], ◌∷◌, Some, None, refl, sym, ◌∙◌, ap, subst}
+-- Each token has one place in the list of tokens, so that what look_up shows of them all says what the list has.
+use Rattle.std.proofs.Common.{◌≡◌, ℕ, Bool, true, false, cond, ◌||◌, List, [], ◌∷◌, Option, Some, None, refl, sym, ◌∙◌, ap, subst}
 use Rattle.std.specs.List.{list_any}
 use Rattle.bd_base.specs.declared.act.Entry.{Entry}
 use Rattle.bd_base.specs.declared.setup.Setup.{Setup}
@@ -7,18 +7,12 @@ use Rattle.bd_machine.specs.declared.state.Id.{Id}
 use Rattle.bd_machine.specs.declared.state.State.{State}
 use Rattle.bd_machine.specs.declared.state.Tracked.{Tracked}
 use Rattle.bd_machine.specs.Rest.{is_nowhere}
-use Rattle.bd_machine.specs.Run.{after_all}
 use Rattle.bd_machine.specs.Same.{same_id}
 use Rattle.bd_machine.specs.Step.{moved, place_after, change_in, after}
 use Rattle.bd_machine.specs.Table.{look_up, write}
 use Rattle.bd_machine.specs.View.{Move}
 use Rattle.bd_machine.proofs.Tables.{look_up-write, id_same}
-use Rattle.bd_alone.specs.World.{unless_closed}
-
--- no id stands twice
-abbrev pub IsKeyed : List (Id × Tracked) → Type 0
-IsKeyed [] = Unit {0}
-IsKeyed (x ∷ xs) = (look_up same_id xs x.0 ≡ None) × IsKeyed xs
+use Rattle.bd_turns.specs.Tied.{IsKeyed}
 
 true_not_false : true ≡ false → ⊥
 true_not_false e = cc
@@ -45,28 +39,19 @@ pub after_keyed : (setup : Setup) (s : State) (e : Entry) → IsKeyed s.tokens �
 unfolding after
 after_keyed setup s e h = moved_keyed e.thread (change_in setup s e.thread e.act).moves s.tokens h
 
-pub all_keyed : (setup : Setup) (s : State) (es : List Entry) → IsKeyed s.tokens → IsKeyed (after_all setup s es).tokens
-all_keyed setup s [] h = h
-all_keyed setup s (e ∷ es) h = all_keyed setup (after setup s e) es (after_keyed setup s e h)
+-- a token that isn't there, or was closed
+abbrev pub is_closed : Option Tracked → Bool
+is_closed None = true
+is_closed (Some token) = is_nowhere token.place
 
-closed : (token : Tracked) → unless_closed (Some token) ≡ None → is_nowhere token.place ≡ true
-closed token h = go (is_nowhere token.place) h
-  where
-    go : (b : Bool) → cond b None (Some token) ≡ None → b ≡ true
-    go true h = refl
-    go false h = cc
-
--- where no id has an open token, no token of the list is open
+-- where the token of each id is closed, no token of the list passes a test that no closed one passes
 pub none_such : (is : Id × Tracked → Bool) → ((x : Id × Tracked) → is_nowhere x.1.place ≡ true → is x ≡ false)
-    → (ts : List (Id × Tracked)) → IsKeyed ts → ((id : Id) → unless_closed (look_up same_id ts id) ≡ None) → list_any is ts ≡ false
+    → (ts : List (Id × Tracked)) → IsKeyed ts → ((id : Id) → is_closed (look_up same_id ts id) ≡ true) → list_any is ts ≡ false
 none_such is still [] keyed h = refl
 none_such is still (x ∷ xs) keyed h =
-    ap (λ b. b || list_any is xs) (still x (closed x.1 (sym found ∙ h x.0)))
+    ap (λ b. b || list_any is xs) (still x (sym (ap (λ b. is_closed (cond b (Some x.1) (look_up same_id xs x.0))) (id_same.same_self x.0)) ∙ h x.0))
     ∙ none_such is still xs keyed.1 (λ id. rest id (same_id x.0 id) refl)
   where
-    found : unless_closed (look_up same_id (x ∷ xs) x.0) ≡ unless_closed (Some x.1)
-    found = ap (λ b. unless_closed (cond b (Some x.1) (look_up same_id xs x.0))) (id_same.same_self x.0)
-
-    rest : (id : Id) (b : Bool) → same_id x.0 id ≡ b → unless_closed (look_up same_id xs id) ≡ None
-    rest id true e = ap unless_closed (subst (λ (i : Id). look_up same_id xs i ≡ None) (id_same.exact x.0 id e) keyed.0)
-    rest id false e = ap (λ b. unless_closed (cond b (Some x.1) (look_up same_id xs id))) (sym e) ∙ h id
+    rest : (id : Id) (b : Bool) → same_id x.0 id ≡ b → is_closed (look_up same_id xs id) ≡ true
+    rest id true e = ap is_closed (subst (λ (i : Id). look_up same_id xs i ≡ None) (id_same.exact x.0 id e) keyed.0)
+    rest id false e = ap (λ b. is_closed (cond b (Some x.1) (look_up same_id xs id))) (sym e) ∙ h id

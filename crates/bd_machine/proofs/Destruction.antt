@@ -1,4 +1,4 @@
--- A device is destructed after its last close: after Shutdown the registry grants no open.
+-- What holds of a device that is destructed: a Shutdown stands and no handle of it is open, and after a Shutdown the registry grants no open.
 use Rattle.std.proofs.Common.{◌≡◌, ℕ, Bool, true, false, not, ◌&&◌, ◌==◌, if◌then◌else◌, List, [], ◌∷◌, Option, Some, None, refl, sym, ◌∙◌, ap, eqb-true}
 use Rattle.std.specs.List.{AllByRecursion}
 use Rattle.std.proofs.lemmas.Bool.{and_parts}
@@ -15,20 +15,19 @@ use Rattle.bd_base.specs.declared.setup.Setup.{Setup}
 use Rattle.bd_machine.specs.declared.state.Handle.{Handle}
 use Rattle.bd_machine.specs.declared.state.State.{State}
 use Rattle.bd_machine.specs.Asked.{undecided_job, is_job_open}
+use Rattle.bd_machine.specs.Destruction.{is_opening_answer, is_opening_of}
 use Rattle.bd_machine.specs.Homes.{is_home, has_destructed}
 use Rattle.bd_machine.specs.Laws.{is_destruct_of}
 use Rattle.bd_machine.specs.Registry.{close_answer, handle_of, is_unused}
-use Rattle.bd_machine.specs.Run.{IsRunFrom, after_all}
+use Rattle.bd_machine.specs.Run.{IsRunFrom}
 use Rattle.bd_machine.specs.Same.{same_answer, same_dev}
-use Rattle.bd_machine.specs.Start.{start}
 use Rattle.bd_machine.specs.Step.{guards_in, after}
 use Rattle.bd_machine.specs.View.{view}
 use Rattle.bd_machine.proofs.Acts.{Passes, passed}
+use Rattle.bd_machine.proofs.Runs.{shut_after}
 use Rattle.bd_machine.proofs.Steps.{allowed_passes}
-use Rattle.bd_alone.specs.Laws.{DestructedAfterLastClose, is_opening_answer, is_opening_of}
-use Rattle.bd_alone.proofs.Entries.{run_behind, shut_after}
 
--- ---- after Shutdown
+-- ---- after a Shutdown
 
 -- the answer to a close opens nothing
 close_opens_none : (d : DevId) (t : ℕ) (answer : Answer) (o : Option Handle) → same_answer answer (close_answer t o) ≡ true → is_opening_answer d answer ≡ false
@@ -61,7 +60,7 @@ opens_none : (setup : Setup) (s : State) (t : ℕ) (d : DevId) (act : Act) → s
 opens_none setup s t d (acts.Reg event answer) shut h = answer_opens_none setup s t d event answer shut h
 opens_none setup s t d _ shut h = refl
 
-run_opens_none : (setup : Setup) (s : State) (d : DevId) (es : List Entry) → s.shut ≡ true → IsRunFrom setup s es → AllByRecursion (λ e. is_opening_of d e.act ≡ false) es
+pub run_opens_none : (setup : Setup) (s : State) (d : DevId) (es : List Entry) → s.shut ≡ true → IsRunFrom setup s es → AllByRecursion (λ e. is_opening_of d e.act ≡ false) es
 run_opens_none setup s d [] shut run = tt
 run_opens_none setup s d (e ∷ es) shut run =
     (opens_none setup s e.thread d e.act shut (allowed_passes setup s e run.0), run_opens_none setup (after setup s e) d es (shut_after setup s e shut) run.1)
@@ -69,19 +68,10 @@ run_opens_none setup s d (e ∷ es) shut run =
 -- ---- at the Destruct
 
 -- no handle of the device is open, and a Shutdown stands
-destruct_says : (setup : Setup) (s : State) (t : ℕ) (d : DevId) (act : Act) → Passes (guards_in setup s t act) → is_destruct_of d act ≡ true → (is_unused s.registry d ≡ true) × (s.shut ≡ true)
+pub destruct_says : (setup : Setup) (s : State) (t : ℕ) (d : DevId) (act : Act) → Passes (guards_in setup s t act) → is_destruct_of d act ≡ true → (is_unused s.registry d ≡ true) × (s.shut ≡ true)
 destruct_says setup s t d (acts.Destruct dev digest) h e =
     let ok = passed (guards_in setup s t (acts.Destruct dev digest)) h in
     let p = and_parts (is_home setup t dev && s.shut && is_unused s.registry dev) (not (has_destructed (view s t) dev)) ok.0 in
     let q = and_parts (is_home setup t dev && s.shut) (is_unused s.registry dev) p.0 in
-    let same : dev.0 ≡ d.0 = sym (eqb-true d.0 dev.0 e) in
-    (ap (λ (n : ℕ). let x : DevId = record { 0 = n } in is_unused s.registry x) (sym same) ∙ q.1, (and_parts (is_home setup t dev) s.shut q.0).1)
+    (ap (λ (n : ℕ). let x : DevId = record { 0 = n } in is_unused s.registry x) (eqb-true d.0 dev.0 e) ∙ q.1, (and_parts (is_home setup t dev) s.shut q.0).1)
 destruct_says setup s t d _ h e = cc
-
--- **After the last close**
-pub destructed_after_last_close : DestructedAfterLastClose
-destructed_after_last_close setup told fs e gs d run destructs =
-    let s : State = after_all setup (start setup told) fs in
-    let rest = run_behind setup (start setup told) fs (e ∷ gs) run in
-    let says = destruct_says setup s e.thread d e.act (allowed_passes setup s e rest.0) destructs in
-    record { unused = says.0; no_opening = run_opens_none setup (after setup s e) d gs (shut_after setup s e says.1) rest.1 }
