@@ -105,7 +105,10 @@ mod tests {
             let mut out = Output::new(SlowWriter { most, taken });
             let fault = fault_over(alloc, &mut out)?;
             assert!(rt; fault.is_none(), "at most {most}");
-            assert!(rt; out.to.taken.as_slice() == report.as_bytes(), "at most {most}");
+            assert!(rt;
+                out.to.taken.as_slice() == report.as_bytes(),
+                "at most {most}"
+            );
         }
         Ok(())
     }
