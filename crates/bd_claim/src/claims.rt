@@ -84,7 +84,9 @@ impl Claims {
     /// Each but the third makes its handle a writing one. A refusal changes nothing.
     pub fn claim(&mut self, handle: HandleId, kind: ClaimKind) -> Result<(), Errno>
         requires { IsTrue (is_open handle.0 self.old.holders) }
-        ensures cause { MatchResult result (λ _. claim_refusal kind handle.0 self.old.holders ≡ None) (λ e. claim_refusal kind handle.0 self.old.holders ≡ Some e) }
+        ensures cause { MatchResult result
+            (λ _. claim_refusal kind handle.0 self.old.holders ≡ None)
+            (λ e. claim_refusal kind handle.0 self.old.holders ≡ Some e) }
         ensures ok { OnOk result (self.new ≡ record self.old { holders = with_claim kind handle.0 self.old.holders }) }
         ensures err { OnErr result (self.new ≡ self.old) }
     {

@@ -33,7 +33,14 @@ impl DelayChannel {
     /// A channel that had no request yet, with its latencies in microseconds: the average and the
     /// p99 of reads and of writes. It takes no memory.
     pub fn new(average_read: u64, p99_read: u64, average_write: u64, p99_write: u64) -> DelayChannel
-        ensures { result ≡ record { average_read = average_read; p99_read = p99_read; average_write = average_write; p99_write = p99_write; reads = 0; writes = 0 } }
+        ensures { result ≡ record {
+          average_read = average_read;
+          p99_read = p99_read;
+          average_write = average_write;
+          p99_write = p99_write;
+          reads = 0;
+          writes = 0;
+        } }
     {
         DelayChannel {
             average_read,

@@ -72,7 +72,9 @@ impl Channels {
         requires thread { thread.0 < self.old.threads }
         requires few { ForSome (references self.old.counts dev.0 thread.0) (λ n. n < u128.MAX) }
         ensures found { MatchOption (references self.old.counts dev.0 thread.0) (result ≡ Got.Fresh) (λ _. result ≡ Got.Again) }
-        ensures counted { self.new ≡ record self.old { counts = with_references self.old.counts dev.0 thread.0 (Some (unwrap_or (references self.old.counts dev.0 thread.0) 0 + 1)) } }
+        ensures counted { self.new ≡ record self.old {
+          counts = with_references self.old.counts dev.0 thread.0 (Some (unwrap_or (references self.old.counts dev.0 thread.0) 0 + 1));
+        } }
         ensures size { length self.new.counts ≡ length self.old.counts }
     {
         match self.references(dev, thread) {
@@ -93,7 +95,9 @@ impl Channels {
         requires thread { thread.0 < self.old.threads }
         requires some { 0 < unwrap_or (references self.old.counts dev.0 thread.0) 0 }
         ensures left { result ≡ put_answer (unwrap_or (references self.old.counts dev.0 thread.0) 0 - 1) }
-        ensures counted { self.new ≡ record self.old { counts = with_references self.old.counts dev.0 thread.0 (Some (unwrap_or (references self.old.counts dev.0 thread.0) 0 - 1)) } }
+        ensures counted { self.new ≡ record self.old {
+          counts = with_references self.old.counts dev.0 thread.0 (Some (unwrap_or (references self.old.counts dev.0 thread.0) 0 - 1));
+        } }
         ensures size { length self.new.counts ≡ length self.old.counts }
     {
         let left = self.references(dev, thread).unwrap_or(0) - 1;
@@ -112,7 +116,9 @@ impl Channels {
         requires thread { thread.0 < self.old.threads }
         ensures counts { self.new ≡ record self.old { counts = after_drop self.old.counts dev.0 thread.0 } }
         ensures size { length self.new.counts ≡ length self.old.counts }
-        ensures what { result ≡ (if drops (references self.old.counts dev.0 thread.0) then (if has_channel self.new.counts dev.0 then Dropped.Gone else Dropped.Last) else Dropped.Kept) }
+        ensures what { result ≡ (if drops (references self.old.counts dev.0 thread.0)
+            then (if has_channel self.new.counts dev.0 then Dropped.Gone else Dropped.Last)
+            else Dropped.Kept) }
     {
         if !is_zero(self.references(dev, thread)) {
             return Dropped::Kept;

@@ -1,6 +1,7 @@
 -- A node as the machine sees it: what all threads did so far is a run, and each thread sees what the machine's state then shows it.
 use Rattle.std.specs.Prelude.{◌≡◌, ℕ, ◌<◌, Bool, cond, ◌&&◌, List, [], Option, Some, None, slice_get, length, vec_len}
 use Rattle.std.specs.List.{list_all}
+use Rattle.bd_base.specs.declared.act.Entry.{Entry}
 use Rattle.bd_base.specs.declared.setup.Setup.{Setup}
 use Rattle.bd_machine.specs.Run.{IsRun, state_after}
 use Rattle.bd_machine.specs.View.{View}
@@ -9,8 +10,10 @@ use Rattle.bd_turns.specs.Local.{Shared}
 use Rattle.bd_turns.specs.Tied.{IsTied}
 use Rattle.bd_thread.specs.declared.links.Links.{Links}
 use Rattle.bd_thread.specs.declared.thread.Thread.{Thread}
+use Rattle.bd_thread.specs.declared.turn.Turned.{Turned}
+use Rattle.bd_thread.specs.Moves.{AddsMore}
 use Rattle.bd_thread.specs.Requests.{KeepsTickets}
-use Rattle.bd_thread.specs.Resting.{are_empty, has_destructed_all, is_blocked, rests}
+use Rattle.bd_thread.specs.Resting.{are_empty, has_destructed_all, is_blocked, rests, shut_down}
 use Rattle.bd_thread.specs.Starts.{IsNew}
 use Rattle.bd_thread.specs.Seen.{local, number_of, queues_of, setup_of}
 use Rattle.bd_reactor.specs.declared.node.Node.{Node}
@@ -84,3 +87,33 @@ pub record IsStarting (setup : Setup) (i : ℕ) (t : Thread) : Type 0 where
 -- so far each thread is at its place
 pub record AreStarting (setup : Setup) (threads : List Thread) : Type 0 where
   pub each : (i : ℕ) (t : Thread) → slice_get threads i ≡ Some t → IsStarting setup i t
+
+-- ---- what a caller sees of a node
+
+-- the setup that it plays
+abbrev pub setup_in : Node → Setup
+setup_in n = n.setup.now
+
+-- the entries of all its threads so far
+abbrev pub entries_of : Node → List Entry
+entries_of n = n.links.entries
+
+-- the number at which its generator of turns stands
+abbrev pub seed_of : Node → ℕ
+seed_of n = n.schedule.state
+
+-- it plays the same setup
+abbrev pub HasSameSetup : Node → Node → Type 0
+HasSameSetup old new = new.setup ≡ old.setup
+
+-- its generator of turns stands where it stood
+abbrev pub HasSameSeed : Node → Node → Type 0
+HasSameSeed old new = new.schedule ≡ old.schedule
+
+-- its threads did what this turn says
+abbrev pub HasTurned : Node → Node → Turned → Type 0
+HasTurned old new turned = AddsMore old.links new.links turned
+
+-- a Shutdown came, and all else that the threads share is as before
+abbrev pub IsShut : Node → Node → Type 0
+IsShut old new = new.links ≡ shut_down old.links

@@ -2,10 +2,9 @@
 ghost use Rattle.std.specs.Prelude.{◌≡◌, ◌<◌, ◌≤◌, [], length, nat_lt, IfOk, OnOk};
 ghost use Rattle.std.specs.List.{list_all};
 ghost use Rattle.bd_machine.specs.Run.{IsCompleteRun};
-ghost use Rattle.bd_thread.specs.Moves.{AddsMore};
-ghost use Rattle.bd_thread.specs.Resting.{has_destructed_all, is_blocked, rests, shut_down};
+ghost use Rattle.bd_thread.specs.Resting.{has_destructed_all, is_blocked, rests};
 ghost use Rattle.bd_reactor.specs.Schedule.{advance, advance_by};
-ghost use Rattle.bd_reactor.specs.Whole.{AreStarting, IsNode, IsWhole, is_at_rest, is_idle, is_over, state_of};
+ghost use Rattle.bd_reactor.specs.Whole.{AreStarting, HasSameSeed, HasSameSetup, HasTurned, IsNode, IsShut, IsWhole, entries_of, is_at_rest, is_idle, is_over, seed_of, setup_in, state_of};
 
 use crate::history::History;
 use crate::schedule::Schedule;
@@ -89,9 +88,9 @@ impl<'a> Node<'a> {
     pub fn build(alloc: Global, setup: &'a Setup, seed: u64) -> Result<Node<'a>, OutOfMemory>
         requires { 0 < setup.now.threads }
         ensures node { IfOk result (λ node. IsNode node) }
-        ensures setup { IfOk result (λ node. node.setup ≡ setup.entry) }
-        ensures seed { IfOk result (λ node. node.schedule.state ≡ seed) }
-        ensures entries { IfOk result (λ node. node.links.entries ≡ []) }
+        ensures setup { IfOk result (λ node. setup_in node ≡ setup.now) }
+        ensures seed { IfOk result (λ node. seed_of node ≡ seed) }
+        ensures entries { IfOk result (λ node. entries_of node ≡ []) }
     {
         let links = Links::new(alloc, setup.threads)?;
         let threads = threads_of(alloc, setup)?;
@@ -107,10 +106,10 @@ impl<'a> Node<'a> {
     pub fn turn_of(&mut self, thread: u32) -> Result<Turned, OutOfMemory>
         requires { IsNode self.old }
         ensures node { OnOk result (IsNode self.new) }
-        ensures setup { OnOk result (self.new.setup ≡ self.old.setup) }
-        ensures schedule { OnOk result (self.new.schedule ≡ self.old.schedule) }
-        ensures turned { IfOk result (AddsMore self.old.links self.new.links) }
-        ensures none { self.old.setup.now.threads ≤ thread → OnOk result (self.new ≡ self.old) }
+        ensures setup { OnOk result (HasSameSetup self.old self.new) }
+        ensures schedule { OnOk result (HasSameSeed self.old self.new) }
+        ensures turned { IfOk result (HasTurned self.old self.new) }
+        ensures none { (setup_in self.old).threads ≤ thread → OnOk result (self.new ≡ self.old) }
     {
         let place = thread as usize;
         if place >= self.threads.len() {
@@ -124,8 +123,8 @@ impl<'a> Node<'a> {
     fn next_turn(&mut self) -> Result<(), OutOfMemory>
         requires { IsNode self.old }
         ensures node { OnOk result (IsNode self.new) }
-        ensures setup { OnOk result (self.new.setup ≡ self.old.setup) }
-        ensures schedule { OnOk result (self.new.schedule.state ≡ advance self.old.schedule.state) }
+        ensures setup { OnOk result (HasSameSetup self.old self.new) }
+        ensures schedule { OnOk result (seed_of self.new ≡ advance (seed_of self.old)) }
     {
         let thread = self.schedule.next(self.setup.threads);
         self.turn_of(thread)?;
@@ -137,9 +136,9 @@ impl<'a> Node<'a> {
     pub fn round_by(&mut self) -> Result<bool, OutOfMemory>
         requires { IsNode self.old }
         ensures node { OnOk result (IsNode self.new) }
-        ensures setup { OnOk result (self.new.setup ≡ self.old.setup) }
-        ensures moved { IfOk result (λ moved. moved ≡ nat_lt (length self.old.links.entries) (length self.new.links.entries)) }
-        ensures schedule { OnOk result (self.new.schedule.state ≡ advance_by 256 self.old.schedule.state) }
+        ensures setup { OnOk result (HasSameSetup self.old self.new) }
+        ensures moved { IfOk result (λ moved. moved ≡ nat_lt (length (entries_of self.old)) (length (entries_of self.new))) }
+        ensures schedule { OnOk result (seed_of self.new ≡ advance_by 256 (seed_of self.old)) }
     {
         let before = self.links.entries.len();
         for _ in 0..TURNS {
@@ -188,8 +187,8 @@ impl<'a> Node<'a> {
         requires node { IsNode self.old }
         requires idle { state_of self.old ≡ NodeState.Idle }
         ensures node { OnOk result (IsNode self.new) }
-        ensures setup { OnOk result (self.new.setup ≡ self.old.setup) }
-        ensures shut { OnOk result (self.new.links ≡ shut_down self.old.links) }
+        ensures setup { OnOk result (HasSameSetup self.old self.new) }
+        ensures shut { OnOk result (IsShut self.old self.new) }
     {
         self.links.shut_down()
     }
@@ -198,8 +197,8 @@ impl<'a> Node<'a> {
     pub fn settle(self) -> History
         requires node { IsNode self }
         requires done { state_of self ≡ NodeState.Done }
-        ensures entries { result ≡ self.entry.links.entries }
-        ensures complete { IsCompleteRun self.entry.setup.now [] result }
+        ensures entries { result ≡ entries_of self.entry }
+        ensures complete { IsCompleteRun (setup_in self.entry) [] result }
     {
         let Node {
             setup: _,

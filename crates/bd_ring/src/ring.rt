@@ -173,7 +173,9 @@ impl Ring {
     pub fn put<R: Wait>(&self, rt: &R, pass: &mut SendPass, msg: Msg) -> Result<(), Full>
         requires ring { pass.old.ring ≡ self.now.ring }
         requires sender { msg.from.0 ≡ pass.old.number }
-        ensures put { MatchResult result (λ _. pass.new ≡ after_put pass.old msg) (λ full. (full.msg ≡ msg) × (pass.new ≡ pass.old) × WasFull self.now pass.old) }
+        ensures put { MatchResult result
+            (λ _. pass.new ≡ after_put pass.old msg)
+            (λ full. (full.msg ≡ msg) × (pass.new ≡ pass.old) × WasFull self.now pass.old) }
         ensures alone { IfErr result (λ full. (pass.old.senders ≡ 1) × (pass.old.number ≡ 0) → self.now.capacity ≤ length pass.old.put) }
     {
         match self.queue.push_as::<Puts, R>(rt, &mut pass.pass, msg) {

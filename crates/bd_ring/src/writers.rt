@@ -139,7 +139,8 @@ pub fn two_writers<R: Threads + Wait + Sync>(
         rt,
         move || -> (SlotPass<Journal>, u32)
             requires { first ≡ holder shared.now (bare_start 2) 0 2 }
-            ensures { (result.0.slot ≡ shared.entry.now) × (result.0.thread ≡ 0) × (result.0.holds ≡ false) × (result.0.passes ≡ 2) × (result.0.wrote ≡ first_rows 0 result.1) }
+            ensures { (result.0.slot ≡ shared.entry.now) × (result.0.thread ≡ 0) × (result.0.holds ≡ false) × (result.0.passes ≡ 2)
+                × (result.0.wrote ≡ first_rows 0 result.1) }
         { write_all(rt, shared, first, 0, count) },
         move || -> (SlotPass<Journal>, u32)
             requires { second ≡ holder shared.now (bare_start 2) 1 0 }

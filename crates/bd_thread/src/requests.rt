@@ -7,6 +7,7 @@ ghost use Rattle.bd_machine.specs.Requests.{may_cut};
 ghost use Rattle.bd_thread.specs.Acted.{Acted};
 ghost use Rattle.bd_thread.specs.Completions.{ending_of, Completes, IsCompleted};
 ghost use Rattle.bd_thread.specs.Cuts.{request_in, Cuts, IsCut};
+ghost use Rattle.bd_thread.specs.Seen.{number_of};
 ghost use Rattle.bd_thread.specs.Requests.{refusal, view_of, IsAccepted, IsAsked, IsFresh, IsOpened, IsRefused, KeepsTickets, Refuses};
 
 use crate::admission::{Asked, admit, has_range, own_handle};
@@ -49,7 +50,7 @@ fn uncut(tokens: &[(Id, Kept)], me: u32, req: ReqId) -> Option<OpenRequest>
 }
 
 // How many pieces there are. More than 32 bits count answer out of memory.
-fn number_of(found: &Rows<Extent>) -> Result<u32, OutOfMemory>
+fn piece_count(found: &Rows<Extent>) -> Result<u32, OutOfMemory>
     ensures { IfOk result (λ n. n ≡ length found.now) }
 {
     match u32::try_from(found.len()) {
@@ -76,12 +77,14 @@ impl<'a> Thread<'a> {
         count: u64,
         ticket: Ticket,
     ) -> Result<ReqId, (Refused, Ticket)>
-        requires me { self.old.me < vec_len links.old.queues }
+        requires me { number_of self.old < vec_len links.old.queues }
         requires asked { IsAsked self.old links.old (Some handle) (record { op = op; lba = lba; count = count }) }
         requires fresh { IsFresh self.old ticket }
         ensures acted { OnOk result (Acted self.old links.old self.new links.new) }
-        ensures accepted { IfOk result (λ req. (req ≡ ticket) × IsAccepted req handle (record { op = op; lba = lba; count = count }) self.old links.old self.new links.new) }
-        ensures refused { IfErr result (λ e. (e.1 ≡ ticket) × Refuses e.0 handle (record { op = op; lba = lba; count = count }) self.old links.old self.new links.new) }
+        ensures accepted { IfOk result (λ req. (req ≡ ticket)
+            × IsAccepted req handle (record { op = op; lba = lba; count = count }) self.old links.old self.new links.new) }
+        ensures refused { IfErr result (λ e. (e.1 ≡ ticket)
+            × Refuses e.0 handle (record { op = op; lba = lba; count = count }) self.old links.old self.new links.new) }
         ensures tickets { OnOk result (KeepsTickets self.old → KeepsTickets self.new) }
     {
         let asked = Asked { op, lba, count };
@@ -207,7 +210,7 @@ impl<'a> Thread<'a> {
     /// many pieces: they are here, to be put to their home in order. 0 where there is no such request,
     /// and then nothing changed.
     pub fn cut(&mut self, links: &mut Links, req: ReqId) -> Result<u32, OutOfMemory>
-        requires me { self.old.me < vec_len links.old.queues }
+        requires me { number_of self.old < vec_len links.old.queues }
         ensures acted { OnOk result (Acted self.old links.old self.new links.new) }
         ensures cut { IfOk result (Cuts req self.old links.old self.new links.new) }
         ensures tickets { OnOk result (KeepsTickets self.old → KeepsTickets self.new) }
@@ -233,7 +236,7 @@ impl<'a> Thread<'a> {
     {
         let setup = self.setup;
         let found = extents(self.alloc, setup, r.dev, r.lba, r.count)?;
-        let n = number_of(&found)?;
+        let n = piece_count(&found)?;
         let kept = Kept::Request(OpenRequest {
             pieces: Some(n),
             ..r
@@ -250,7 +253,7 @@ impl<'a> Thread<'a> {
     /// digest of its data, and completes only where there are as many. Its ticket is spent. Else the
     /// answer is false, and nothing changed.
     pub fn complete(&mut self, links: &mut Links, req: ReqId) -> Result<bool, OutOfMemory>
-        requires me { self.old.me < vec_len links.old.queues }
+        requires me { number_of self.old < vec_len links.old.queues }
         ensures acted { OnOk result (Acted self.old links.old self.new links.new) }
         ensures completes { IfOk result (Completes req self.old links.old self.new links.new) }
         ensures tickets { OnOk result (KeepsTickets self.old → KeepsTickets self.new) }

@@ -1,6 +1,7 @@
 //! A thread's turn: messages, the work of its stores, the script, and what is still to be put.
 ghost use Rattle.std.specs.Prelude.{◌≡◌, ◌+◌, ◌<◌, ◌≤◌, Some, true, vec_len, IfOk, IfSome, OnOk};
 ghost use Rattle.bd_thread.specs.Acted.{Acted};
+ghost use Rattle.bd_thread.specs.Seen.{number_of};
 ghost use Rattle.bd_thread.specs.Requests.{IsAsked, IsFresh, KeepsTickets};
 ghost use Rattle.bd_thread.specs.Moves.{turned_of, AddsMore, IsNextTicket, SendsFirst, Serves};
 ghost use Rattle.bd_thread.specs.Waits.{first_due, may_send, Idles, IsFilled, NoLine, NoMessage, NoPiece, NoPieceOn, NoSubmission, NothingToPost, NothingToSend, Quiets};
@@ -321,7 +322,7 @@ impl<'a> Thread<'a> {
     /// out of memory also where a number runs out: after 2^62 requests of the thread, or where a count
     /// of messages, handles, pieces or lines would pass its type.
     pub fn turn(&mut self, links: &mut Links) -> Result<Turned, OutOfMemory>
-        requires { self.old.me < vec_len links.old.queues }
+        requires { number_of self.old < vec_len links.old.queues }
         ensures acted { OnOk result (Acted self.old links.old self.new links.new) }
         ensures tickets { OnOk result (KeepsTickets self.old → KeepsTickets self.new) }
         ensures turned { IfOk result (AddsMore links.old links.new) }

@@ -31,7 +31,9 @@ pub trait WalkCalls {
     /// walk is at its end, and stays as it is. So the threads that a walk began with are given each
     /// once, in rising order.
     fn next(&mut self) -> Option<ThreadId>
-        ensures visits { MatchOption result (threads_in (walk self.old).left.0 ≡ []) (λ t. threads_in (walk self.old).left.0 ≡ t.0 ∷ threads_in (walk self.new).left.0) }
+        ensures visits { MatchOption result
+            (threads_in (walk self.old).left.0 ≡ [])
+            (λ t. threads_in (walk self.old).left.0 ≡ t.0 ∷ threads_in (walk self.new).left.0) }
         ensures first { IfSome result (λ t. IsFirst (walk self.old).left.0 t.0) }
         ensures left { IfSome result (λ t. IsWithout (walk self.old).left.0 t.0 (walk self.new).left.0) }
         ensures same { walk self.new ≡ record (walk self.old) { left = (walk self.new).left } }
