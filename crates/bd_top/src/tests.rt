@@ -101,8 +101,8 @@ fn faults_of_the_outside(rt: HostRuntime) -> Result<(), Fail> {
             Ok(_) => String::new(alloc),
             Err(fault) => format!(in alloc; "{fault}, status {}", fault.status())?,
         };
-        assert!(rt; fault.as_str() == line, "{fault} for {line}");
-        assert!(rt; out.bytes() == text.as_bytes(), "{line}");
+        assert!(rt; fault.as_bytes() == line.as_bytes(), "{fault}");
+        assert!(rt; out.bytes() == text.as_bytes(), "{fault}");
     }
     Ok(())
 }
