@@ -82,27 +82,28 @@ fn ran(
 
 // The outside's failures: the host's call that fails (0: none), the room of the output, the words
 // after `run`, the fault's line and status, and what was written before.
-const OUTSIDE: [(u64, u64, [&str; 2], &str, &str); 7] = [
-    (0, 10, ["c", "j"], "write fault, status 3", "job 1 0 op"),
-    (0, 0, ["c", "j"], "write fault, status 3", ""),
-    (1, 100, ["c", "j"], "read fault: c, status 3", ""),
-    (2, 100, ["c", "j"], "read fault: c, status 3", ""),
-    (3, 100, ["c", "j"], "read fault: j, status 3", ""),
-    (1, 100, ["j", "x"], "read fault: j, status 3", ""),
-    (0, 100, ["j", "x"], "configuration shape: 0, status 1", ""),
+const OUTSIDE: [(u64, u64, [&str; 2], &[u8], &[u8]); 7] = [
+    (0, 10, ["c", "j"], b"write fault, status 3", b"job 1 0 op"),
+    (0, 0, ["c", "j"], b"write fault, status 3", b""),
+    (1, 100, ["c", "j"], b"read fault: c, status 3", b""),
+    (2, 100, ["c", "j"], b"read fault: c, status 3", b""),
+    (3, 100, ["c", "j"], b"read fault: j, status 3", b""),
+    (1, 100, ["j", "x"], b"read fault: j, status 3", b""),
+    (0, 100, ["j", "x"], b"configuration shape: 0, status 1", b""),
 ];
 
 #[test]
 fn faults_of_the_outside(rt: HostRuntime) -> Result<(), Fail> {
     let alloc = rt.alloc();
-    for (call, room, words, line, text) in OUTSIDE {
+    for row in &OUTSIDE {
+        let (call, room, words, line, text) = *row;
         let mut out = MemSink::new(alloc, room)?;
         let fault = match ran(alloc, &words, &SCRIPT, &[call], &mut out)? {
             Ok(_) => String::new(alloc),
             Err(fault) => format!(in alloc; "{fault}, status {}", fault.status())?,
         };
-        assert!(rt; fault.as_bytes() == line.as_bytes(), "{fault}");
-        assert!(rt; out.bytes() == text.as_bytes(), "{fault}");
+        assert!(rt; fault.as_bytes() == line, "{fault}");
+        assert!(rt; out.bytes() == text, "{fault}");
     }
     Ok(())
 }
