@@ -52,7 +52,7 @@ pub fn extents(
     Ok(found)
 }
 
-// The type of a piece: a turned byte belongs to piece 0 alone.
+// The type of a piece: a complemented byte belongs to piece 0 alone.
 fn op_of_piece(k: u32, op: Op) -> Op
     ensures { result ≡ op_of_piece k op }
 {

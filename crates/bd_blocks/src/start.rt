@@ -10,7 +10,7 @@ use bd_base::{Bytes, DevId, DevRow, Kind, OutOfMemory, Rows, Setup};
 use bd_machine::{Base, Content, Part};
 use std::alloc::Global;
 
-// So many blocks of zeros.
+// N blocks of zeros.
 #[tactic(auto, using(crate::proofs::Starting::zeros_next))]
 fn zero_blocks(alloc: Global, size: u32, n: u64) -> Result<Rows<Bytes>, OutOfMemory>
     ensures { IfOk result (λ bs. bs ≡ zero_blocks size n) }

@@ -42,7 +42,7 @@ fn clear_blocks(rows: &mut Rows<Bytes>, first: usize, count: usize)
     }
 }
 
-// A block with byte 0 turned.
+// A block with byte 0 complemented.
 fn turned_block(alloc: Global, block: &Bytes) -> Result<Bytes, OutOfMemory>
     ensures { IfOk result (λ b. b ≡ turned_block block.now) }
 {
@@ -57,7 +57,7 @@ fn turned_block(alloc: Global, block: &Bytes) -> Result<Bytes, OutOfMemory>
     }
 }
 
-// Turns byte 0 of a block.
+// Complements byte 0 of a block.
 fn turn(alloc: Global, rows: &mut Rows<Bytes>, i: usize) -> Result<(), OutOfMemory>
     requires { i < length rows.old }
     ensures { OnOk result (rows.new ≡ slice_set rows.old i (turned_block (slice_index_or rows.old i []))) }

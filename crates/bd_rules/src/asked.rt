@@ -124,7 +124,7 @@ fn submits(part: &Part, id: Option<HandleId>, what: Submission, job: Option<&Job
 }
 
 /// Whether the next line of a thread's script asks for this submission, through a handle or through a
-/// name that isn't bound, and no Shutdown stands (`shut`).
+/// name that isn't bound. After the Shutdown (`shut`) no line asks.
 pub fn asks_submission<S: Sees>(
     seen: &S,
     setup: &Setup,
@@ -139,8 +139,8 @@ pub fn asks_submission<S: Sees>(
     !shut && submits(part, handle, what, undecided_job(setup, thread, part))
 }
 
-// Whether a close of the handle is asked: by the next line, or, once a Shutdown stands, where it is
-// still open.
+// Whether a close of the handle is asked: by the next line, or, after the Shutdown, where it is still
+// open. Never while a request of it is open.
 fn asks_close<S: Sees>(seen: &S, setup: &Setup, thread: u32, shut: bool, id: HandleId) -> bool
     ensures { result ≡ asks_close setup.now thread (S.view_of seen.now) (came_shut shut) id }
 {
@@ -155,8 +155,8 @@ fn asks_close<S: Sees>(seen: &S, setup: &Setup, thread: u32, shut: bool, id: Han
     }
 }
 
-/// Whether an event is asked of the registry: by the next line of a thread's script, or, once a
-/// Shutdown stands (`shut`), a close of a handle that is left and has no open request.
+/// Whether an event is asked of the registry: by the next line of a thread's script, or, after the
+/// Shutdown (`shut`), a close of a handle that is left. A close is asked of no handle with an open request.
 pub fn asks_event<S: Sees>(
     seen: &S,
     setup: &Setup,

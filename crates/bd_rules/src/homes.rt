@@ -1,11 +1,11 @@
 //! When a home may apply a piece, and destruct a device.
-ghost use Rattle.std.specs.Prelude.{◌≡◌, ◌&&◌, ◌==◌, option_copied};
+ghost use Rattle.std.specs.Prelude.{◌≡◌, option_copied};
 ghost use Rattle.std.specs.List.{list_any};
-ghost use Rattle.bd_machine.specs.BlockMap.{home, is_aio};
-ghost use Rattle.bd_machine.specs.Completion.{piece_here};
+ghost use Rattle.bd_machine.specs.BlockMap.{is_aio};
 ghost use Rattle.bd_machine.specs.Homes.{base_here, is_digest_due, is_done_or, is_first, is_first_at, is_on_base, may_destruct};
 ghost use Rattle.bd_machine.specs.Same.{same_dev};
 ghost use Rattle.bd_rules.specs.Came.{came_unused};
+ghost use Rattle.bd_rules.specs.Apply.{may_apply};
 
 use crate::completion::piece_here;
 use crate::names::PieceId;
@@ -51,7 +51,7 @@ fn is_on_base(dev: DevId, piece: Option<&OpenPiece>) -> bool
 /// Whether the thread may apply a piece to a device: it is the device's home, the piece is the first in
 /// the device's queue, and it is here and on the device.
 pub fn may_apply<S: Sees>(seen: &S, setup: &Setup, thread: u32, piece: PieceId, dev: DevId) -> bool
-    ensures { result ≡ (home setup.now dev == thread) && is_first_at piece.req piece.k (base_here (S.view_of seen.now) dev) && is_on_base dev (piece_here (S.view_of seen.now) piece.req piece.k) }
+    ensures { result ≡ may_apply setup.now thread (S.view_of seen.now) piece.req piece.k dev }
 {
     let at_home = home(setup, dev) == thread;
     let is_head = is_first_at(base_here(seen, dev), piece);
@@ -76,8 +76,8 @@ pub fn has_destructed(destructed: &[DevId], dev: DevId) -> bool
     destructed.iter().any(|d| dev.0 == d.0)
 }
 
-/// Whether the thread may destruct a device: it is the device's home, a Shutdown stands (`shut`), no
-/// handle of the device is open (`unused`), and it wasn't destructed.
+/// Whether the thread may destruct a device: it is the device's home, it is after the Shutdown
+/// (`shut`), no handle of the device is open (`unused`), and it wasn't destructed.
 pub fn may_destruct<S: Sees>(
     seen: &S,
     setup: &Setup,

@@ -97,7 +97,7 @@ fn read_line(alloc: Global) -> Result<Job, OutOfMemory> {
 }
 
 // A thread with a handle under the name h, open for reading.
-fn holder(alloc: Global, setup: &Setup) -> Result<Holder, OutOfMemory> {
+fn reader(alloc: Global, setup: &Setup) -> Result<Holder, OutOfMemory> {
     let mut part = part_at_start(alloc, setup, 0)?;
     let name = Name::from_slice(alloc, b"h")?;
     part.bound.push(Binding {
@@ -119,7 +119,7 @@ fn holder(alloc: Global, setup: &Setup) -> Result<Holder, OutOfMemory> {
     })
 }
 
-// A read of one block, cut into so many pieces.
+// A read of one block, cut into this number of pieces.
 fn request(pieces: Option<u32>) -> Kept {
     Kept::Request(OpenRequest {
         handle: HANDLE,
@@ -145,72 +145,129 @@ fn piece(read: Bytes) -> Kept {
     })
 }
 
-#[test]
-fn a_line_asks_and_is_admitted(rt: HostRuntime) -> Result<(), Fail> {
-    let alloc = rt.alloc();
-    let setup = setup(alloc, read_line(alloc)?)?;
-    let seen = holder(alloc, &setup)?;
-    assert!(rt; asks_submission(&seen, &setup, 0, false, Some(HANDLE), READ));
-    assert!(rt; !asks_submission(&seen, &setup, 0, true, Some(HANDLE), READ));
-    assert!(rt; refusal_of(&seen, &setup, Some(HANDLE), READ).is_none());
-    assert!(rt; refusal_of(&seen, &setup, None, READ) == Some(Errno::BadDesc));
-    assert!(rt; is_handle_on(&seen, DEV, HANDLE) && is_new(&seen, 0, REQ));
-    assert!(rt; admit(&seen, &setup, HANDLE, READ) == Ok(DEV));
+fn asks(seen: &Holder, setup: &Setup) -> bool {
+    asks_submission(seen, setup, 0, false, Some(HANDLE), READ)
+        && !asks_submission(seen, setup, 0, true, Some(HANDLE), READ)
+        && is_handle_on(seen, DEV, HANDLE)
+        && is_new(seen, 0, REQ)
+        && !is_script_blocked(setup, 0, &seen.part)
+}
+
+// The refusals of a read, of one without a handle, of zeroes, and of a read past the end.
+fn refusals(seen: &Holder, setup: &Setup) -> [Option<Errno>; 4] {
     let zeroes = Submission {
         op: Op::Zeroes,
-        ..READ
+        lba: 0,
+        count: 1,
     };
-    assert!(rt; admit(&seen, &setup, HANDLE, zeroes) == Err(Errno::BadDesc));
-    let long = Submission { count: 5, ..READ };
-    assert!(rt; admit(&seen, &setup, HANDLE, long) == Err(Errno::Inval));
-    assert!(rt; outcome_due(&setup, 0, &seen.part)?.is_none());
-    assert!(rt; !is_script_blocked(&setup, 0, &seen.part));
+    let long = Submission {
+        op: Op::Read,
+        lba: 0,
+        count: 5,
+    };
+    [
+        refusal_of(seen, setup, Some(HANDLE), READ),
+        refusal_of(seen, setup, None, READ),
+        refusal_of(seen, setup, Some(HANDLE), zeroes),
+        refusal_of(seen, setup, Some(HANDLE), long),
+    ]
+}
+
+#[test]
+fn a_line_asks_and_is_admitted(rt: HostRuntime) -> Result<(), Fail> {
+    let setup = setup(rt.alloc(), read_line(rt.alloc())?)?;
+    let seen = reader(rt.alloc(), &setup)?;
+    let asked = asks(&seen, &setup);
+    let refused = refusals(&seen, &setup);
+    let admitted = admit(&seen, &setup, HANDLE, READ);
+    assert!(rt; asked);
+    assert!(rt;
+        refused
+            == [
+                None,
+                Some(Errno::BadDesc),
+                Some(Errno::BadDesc),
+                Some(Errno::Inval)
+            ]
+    );
+    assert!(rt; admitted == Ok(DEV));
     Ok(())
+}
+
+// Whether the registry closes the handle for a thread.
+fn is_closed(seen: &Holder, setup: &Setup, thread: u32) -> Result<bool, OutOfMemory> {
+    let event = RegEvent::Close { handle: HANDLE };
+    let answer = answer_to(setup, &seen.registry, thread, &event)?;
+    Ok(matches!(answer, Some(Answer::Closed { .. })) && asks_event(seen, setup, 0, false, &event))
+}
+
+// Whether the device may go once its handle is closed, and not before, and with a digest.
+fn may_end_once_closed(seen: &Holder, setup: &Setup) -> bool {
+    let unused = is_unused(&seen.registry, DEV);
+    !may_destruct(seen, setup, 0, unused, true, DEV)
+        && may_destruct(seen, setup, 0, true, true, DEV)
+        && !is_digest_due(seen, setup, DEV, &None)
 }
 
 #[test]
 fn a_close_is_asked_and_answered(rt: HostRuntime) -> Result<(), Fail> {
-    let alloc = rt.alloc();
-    let handle = Name::from_slice(alloc, b"h")?;
-    let setup = setup(alloc, Job::Close { handle })?;
-    let seen = holder(alloc, &setup)?;
-    let event = RegEvent::Close { handle: HANDLE };
-    assert!(rt; asks_event(&seen, &setup, 0, false, &event));
-    let own = answer_to(&setup, &seen.registry, 0, &event)?;
-    let other = answer_to(&setup, &seen.registry, 1, &event)?;
-    assert!(rt; matches!(own, Some(Answer::Closed { destruct: None })));
-    assert!(rt; matches!(other, Some(Answer::Refused(Errno::BadDesc))));
-    let unused = is_unused(&seen.registry, DEV);
-    assert!(rt; !unused && !may_destruct(&seen, &setup, 0, unused, true, DEV));
-    assert!(rt; may_destruct(&seen, &setup, 0, true, true, DEV));
-    assert!(rt; !is_digest_due(&seen, &setup, DEV, &None));
+    let handle = Name::from_slice(rt.alloc(), b"h")?;
+    let setup = setup(rt.alloc(), Job::Close { handle })?;
+    let seen = reader(rt.alloc(), &setup)?;
+    let own = is_closed(&seen, &setup, 0)?;
+    let other = is_closed(&seen, &setup, 1)?;
+    let ends = may_end_once_closed(&seen, &setup);
+    assert!(rt; own && !other && ends);
     Ok(())
 }
 
+fn is_to_be_cut(alloc: Global, seen: &Holder, setup: &Setup) -> Result<bool, OutOfMemory> {
+    let one = has_extents(alloc, seen, setup, REQ, 1)?;
+    let here = uncut(seen, 0, REQ).is_some();
+    Ok(one && here && may_cut(seen, 0, REQ) && !may_cut(seen, 1, REQ))
+}
+
 #[test]
-fn a_request_is_cut_and_completes(rt: HostRuntime) -> Result<(), Fail> {
-    let alloc = rt.alloc();
-    let setup = setup(alloc, Job::Wait)?;
-    let mut seen = holder(alloc, &setup)?;
+fn a_request_is_cut(rt: HostRuntime) -> Result<(), Fail> {
+    let setup = setup(rt.alloc(), Job::Wait)?;
+    let mut seen = reader(rt.alloc(), &setup)?;
     seen.held.push((Id::Request(REQ), request(None)))?;
-    assert!(rt;
-        may_cut(&seen, 0, REQ) && !may_cut(&seen, 1, REQ) && uncut(&seen, 0, REQ).is_some()
-    );
-    assert!(rt; has_extents(alloc, &seen, &setup, REQ, 1)?);
-    assert!(rt; may_complete(&seen, 0, REQ) && !is_status_due(&seen, REQ, Status::Success));
-    seen.held.clear();
-    seen.held.push((Id::Request(REQ), request(Some(1))))?;
-    let bytes = Bytes::zeros(alloc, 512)?;
+    let cut = is_to_be_cut(rt.alloc(), &seen, &setup)?;
+    let due = is_status_due(&seen, REQ, Status::Success);
+    assert!(rt; cut && !due);
+    Ok(())
+}
+
+// Whether it completes with success, and shows zeros and not nothing.
+fn is_completed(alloc: Global, seen: &Holder) -> Result<bool, OutOfMemory> {
     let shown = Shown {
         first: [0; 8],
-        digest: digest_of(bytes.as_slice()),
+        digest: digest_of(&[0; 512]),
     };
-    seen.held.push((Id::Piece(REQ, 0), piece(bytes)))?;
-    assert!(rt; is_status_due(&seen, REQ, Status::Success) && !any_faulted(&seen, REQ, 1));
-    assert!(rt; is_shown_due(alloc, &seen, REQ, Status::Success, &Some(shown))?);
-    assert!(rt; !is_shown_due(alloc, &seen, REQ, Status::Success, &None)?);
+    let zeros = is_shown_due(alloc, seen, REQ, Status::Success, &Some(shown))?;
+    let none = is_shown_due(alloc, seen, REQ, Status::Success, &None)?;
+    let due = is_status_due(seen, REQ, Status::Success);
+    Ok(zeros && !none && due && may_complete(seen, 0, REQ) && !any_faulted(seen, REQ, 1))
+}
+
+// Whether the piece that is back stays where it is.
+fn is_back(seen: &Holder, setup: &Setup) -> bool {
     let what = Token::Piece(REQ, 0);
-    assert!(rt; is_token_here(&seen, &what) && !may_go(&seen, &setup, 0, 0, &what));
-    assert!(rt; base_here(&seen, DEV).is_some() && !may_apply(&seen, &setup, 0, PIECE, DEV));
+    is_token_here(seen, &what)
+        && !may_go(seen, setup, 0, 0, &what)
+        && base_here(seen, DEV).is_some()
+        && !may_apply(seen, setup, 0, PIECE, DEV)
+}
+
+#[test]
+fn a_request_completes(rt: HostRuntime) -> Result<(), Fail> {
+    let setup = setup(rt.alloc(), Job::Wait)?;
+    let mut seen = reader(rt.alloc(), &setup)?;
+    let read = Bytes::zeros(rt.alloc(), 512)?;
+    seen.held.push((Id::Request(REQ), request(Some(1))))?;
+    seen.held.push((Id::Piece(REQ, 0), piece(read)))?;
+    let completed = is_completed(rt.alloc(), &seen)?;
+    let back = is_back(&seen, &setup);
+    assert!(rt; completed && back);
     Ok(())
 }
