@@ -2,6 +2,7 @@
 ghost use Rattle.std.specs.Prelude.{◌≡◌, IfOk};
 
 use bd_base::{Bytes, DevRow, Job, Line, Name, OutOfMemory, Rows, Script, Setup, Waiting};
+use bd_blocks::copy_of_piece;
 use bd_machine::{
     Base, Binding, Content, Due, Id, Kept, News, OpenPiece, Part, Registry, State, Tracked,
 };
@@ -37,19 +38,6 @@ impl Duplicate for Bytes {
     }
 }
 
-/// A copy of bytes, where there are any.
-pub fn duplicate_bytes(bytes: &Option<Bytes>) -> Result<Option<Bytes>, OutOfMemory>
-    ensures { IfOk result (λ b. b ≡ bytes.now) }
-{
-    match bytes {
-        Some(b) => {
-            let copied = b.copy()?;
-            Ok(Some(copied))
-        }
-        None => Ok(None),
-    }
-}
-
 fn duplicate_name(name: &Option<Name>) -> Result<Option<Name>, OutOfMemory>
     ensures { IfOk result (λ n. n ≡ name.now) }
 {
@@ -64,17 +52,7 @@ fn duplicate_name(name: &Option<Name>) -> Result<Option<Name>, OutOfMemory>
 
 impl Duplicate for OpenPiece {
     fn duplicate(&self, alloc: Global) -> Result<OpenPiece, OutOfMemory> {
-        let read = duplicate_bytes(&self.read)?;
-        Ok(OpenPiece {
-            base: self.base,
-            lba: self.lba,
-            count: self.count,
-            first: self.first,
-            op: self.op,
-            progress: self.progress,
-            end: self.end,
-            read,
-        })
+        copy_of_piece(self)
     }
 }
 
