@@ -4,8 +4,7 @@ ghost use Rattle.bd_base.specs.declared.act.Act.TheVariants as acts;
 ghost use Rattle.bd_base.specs.declared.act.Token.TheVariants as whats;
 ghost use Rattle.bd_machine.specs.Messages.{change_put, change_took, moves_put, moves_took};
 ghost use Rattle.bd_machine.specs.Step.{first_failing, guards_in, moved, place_after};
-ghost use Rattle.bd_machine.specs.View.{came_for, message_for, message_of, view};
-ghost use Rattle.bd_machine.specs.View.Going.TheVariants.{To};
+ghost use Rattle.bd_machine.specs.View.{To, came_for, message_for, message_of, view};
 ghost use Rattle.bd_machine.specs.declared.state.Kept.TheVariants as keeps;
 ghost use Rattle.bd_play.specs.Words.{changed};
 
