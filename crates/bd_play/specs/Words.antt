@@ -1,14 +1,32 @@
 -- Words of the program.
-use Rattle.std.specs.Prelude.{ℕ, Bool, true, false, set}
+use Rattle.std.specs.Prelude.{ℕ, Bool, true, false, ◌++◌, Option, set}
 use Rattle.bd_base.specs.declared.act.Act.{Act}
 use Rattle.bd_base.specs.declared.act.Act.TheVariants as acts
 use Rattle.bd_machine.specs.declared.state.State.{State}
-use Rattle.bd_machine.specs.Step.{moved}
-use Rattle.bd_machine.specs.View.{Change}
+use Rattle.bd_machine.specs.Step.{change_in, first_failing, guards_in, guards_shutdown, moved}
+use Rattle.bd_machine.specs.View.{Change, View, view}
+use Rattle.bd_play.specs.declared.side.Side.{Side}
 
--- the state with what an act of a thread changes of its part and of the tokens
-abbrev pub changed : State → ℕ → Change → State
-changed s t c = record s { parts = set s.parts t c.part; tokens = moved t c.moves s.tokens }
+-- what the thread of a side sees
+abbrev pub seen : Side → View
+seen side = view side.state.now side.thread
+
+-- why an act isn't allowed to it: the first of the act's guards that fails
+abbrev pub refused : Side → Act → Option ℕ
+refused side act = first_failing (guards_in side.setup.now side.state.now side.thread act)
+
+-- the same for an act that may be a Shutdown, whose guards look at the whole state
+abbrev pub refused_with_shutdown : Side → Act → Option ℕ
+refused_with_shutdown side act =
+    first_failing (guards_shutdown side.setup.now side.state.now side.thread act ++ guards_in side.setup.now side.state.now side.thread act)
+
+-- the state with this change of its part and of the tokens
+abbrev pub changed : Side → Change → State
+changed side c = record side.state.now { parts = set side.state.now.parts side.thread c.part; tokens = moved side.thread c.moves side.state.now.tokens }
+
+-- what an act of it changes
+abbrev pub change_of : Side → Act → Change
+change_of side act = change_in side.setup.now side.state.now side.thread act
 
 -- an act on a request of its own thread
 abbrev pub is_of_request : Act → Bool

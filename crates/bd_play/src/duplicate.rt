@@ -221,58 +221,37 @@ impl Duplicate for Waiting {
 impl Duplicate for Job {
     fn duplicate(&self, alloc: Global) -> Result<Job, OutOfMemory> {
         match self {
-            Job::Open { handle, dev, write } => {
-                let handle = handle.copy()?;
-                let dev = dev.copy()?;
-                Ok(Job::Open {
-                    handle,
-                    dev,
-                    write: *write,
-                })
-            }
-            Job::Close { handle } => {
-                let handle = handle.copy()?;
-                Ok(Job::Close { handle })
-            }
-            Job::Claim { handle, kind } => {
-                let handle = handle.copy()?;
-                Ok(Job::Claim {
-                    handle,
-                    kind: *kind,
-                })
-            }
+            Job::Open { handle, dev, write } => Ok(Job::Open {
+                handle: handle.copy()?,
+                dev: dev.copy()?,
+                write: *write,
+            }),
+            Job::Close { handle } => Ok(Job::Close {
+                handle: handle.copy()?,
+            }),
+            Job::Claim { handle, kind } => Ok(Job::Claim {
+                handle: handle.copy()?,
+                kind: *kind,
+            }),
             Job::Submit {
                 handle,
                 op,
                 lba,
                 count,
-            } => {
-                let handle = handle.copy()?;
-                Ok(Job::Submit {
-                    handle,
-                    op: *op,
-                    lba: *lba,
-                    count: *count,
-                })
-            }
-            Job::Remove { dev } => {
-                let dev = dev.copy()?;
-                Ok(Job::Remove { dev })
-            }
+            } => Ok(Job::Submit {
+                handle: handle.copy()?,
+                op: *op,
+                lba: *lba,
+                count: *count,
+            }),
+            Job::Remove { dev } => Ok(Job::Remove { dev: dev.copy()? }),
             Job::Wait => Ok(Job::Wait),
             Job::Sleep(micros) => Ok(Job::Sleep(*micros)),
-            Job::Post(mark) => {
-                let mark = mark.copy()?;
-                Ok(Job::Post(mark))
-            }
-            Job::Await(mark) => {
-                let mark = mark.copy()?;
-                Ok(Job::Await(mark))
-            }
-            Job::Gone { handle } => {
-                let handle = handle.copy()?;
-                Ok(Job::Gone { handle })
-            }
+            Job::Post(mark) => Ok(Job::Post(mark.copy()?)),
+            Job::Await(mark) => Ok(Job::Await(mark.copy()?)),
+            Job::Gone { handle } => Ok(Job::Gone {
+                handle: handle.copy()?,
+            }),
         }
     }
 }

@@ -3,9 +3,7 @@ ghost use Rattle.std.specs.Prelude.{◌≡◌, IfOk};
 ghost use Rattle.bd_base.specs.declared.act.Act.TheVariants as acts;
 ghost use Rattle.bd_machine.specs.Events.{change_reg};
 ghost use Rattle.bd_machine.specs.Same.{is_the, same_answer};
-ghost use Rattle.bd_machine.specs.Step.{first_failing, guards_in};
-ghost use Rattle.bd_machine.specs.View.{view};
-ghost use Rattle.bd_play.specs.Words.{changed};
+ghost use Rattle.bd_play.specs.Words.{changed, refused, seen};
 ghost use Rattle.bd_rules.specs.Came.{came_shut};
 
 use crate::duplicate::Duplicate;
@@ -33,7 +31,7 @@ pub fn refused_reg(
     event: &RegEvent,
     answer: &Answer,
 ) -> Result<Option<u32>, OutOfMemory>
-    ensures { IfOk result (λ r. r ≡ first_failing (guards_in side.now.setup.now side.now.state.now side.now.thread (acts.Reg event.now answer.now))) }
+    ensures { IfOk result (λ r. r ≡ refused side.now (acts.Reg event.now answer.now)) }
 {
     let due = answer_to(side.setup, &side.state.registry, side.thread, event)?;
     if !is_answer(&due, answer) {
@@ -48,7 +46,7 @@ pub fn refused_reg(
 
 /// The state with what an answer decides: the line that asked, and nothing after the Shutdown.
 pub fn decide(alloc: Global, side: &Side, answer: &Answer) -> Result<State, OutOfMemory>
-    ensures { IfOk result (λ s. s ≡ changed side.now.state.now side.now.thread (change_reg (view side.now.state.now side.now.thread) (came_shut side.now.state.now.shut) answer.now)) }
+    ensures { IfOk result (λ s. s ≡ changed side.now (change_reg (seen side.now) (came_shut side.now.state.now.shut) answer.now)) }
 {
     let mut next = side.state.duplicate(alloc)?;
     let part = next.parts.at_mut(side.thread as usize);

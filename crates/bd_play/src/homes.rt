@@ -1,10 +1,8 @@
 //! Apply and Destruct.
 ghost use Rattle.std.specs.Prelude.{◌≡◌, IfOk};
 ghost use Rattle.bd_base.specs.declared.act.Act.TheVariants as acts;
-ghost use Rattle.bd_machine.specs.Homes.{change_apply, change_destruct};
-ghost use Rattle.bd_machine.specs.Step.{first_failing, guards_in};
-ghost use Rattle.bd_machine.specs.View.{view};
-ghost use Rattle.bd_play.specs.Words.{changed};
+ghost use Rattle.bd_machine.specs.Homes.{change_destruct};
+ghost use Rattle.bd_play.specs.Words.{change_of, changed, refused, seen};
 
 use crate::duplicate::Duplicate;
 use crate::side::Side;
@@ -20,7 +18,7 @@ use std::alloc::Global;
 
 /// Why an Apply isn't allowed.
 pub fn refused_apply(side: &Side, piece: PieceId, dev: DevId, end: ApplyEnd) -> Option<u32>
-    ensures { result ≡ first_failing (guards_in side.now.setup.now side.now.state.now side.now.thread (acts.Apply piece.req piece.k dev end)) }
+    ensures { result ≡ refused side.now (acts.Apply piece.req piece.k dev end) }
 {
     if !may_apply(side, side.setup, side.thread, piece, dev) {
         return Some(HEAD_OF_QUEUE);
@@ -41,7 +39,7 @@ pub fn apply(
     dev: DevId,
     end: ApplyEnd,
 ) -> Result<State, OutOfMemory>
-    ensures { IfOk result (λ s. s ≡ changed side.now.state.now side.now.thread (change_apply side.now.setup.now (view side.now.state.now side.now.thread) piece.req piece.k dev end)) }
+    ensures { IfOk result (λ s. s ≡ changed side.now (change_of side.now (acts.Apply piece.req piece.k dev end))) }
 {
     let mut next = side.state.duplicate(alloc)?;
     let Some(p) = piece_here(side, piece) else {
@@ -65,7 +63,7 @@ pub fn apply(
 
 /// Why a Destruct isn't allowed.
 pub fn refused_destruct(side: &Side, dev: DevId, digest: &Option<[u8; 32]>) -> Option<u32>
-    ensures { result ≡ first_failing (guards_in side.now.setup.now side.now.state.now side.now.thread (acts.Destruct dev digest.now)) }
+    ensures { result ≡ refused side.now (acts.Destruct dev digest.now) }
 {
     let unused = is_unused(&side.state.registry, dev);
     if !may_destruct(side, side.setup, side.thread, unused, side.state.shut, dev) {
@@ -80,7 +78,7 @@ pub fn refused_destruct(side: &Side, dev: DevId, digest: &Option<[u8; 32]>) -> O
 
 /// The state with what a Destruct changes.
 pub fn destruct(alloc: Global, side: &Side, dev: DevId) -> Result<State, OutOfMemory>
-    ensures { IfOk result (λ s. s ≡ changed side.now.state.now side.now.thread (change_destruct (view side.now.state.now side.now.thread) dev)) }
+    ensures { IfOk result (λ s. s ≡ changed side.now (change_destruct (seen side.now) dev)) }
 {
     let mut next = side.state.duplicate(alloc)?;
     next.parts

@@ -2,11 +2,11 @@
 ghost use Rattle.std.specs.Prelude.{◌≡◌, option_copied, IfOk, OnOk};
 ghost use Rattle.bd_base.specs.declared.act.Act.TheVariants as acts;
 ghost use Rattle.bd_base.specs.declared.act.Token.TheVariants as whats;
-ghost use Rattle.bd_machine.specs.Messages.{change_put, change_took, moves_put, moves_took};
-ghost use Rattle.bd_machine.specs.Step.{first_failing, guards_in, moved, place_after};
-ghost use Rattle.bd_machine.specs.View.{To, came_for, message_for, message_of, view};
+ghost use Rattle.bd_machine.specs.Messages.{moves_put, moves_took};
+ghost use Rattle.bd_machine.specs.Step.{moved, place_after};
+ghost use Rattle.bd_machine.specs.View.{To, message_for, message_of};
 ghost use Rattle.bd_machine.specs.declared.state.Kept.TheVariants as keeps;
-ghost use Rattle.bd_play.specs.Words.{changed};
+ghost use Rattle.bd_play.specs.Words.{change_of, changed, refused, seen};
 
 use crate::duplicate::Duplicate;
 use crate::side::Side;
@@ -40,7 +40,7 @@ fn with_progress(p: &OpenPiece, progress: Progress) -> Result<Kept, OutOfMemory>
 
 /// Why a Put isn't allowed.
 pub fn refused_put(side: &Side, message: Message, what: &Token) -> Option<u32>
-    ensures { result ≡ first_failing (guards_in side.now.setup.now side.now.state.now side.now.thread (acts.Put message.peer message.number what.now)) }
+    ensures { result ≡ refused side.now (acts.Put message.peer message.number what.now) }
 {
     if message.number != count_at(side.part().put.as_slice(), message.peer) {
         return Some(NEXT_PUT);
@@ -73,7 +73,7 @@ fn send_piece(
     message: Message,
     piece: PieceId,
 ) -> Result<(), OutOfMemory>
-    ensures { OnOk result (tokens.new ≡ moved side.now.thread (moves_put side.now.thread (view side.now.state.now side.now.thread) message.peer message.number (whats.Piece piece.req piece.k)) tokens.old) }
+    ensures { OnOk result (tokens.new ≡ moved side.now.thread (moves_put side.now.thread (seen side.now) message.peer message.number (whats.Piece piece.req piece.k)) tokens.old) }
 {
     let Some(p) = piece_here(side, piece) else {
         return Ok(());
@@ -94,7 +94,7 @@ fn send_mark(
     message: Message,
     mark: &Name,
 ) -> Result<(), OutOfMemory>
-    ensures { OnOk result (tokens.new ≡ moved side.now.thread (moves_put side.now.thread (view side.now.state.now side.now.thread) message.peer message.number (whats.Mark mark.now)) tokens.old) }
+    ensures { OnOk result (tokens.new ≡ moved side.now.thread (moves_put side.now.thread (seen side.now) message.peer message.number (whats.Mark mark.now)) tokens.old) }
 {
     let name = mark.copy()?;
     let kept = Kept::Notice(News::Mark(name));
@@ -113,7 +113,7 @@ fn send(
     message: Message,
     what: &Token,
 ) -> Result<(), OutOfMemory>
-    ensures { OnOk result (tokens.new ≡ moved side.now.thread (moves_put side.now.thread (view side.now.state.now side.now.thread) message.peer message.number what.now) tokens.old) }
+    ensures { OnOk result (tokens.new ≡ moved side.now.thread (moves_put side.now.thread (seen side.now) message.peer message.number what.now) tokens.old) }
 {
     match what {
         Token::Piece(req, k) => send_piece(tokens, side, message, PieceId { req: *req, k: *k }),
@@ -124,7 +124,7 @@ fn send(
 
 /// The state with what a Put changes.
 pub fn put(alloc: Global, side: &Side, message: Message, what: &Token) -> Result<State, OutOfMemory>
-    ensures { IfOk result (λ s. s ≡ changed side.now.state.now side.now.thread (change_put side.now.setup.now side.now.thread (view side.now.state.now side.now.thread) message.peer message.number what.now)) }
+    ensures { IfOk result (λ s. s ≡ changed side.now (change_of side.now (acts.Put message.peer message.number what.now))) }
 {
     let mut next = side.state.duplicate(alloc)?;
     send(&mut next.tokens, side, message, what)?;
@@ -174,7 +174,7 @@ fn brought<'a>(side: &'a Side, message: Message, what: &Token) -> Option<&'a Kep
 
 /// Why a Took isn't allowed.
 pub fn refused_took(side: &Side, message: Message, what: &Token) -> Option<u32>
-    ensures { result ≡ first_failing (guards_in side.now.setup.now side.now.state.now side.now.thread (acts.Took message.peer message.number what.now)) }
+    ensures { result ≡ refused side.now (acts.Took message.peer message.number what.now) }
 {
     let is_next = message.number == count_at(side.part().taken.as_slice(), message.peer);
     if is_next && brings(what, brought(side, message, what)) {
@@ -221,7 +221,7 @@ pub fn take(
     message: Message,
     what: &Token,
 ) -> Result<State, OutOfMemory>
-    ensures { IfOk result (λ s. s ≡ changed side.now.state.now side.now.thread (change_took side.now.thread (view side.now.state.now side.now.thread) (came_for side.now.setup.now side.now.state.now side.now.thread (acts.Took message.peer message.number what.now)) message.peer message.number what.now)) }
+    ensures { IfOk result (λ s. s ≡ changed side.now (change_of side.now (acts.Took message.peer message.number what.now))) }
 {
     let mut next = side.state.duplicate(alloc)?;
     let kept = brought(side, message, what);

@@ -2,11 +2,10 @@
 ghost use Rattle.std.specs.Prelude.{◌≡◌, ◌∷◌, [], IfOk, OnOk};
 ghost use Rattle.bd_base.specs.declared.act.Act.TheVariants as acts;
 ghost use Rattle.bd_machine.specs.Completion.{piece_here, pieces_here};
-ghost use Rattle.bd_machine.specs.Requests.{change_accept, change_complete, change_cut, change_refuse, pieces_closed, pieces_made};
+ghost use Rattle.bd_machine.specs.Requests.{change_complete, change_refuse, pieces_closed, pieces_made};
 ghost use Rattle.bd_machine.specs.Same.{is_the, same_errno};
-ghost use Rattle.bd_machine.specs.Step.{first_failing, guards_in, moved};
-ghost use Rattle.bd_machine.specs.View.{view};
-ghost use Rattle.bd_play.specs.Words.{changed};
+ghost use Rattle.bd_machine.specs.Step.{moved};
+ghost use Rattle.bd_play.specs.Words.{change_of, changed, refused, seen};
 
 use crate::duplicate::Duplicate;
 use crate::side::Side;
@@ -35,7 +34,7 @@ pub fn refused_accept(
     handle: HandleId,
     what: Submission,
 ) -> Option<u32>
-    ensures { result ≡ first_failing (guards_in side.now.setup.now side.now.state.now side.now.thread (acts.Accept req dev handle what.op what.lba what.count)) }
+    ensures { result ≡ refused side.now (acts.Accept req dev handle what.op what.lba what.count) }
 {
     let shut = side.state.shut;
     if !asks_submission(side, side.setup, side.thread, shut, Some(handle), what) {
@@ -61,7 +60,7 @@ pub fn accept(
     handle: HandleId,
     what: Submission,
 ) -> Result<State, OutOfMemory>
-    ensures { IfOk result (λ s. s ≡ changed side.now.state.now side.now.thread (change_accept (view side.now.state.now side.now.thread) req dev handle what.op what.lba what.count)) }
+    ensures { IfOk result (λ s. s ≡ changed side.now (change_of side.now (acts.Accept req dev handle what.op what.lba what.count))) }
 {
     let mut next = side.state.duplicate(alloc)?;
     let kept = Kept::Request(OpenRequest {
@@ -97,7 +96,7 @@ pub fn refused_refuse(
     what: Submission,
     errno: Errno,
 ) -> Option<u32>
-    ensures { result ≡ first_failing (guards_in side.now.setup.now side.now.state.now side.now.thread (acts.Refuse handle what.op what.lba what.count errno)) }
+    ensures { result ≡ refused side.now (acts.Refuse handle what.op what.lba what.count errno) }
 {
     if !asks_submission(side, side.setup, side.thread, side.state.shut, handle, what) {
         return Some(LINE_ASKS);
@@ -111,7 +110,7 @@ pub fn refused_refuse(
 
 /// The state with what a Refuse changes.
 pub fn refuse(alloc: Global, side: &Side, errno: Errno) -> Result<State, OutOfMemory>
-    ensures { IfOk result (λ s. s ≡ changed side.now.state.now side.now.thread (change_refuse (view side.now.state.now side.now.thread) errno)) }
+    ensures { IfOk result (λ s. s ≡ changed side.now (change_refuse (seen side.now) errno)) }
 {
     let mut next = side.state.duplicate(alloc)?;
     next.parts.at_mut(side.thread as usize).decided = Some(Decided::Refused(errno));
@@ -127,7 +126,7 @@ pub fn refused_cut(
     req: ReqId,
     n: u32,
 ) -> Result<Option<u32>, OutOfMemory>
-    ensures { IfOk result (λ r. r ≡ first_failing (guards_in side.now.setup.now side.now.state.now side.now.thread (acts.Cut req n))) }
+    ensures { IfOk result (λ r. r ≡ refused side.now (acts.Cut req n)) }
 {
     if !may_cut(side, side.thread, req) {
         return Ok(Some(MAY_CUT));
@@ -164,7 +163,7 @@ fn make_pieces(
 
 /// The state with what a Cut changes.
 pub fn cut(alloc: Global, side: &Side, req: ReqId, n: u32) -> Result<State, OutOfMemory>
-    ensures { IfOk result (λ s. s ≡ changed side.now.state.now side.now.thread (change_cut side.now.setup.now (view side.now.state.now side.now.thread) req n)) }
+    ensures { IfOk result (λ s. s ≡ changed side.now (change_of side.now (acts.Cut req n))) }
 {
     let mut next = side.state.duplicate(alloc)?;
     let Some(r) = request_here(side, req) else {
@@ -195,7 +194,7 @@ pub fn refused_complete(
     status: Status,
     shown: &Option<Shown>,
 ) -> Result<Option<u32>, OutOfMemory>
-    ensures { IfOk result (λ r. r ≡ first_failing (guards_in side.now.setup.now side.now.state.now side.now.thread (acts.Complete req status shown.now))) }
+    ensures { IfOk result (λ r. r ≡ refused side.now (acts.Complete req status shown.now)) }
 {
     if !may_complete(side, side.thread, req) {
         return Ok(Some(ALL_PIECES_BACK));
@@ -216,7 +215,7 @@ fn close_piece(
     side: &Side,
     piece: PieceId,
 ) -> Result<(), OutOfMemory>
-    ensures { OnOk result (tokens.new ≡ moved side.now.thread (pieces_closed piece.req piece.k (piece_here (view side.now.state.now side.now.thread) piece.req piece.k ∷ [])) tokens.old) }
+    ensures { OnOk result (tokens.new ≡ moved side.now.thread (pieces_closed piece.req piece.k (piece_here (seen side.now) piece.req piece.k ∷ [])) tokens.old) }
 {
     if let Some(p) = piece_here(side, piece) {
         let place = Place::Nowhere;
@@ -238,7 +237,7 @@ fn close_pieces(
     req: ReqId,
     n: u32,
 ) -> Result<(), OutOfMemory>
-    ensures { OnOk result (tokens.new ≡ moved side.now.thread (pieces_closed req 0 (pieces_here (view side.now.state.now side.now.thread) req n)) tokens.old) }
+    ensures { OnOk result (tokens.new ≡ moved side.now.thread (pieces_closed req 0 (pieces_here (seen side.now) req n)) tokens.old) }
 {
     for k in 0..n {
         close_piece(tokens, side, PieceId { req, k })?;
@@ -248,7 +247,7 @@ fn close_pieces(
 
 /// The state with what a Complete changes.
 pub fn complete(alloc: Global, side: &Side, req: ReqId) -> Result<State, OutOfMemory>
-    ensures { IfOk result (λ s. s ≡ changed side.now.state.now side.now.thread (change_complete (view side.now.state.now side.now.thread) req)) }
+    ensures { IfOk result (λ s. s ≡ changed side.now (change_complete (seen side.now) req)) }
 {
     let mut next = side.state.duplicate(alloc)?;
     let part = next.parts.at_mut(side.thread as usize);

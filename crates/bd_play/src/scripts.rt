@@ -5,9 +5,7 @@ ghost use Rattle.bd_machine.specs.Asked.{job_of, next_line};
 ghost use Rattle.bd_machine.specs.Rest.{are_scripts_blocked};
 ghost use Rattle.bd_machine.specs.Same.{is_the, same_outcome};
 ghost use Rattle.bd_machine.specs.Scripts.{change_script, is_line};
-ghost use Rattle.bd_machine.specs.Step.{first_failing, guards_in, guards_shutdown};
-ghost use Rattle.bd_machine.specs.View.{view};
-ghost use Rattle.bd_play.specs.Words.{changed};
+ghost use Rattle.bd_play.specs.Words.{changed, refused, refused_with_shutdown, seen};
 
 use crate::duplicate::Duplicate;
 use crate::rest::is_at_rest;
@@ -41,7 +39,7 @@ fn is_outcome(due: Option<Outcome>, outcome: Outcome) -> bool
 
 /// Why a line isn't done so.
 pub fn refused_script(side: &Side, line: u32, outcome: Outcome) -> Result<Option<u32>, OutOfMemory>
-    ensures { IfOk result (λ r. r ≡ first_failing (guards_in side.now.setup.now side.now.state.now side.now.thread (acts.Script line outcome))) }
+    ensures { IfOk result (λ r. r ≡ refused side.now (acts.Script line outcome)) }
 {
     let part = side.part();
     if !is_line(line, next_line(side.setup, side.thread, part)) || side.state.shut {
@@ -67,7 +65,7 @@ fn next_job<'a>(setup: &'a Setup, thread: u32, part: &Part) -> Option<&'a Job>
 
 /// The state with what a Script changes.
 pub fn script(alloc: Global, side: &Side) -> Result<State, OutOfMemory>
-    ensures { IfOk result (λ s. s ≡ changed side.now.state.now side.now.thread (change_script side.now.setup.now side.now.thread (view side.now.state.now side.now.thread))) }
+    ensures { IfOk result (λ s. s ≡ changed side.now (change_script side.now.setup.now side.now.thread (seen side.now))) }
 {
     let mut next = side.state.duplicate(alloc)?;
     let job = next_job(side.setup, side.thread, side.part());
@@ -100,7 +98,7 @@ fn are_scripts_blocked(setup: &Setup, state: &State) -> bool
 
 /// Why a Shutdown isn't allowed. More threads than 32 bits count answer out of memory.
 pub fn refused_shutdown(side: &Side) -> Result<Option<u32>, OutOfMemory>
-    ensures { IfOk result (λ r. r ≡ first_failing (guards_shutdown side.now.setup.now side.now.state.now side.now.thread acts.Shutdown)) }
+    ensures { IfOk result (λ r. r ≡ refused_with_shutdown side.now acts.Shutdown) }
 {
     if !is_at_rest(side.state, side.thread) {
         return Ok(Some(AT_REST));

@@ -1,10 +1,10 @@
 //! Which entry is allowed, and the state after it.
-ghost use Rattle.std.specs.Prelude.{◌≡◌, ◌++◌, IfOk, None, OnOk, true};
+ghost use Rattle.std.specs.Prelude.{◌≡◌, IfOk, None, OnOk, true};
 ghost use Rattle.bd_machine.specs.Guards.{is_built, is_built_event, is_built_token};
 ghost use Rattle.bd_machine.specs.Registry.{registry_after};
-ghost use Rattle.bd_machine.specs.Step.{after, change_in, first_failing, guards_in, guards_shutdown, is_in_order, is_shutdown, refusal};
+ghost use Rattle.bd_machine.specs.Step.{after, is_in_order, is_shutdown, refusal};
 ghost use Rattle.bd_machine.specs.View.{asked};
-ghost use Rattle.bd_play.specs.Words.{changed, is_of_request};
+ghost use Rattle.bd_play.specs.Words.{change_of, changed, is_of_request, refused, refused_with_shutdown};
 
 use crate::duplicate::Duplicate;
 use crate::messages::Message;
@@ -76,7 +76,7 @@ fn submission(op: Op, lba: u64, count: u64) -> Submission
 
 fn refused_request(alloc: Global, side: &Side, act: &Act) -> Result<Option<u32>, OutOfMemory>
     requires { is_of_request act.now ≡ true }
-    ensures { IfOk result (λ r. r ≡ first_failing (guards_in side.now.setup.now side.now.state.now side.now.thread act.now)) }
+    ensures { IfOk result (λ r. r ≡ refused side.now act.now) }
 {
     match act {
         Act::Accept {
@@ -109,7 +109,7 @@ fn refused_request(alloc: Global, side: &Side, act: &Act) -> Result<Option<u32>,
 }
 
 fn refused_act(alloc: Global, side: &Side, act: &Act) -> Result<Option<u32>, OutOfMemory>
-    ensures { IfOk result (λ r. r ≡ first_failing (guards_shutdown side.now.setup.now side.now.state.now side.now.thread act.now ++ guards_in side.now.setup.now side.now.state.now side.now.thread act.now)) }
+    ensures { IfOk result (λ r. r ≡ refused_with_shutdown side.now act.now) }
 {
     match act {
         Act::Put { to, number, what } => {
@@ -164,7 +164,7 @@ pub fn refusal(
 
 fn changed_by_request(alloc: Global, side: &Side, act: &Act) -> Result<State, OutOfMemory>
     requires { is_of_request act.now ≡ true }
-    ensures { IfOk result (λ s. s ≡ changed side.now.state.now side.now.thread (change_in side.now.setup.now side.now.state.now side.now.thread act.now)) }
+    ensures { IfOk result (λ s. s ≡ changed side.now (change_of side.now act.now)) }
 {
     match act {
         Act::Accept {
@@ -187,7 +187,7 @@ fn changed_by_request(alloc: Global, side: &Side, act: &Act) -> Result<State, Ou
 
 // The state with what an act changes of its thread's part and of the tokens.
 fn changed_by(alloc: Global, side: &Side, act: &Act) -> Result<State, OutOfMemory>
-    ensures { IfOk result (λ s. s ≡ changed side.now.state.now side.now.thread (change_in side.now.setup.now side.now.state.now side.now.thread act.now)) }
+    ensures { IfOk result (λ s. s ≡ changed side.now (change_of side.now act.now)) }
 {
     match act {
         Act::Put { to, number, what } => { messages::put(alloc, side, message(*to, *number), what) }
