@@ -1,10 +1,14 @@
 -- Words of the program.
-use Rattle.std.specs.Prelude.{ℕ, Bool, true, false, ◌++◌, Option, set}
+use Rattle.std.specs.Prelude.{ℕ, Bool, true, false, List, ◌++◌, Option, set}
 use Rattle.bd_base.specs.declared.act.Act.{Act}
 use Rattle.bd_base.specs.declared.act.Act.TheVariants as acts
+use Rattle.bd_base.specs.declared.act.Token.{Token}
+use Rattle.bd_machine.specs.declared.state.Kept.{Kept}
 use Rattle.bd_machine.specs.declared.state.State.{State}
+use Rattle.bd_machine.specs.Messages.{moves_put}
 use Rattle.bd_machine.specs.Step.{change_in, first_failing, guards_in, guards_shutdown, moved}
-use Rattle.bd_machine.specs.View.{Change, View, view}
+use Rattle.bd_machine.specs.View.{Change, Move, View, message_for, view}
+use Rattle.bd_play.specs.declared.messages.Message.{Message}
 use Rattle.bd_play.specs.declared.side.Side.{Side}
 
 -- what the thread of a side sees
@@ -27,6 +31,14 @@ changed side c = record side.state.now { parts = set side.state.now.parts side.t
 -- what an act of it changes
 abbrev pub change_of : Side → Act → Change
 change_of side act = change_in side.setup.now side.state.now side.thread act
+
+-- where the token goes that it puts as this message
+abbrev pub moves_of : Side → Message → Token → List Move
+moves_of side m what = moves_put side.thread (seen side) m.peer m.number what
+
+-- what is kept of the token that this message brings to it
+abbrev pub brought : Side → Message → Token → Option Kept
+brought side m what = message_for side.state.now side.thread (record { source = m.peer; number = m.number; what = what })
 
 -- an act on a request of its own thread
 abbrev pub is_of_request : Act → Bool

@@ -2,11 +2,11 @@
 ghost use Rattle.std.specs.Prelude.{◌≡◌, option_copied, IfOk, OnOk};
 ghost use Rattle.bd_base.specs.declared.act.Act.TheVariants as acts;
 ghost use Rattle.bd_base.specs.declared.act.Token.TheVariants as whats;
-ghost use Rattle.bd_machine.specs.Messages.{moves_put, moves_took};
+ghost use Rattle.bd_machine.specs.Messages.{moves_took};
 ghost use Rattle.bd_machine.specs.Step.{moved, place_after};
-ghost use Rattle.bd_machine.specs.View.{To, message_for, message_of};
+ghost use Rattle.bd_machine.specs.View.{To, message_of};
 ghost use Rattle.bd_machine.specs.declared.state.Kept.TheVariants as keeps;
-ghost use Rattle.bd_play.specs.Words.{change_of, changed, refused, seen};
+ghost use Rattle.bd_play.specs.Words.{brought, change_of, changed, moves_of, refused};
 
 use crate::duplicate::Duplicate;
 use crate::side::Side;
@@ -73,7 +73,7 @@ fn send_piece(
     message: Message,
     piece: PieceId,
 ) -> Result<(), OutOfMemory>
-    ensures { OnOk result (tokens.new ≡ moved side.now.thread (moves_put side.now.thread (seen side.now) message.peer message.number (whats.Piece piece.req piece.k)) tokens.old) }
+    ensures { OnOk result (tokens.new ≡ moved side.now.thread (moves_of side.now message (whats.Piece piece.req piece.k)) tokens.old) }
 {
     let Some(p) = piece_here(side, piece) else {
         return Ok(());
@@ -94,7 +94,7 @@ fn send_mark(
     message: Message,
     mark: &Name,
 ) -> Result<(), OutOfMemory>
-    ensures { OnOk result (tokens.new ≡ moved side.now.thread (moves_put side.now.thread (seen side.now) message.peer message.number (whats.Mark mark.now)) tokens.old) }
+    ensures { OnOk result (tokens.new ≡ moved side.now.thread (moves_of side.now message (whats.Mark mark.now)) tokens.old) }
 {
     let name = mark.copy()?;
     let kept = Kept::Notice(News::Mark(name));
@@ -113,7 +113,7 @@ fn send(
     message: Message,
     what: &Token,
 ) -> Result<(), OutOfMemory>
-    ensures { OnOk result (tokens.new ≡ moved side.now.thread (moves_put side.now.thread (seen side.now) message.peer message.number what.now) tokens.old) }
+    ensures { OnOk result (tokens.new ≡ moved side.now.thread (moves_of side.now message what.now) tokens.old) }
 {
     match what {
         Token::Piece(req, k) => send_piece(tokens, side, message, PieceId { req: *req, k: *k }),
@@ -162,7 +162,7 @@ fn kept_in(token: Option<&Tracked>, thread: u32, message: Message) -> Option<&Ke
 
 // What is kept of the token that a message brings.
 fn brought<'a>(side: &'a Side, message: Message, what: &Token) -> Option<&'a Kept>
-    ensures { option_copied result ≡ message_for side.now.state.now side.now.thread (record { source = message.peer; number = message.number; what = what.now }) }
+    ensures { option_copied result ≡ brought side.now message what.now }
 {
     let id = id_of(message.peer, side.thread, message.number, what);
     kept_in(

@@ -213,18 +213,14 @@ pub fn refused_complete(
 fn close_piece(
     tokens: &mut Rows<(Id, Tracked)>,
     side: &Side,
-    piece: PieceId,
+    id: PieceId,
 ) -> Result<(), OutOfMemory>
-    ensures { OnOk result (tokens.new ≡ moved side.now.thread (pieces_closed piece.req piece.k (piece_here (seen side.now) piece.req piece.k ∷ [])) tokens.old) }
+    ensures { OnOk result (tokens.new ≡ moved side.now.thread (pieces_closed id.req id.k (piece_here (seen side.now) id.req id.k ∷ [])) tokens.old) }
 {
-    if let Some(p) = piece_here(side, piece) {
+    if let Some(p) = piece_here(side, id) {
         let place = Place::Nowhere;
         let kept = Kept::Piece(copy_of_piece(p)?);
-        put_in(
-            tokens,
-            Id::Piece(piece.req, piece.k),
-            Tracked { place, kept },
-        )?;
+        put_in(tokens, Id::Piece(id.req, id.k), Tracked { place, kept })?;
     }
     Ok(())
 }
