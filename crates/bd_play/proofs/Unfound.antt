@@ -1,5 +1,5 @@
 -- A list that has no item that passes a test has no first one to change.
-use Rattle.std.proofs.Common.{◌≡◌, Bool, true, false, cond, List, [], ◌∷◌, find, Option, Some, None, refl, ap}
+use Rattle.std.proofs.Common.{◌≡◌, Bool, true, false, cond, List, [], ◌∷◌, find, Some, None, refl, ap}
 use Rattle.bd_machine.specs.Table.{change_first}
 
 pub unfound : {X : Type 0} (is : X → Bool) (f : X → X) (xs : List X) → find is xs ≡ None → change_first is f xs ≡ xs
