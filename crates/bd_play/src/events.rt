@@ -44,7 +44,8 @@ pub fn refused_reg(
     }
 }
 
-/// The state with what an answer decides: the line that asked, and nothing after the Shutdown.
+/// The state with what a Reg changes of the part: its answer decides the line that asked. After the
+/// Shutdown no line asks.
 pub fn decide(alloc: Global, side: &Side, answer: &Answer) -> Result<State, OutOfMemory>
     ensures { IfOk result (λ s. s ≡ changed side.now (change_reg (seen side.now) (came_shut side.now.state.now.shut) answer.now)) }
 {

@@ -23,7 +23,7 @@ fn is_destructed(setup: &Setup, state: &State, n: u32) -> bool
     }
 }
 
-#[tactic(auto, using(crate::proofs::Left::left_from))]
+#[tactic(auto, using(bd_changes::proofs::Left::left_from))]
 fn all_destructed(setup: &Setup, state: &State, count: u32) -> bool
     ensures { result ≡ list_all (is_destructed setup.now state.now) (range_with_len 0 count) }
 {

@@ -21,7 +21,8 @@ use bd_rules::{
 };
 use std::alloc::Global;
 
-/// A message between a thread and a peer: the peer, and the message's number from 0.
+/// A message, by the thread at its other end (who gets a put one, who sent a taken one) and its number
+/// from 0.
 #[derive(Clone, Copy, Debug, PartialEq, Eq)]
 pub struct Message {
     pub peer: u32,
@@ -184,7 +185,7 @@ pub fn refused_took(side: &Side, message: Message, what: &Token) -> Option<u32>
     }
 }
 
-// What a message brought is on the thread, or was told it once.
+// What a message brought is on the thread; a notice is closed.
 fn arrive(
     alloc: Global,
     tokens: &mut Rows<(Id, Tracked)>,

@@ -226,7 +226,7 @@ fn close_piece(
 }
 
 // The first n pieces of a request, as far as they are on the thread, end.
-#[tactic(auto, using(crate::proofs::Left::left_from, crate::proofs::Closing::closed_next))]
+#[tactic(auto, using(bd_changes::proofs::Left::left_from, crate::proofs::Closing::closed_next))]
 fn close_pieces(
     tokens: &mut Rows<(Id, Tracked)>,
     side: &Side,

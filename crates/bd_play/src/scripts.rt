@@ -81,7 +81,7 @@ pub fn script(alloc: Global, side: &Side) -> Result<State, OutOfMemory>
 // ---- Shutdown
 
 // Every script is at its end, or its next line waits.
-#[tactic(auto, using(crate::proofs::Left::left_from))]
+#[tactic(auto, using(bd_changes::proofs::Left::left_from))]
 fn are_scripts_blocked(setup: &Setup, state: &State) -> bool
     requires { length state.now.parts < 2 ^ 32 }
     ensures { result ≡ are_scripts_blocked setup.now state.now }

@@ -185,7 +185,8 @@ fn changed_by_request(alloc: Global, side: &Side, act: &Act) -> Result<State, Ou
     }
 }
 
-// The state with what an act changes of its thread's part and of the tokens.
+// The state with what an act changes of its thread's part and of the tokens: nothing for a Shutdown, and
+// for an act that isn't built.
 fn changed_by(alloc: Global, side: &Side, act: &Act) -> Result<State, OutOfMemory>
     ensures { IfOk result (λ s. s ≡ changed side.now (change_of side.now act.now)) }
 {
