@@ -29,6 +29,7 @@ pub struct Message {
     pub number: u128,
 }
 
+// A copy of a piece that is this far.
 fn with_progress(p: &OpenPiece, progress: Progress) -> Result<Kept, OutOfMemory>
     ensures { IfOk result (λ kept. kept ≡ keeps.Piece (record p.now { progress = progress })) }
 {
@@ -108,6 +109,7 @@ fn send_mark(
     put_in(tokens, id, Tracked { place, kept })
 }
 
+// The token that a message has goes into a ring.
 fn send(
     tokens: &mut Rows<(Id, Tracked)>,
     side: &Side,

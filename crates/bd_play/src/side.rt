@@ -33,9 +33,6 @@ fn here(token: Option<&Tracked>, thread: u32) -> Option<&Kept>
 }
 
 impl<'a> Sees for Side<'a> {
-    ghost use Rattle.std.specs.Prelude.{◌<◌, length};
-    ghost use Rattle.bd_machine.specs.View.{view};
-
     ghost view_of = { λ s. view s.state.now s.thread };
 
     fn part(&self) -> &Part {

@@ -74,6 +74,7 @@ fn submission(op: Op, lba: u64, count: u64) -> Submission
 
 // ---- why an act isn't allowed
 
+// Why an act on a request isn't allowed.
 fn refused_request(alloc: Global, side: &Side, act: &Act) -> Result<Option<u32>, OutOfMemory>
     requires { is_of_request act.now ≡ true }
     ensures { IfOk result (λ r. r ≡ refused side.now act.now) }
@@ -108,6 +109,7 @@ fn refused_request(alloc: Global, side: &Side, act: &Act) -> Result<Option<u32>,
     }
 }
 
+// Why an act isn't allowed: its first guard that fails, those of a Shutdown among them.
 fn refused_act(alloc: Global, side: &Side, act: &Act) -> Result<Option<u32>, OutOfMemory>
     ensures { IfOk result (λ r. r ≡ refused_with_shutdown side.now act.now) }
 {
@@ -162,6 +164,7 @@ pub fn refusal(
 
 // ---- what an act changes
 
+// The state with what an act on a request changes of its thread's part and of the tokens.
 fn changed_by_request(alloc: Global, side: &Side, act: &Act) -> Result<State, OutOfMemory>
     requires { is_of_request act.now ≡ true }
     ensures { IfOk result (λ s. s ≡ changed side.now (change_of side.now act.now)) }
