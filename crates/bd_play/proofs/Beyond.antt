@@ -1,5 +1,5 @@
 -- Parts of threads that there aren't.
-use Rattle.std.proofs.Common.{◌≡◌, ℕ, zero, suc, ◌<◌, ◌≤◌, List, [], ◌∷◌, length, get_or, refl, arith}
+use Rattle.std.proofs.Common.{◌≡◌, ℕ, zero, suc, ◌≤◌, List, [], ◌∷◌, length, get_or, refl, arith}
 use Rattle.bd_machine.specs.declared.state.State.{State}
 use Rattle.bd_machine.specs.View.{blank_part, part_of}
 

@@ -1,13 +1,4 @@
 pub mod Asking
 pub mod Beyond
-pub mod Blocks
-pub mod Brought
 pub mod Closing
-pub mod Cuts
-pub mod Data
-pub mod Firsts
-pub mod Left
-pub mod Moving
-pub mod Starting
-pub mod Written
-pub mod Zeros
+pub mod Unfound

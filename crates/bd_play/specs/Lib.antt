@@ -1,4 +1,3 @@
-pub mod Index
 pub mod Play
 pub mod Refusals
 pub mod Words

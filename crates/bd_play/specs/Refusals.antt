@@ -1,5 +1,5 @@
 -- How a step that isn't Ok ends.
-use Rattle.std.specs.Prelude.{◌≡◌, Option, Some}
+use Rattle.std.specs.Prelude.{◌≡◌, Some}
 use Rattle.bd_base.specs.declared.act.Entry.{Entry}
 use Rattle.bd_machine.specs.Step.{refusal}
 use Rattle.bd_play.specs.Play.{Play}

@@ -2,6 +2,7 @@
 ghost use Rattle.std.specs.Prelude.{◌≡◌, IfOk};
 
 use bd_base::{Bytes, DevRow, Job, Line, Name, OutOfMemory, Rows, Script, Setup, Waiting};
+use bd_blocks::copy_of_piece;
 use bd_machine::{
     Base, Binding, Content, Due, Id, Kept, News, OpenPiece, Part, Registry, State, Tracked,
 };
@@ -37,19 +38,6 @@ impl Duplicate for Bytes {
     }
 }
 
-/// A copy of bytes, where there are any.
-pub fn duplicate_bytes(bytes: &Option<Bytes>) -> Result<Option<Bytes>, OutOfMemory>
-    ensures { IfOk result (λ b. b ≡ bytes.now) }
-{
-    match bytes {
-        Some(b) => {
-            let copied = b.copy()?;
-            Ok(Some(copied))
-        }
-        None => Ok(None),
-    }
-}
-
 fn duplicate_name(name: &Option<Name>) -> Result<Option<Name>, OutOfMemory>
     ensures { IfOk result (λ n. n ≡ name.now) }
 {
@@ -64,17 +52,7 @@ fn duplicate_name(name: &Option<Name>) -> Result<Option<Name>, OutOfMemory>
 
 impl Duplicate for OpenPiece {
     fn duplicate(&self, alloc: Global) -> Result<OpenPiece, OutOfMemory> {
-        let read = duplicate_bytes(&self.read)?;
-        Ok(OpenPiece {
-            base: self.base,
-            lba: self.lba,
-            count: self.count,
-            first: self.first,
-            op: self.op,
-            progress: self.progress,
-            end: self.end,
-            read,
-        })
+        copy_of_piece(self)
     }
 }
 
@@ -243,58 +221,37 @@ impl Duplicate for Waiting {
 impl Duplicate for Job {
     fn duplicate(&self, alloc: Global) -> Result<Job, OutOfMemory> {
         match self {
-            Job::Open { handle, dev, write } => {
-                let handle = handle.copy()?;
-                let dev = dev.copy()?;
-                Ok(Job::Open {
-                    handle,
-                    dev,
-                    write: *write,
-                })
-            }
-            Job::Close { handle } => {
-                let handle = handle.copy()?;
-                Ok(Job::Close { handle })
-            }
-            Job::Claim { handle, kind } => {
-                let handle = handle.copy()?;
-                Ok(Job::Claim {
-                    handle,
-                    kind: *kind,
-                })
-            }
+            Job::Open { handle, dev, write } => Ok(Job::Open {
+                handle: handle.copy()?,
+                dev: dev.copy()?,
+                write: *write,
+            }),
+            Job::Close { handle } => Ok(Job::Close {
+                handle: handle.copy()?,
+            }),
+            Job::Claim { handle, kind } => Ok(Job::Claim {
+                handle: handle.copy()?,
+                kind: *kind,
+            }),
             Job::Submit {
                 handle,
                 op,
                 lba,
                 count,
-            } => {
-                let handle = handle.copy()?;
-                Ok(Job::Submit {
-                    handle,
-                    op: *op,
-                    lba: *lba,
-                    count: *count,
-                })
-            }
-            Job::Remove { dev } => {
-                let dev = dev.copy()?;
-                Ok(Job::Remove { dev })
-            }
+            } => Ok(Job::Submit {
+                handle: handle.copy()?,
+                op: *op,
+                lba: *lba,
+                count: *count,
+            }),
+            Job::Remove { dev } => Ok(Job::Remove { dev: dev.copy()? }),
             Job::Wait => Ok(Job::Wait),
             Job::Sleep(micros) => Ok(Job::Sleep(*micros)),
-            Job::Post(mark) => {
-                let mark = mark.copy()?;
-                Ok(Job::Post(mark))
-            }
-            Job::Await(mark) => {
-                let mark = mark.copy()?;
-                Ok(Job::Await(mark))
-            }
-            Job::Gone { handle } => {
-                let handle = handle.copy()?;
-                Ok(Job::Gone { handle })
-            }
+            Job::Post(mark) => Ok(Job::Post(mark.copy()?)),
+            Job::Await(mark) => Ok(Job::Await(mark.copy()?)),
+            Job::Gone { handle } => Ok(Job::Gone {
+                handle: handle.copy()?,
+            }),
         }
     }
 }

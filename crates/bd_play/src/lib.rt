@@ -3,20 +3,16 @@
 //! state, so that running out of memory leaves the state as it was.
 #![tactic(auto)]
 
-mod asked;
-mod completion;
 mod duplicate;
-mod effect;
-mod equal;
 mod events;
 mod finished;
 mod homes;
 mod machine;
 mod messages;
-mod pieces;
-mod registry;
 mod requests;
+mod rest;
 mod scripts;
+mod side;
 mod start;
 mod step;
 mod tokens;

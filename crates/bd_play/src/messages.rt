@@ -1,438 +1,236 @@
 //! Put and Took.
-ghost use Rattle.std.specs.Prelude.{◌≡◌, ◌==◌, ◌<◌, true, length, position, option_copied, IfOk, OnErr, OnOk};
-ghost use Rattle.std.specs.List.{list_any};
+ghost use Rattle.std.specs.Prelude.{◌≡◌, option_copied, IfOk, OnOk};
 ghost use Rattle.bd_base.specs.declared.act.Act.TheVariants as acts;
 ghost use Rattle.bd_base.specs.declared.act.Token.TheVariants as whats;
-ghost use Rattle.bd_machine.specs.Completion.{as_piece};
-ghost use Rattle.bd_machine.specs.Homes.{is_base};
-ghost use Rattle.bd_machine.specs.Messages.{bases_took, brings, count_at, is_due_to, is_token_here, may_go, may_piece_here_go, piece_put, progress_put, progress_took, queued, sent};
-ghost use Rattle.bd_machine.specs.Same.{same_id};
-ghost use Rattle.bd_machine.specs.Step.{first_failing, guards_in, moved};
-ghost use Rattle.bd_machine.specs.Table.{change_first, look_up, without_first, write};
-ghost use Rattle.bd_machine.specs.View.{here_of, id_of, message_of, view};
-ghost use Rattle.bd_machine.specs.declared.state.Id.TheVariants.{Notice, Piece};
+ghost use Rattle.bd_machine.specs.Messages.{moves_took};
+ghost use Rattle.bd_machine.specs.Step.{moved, place_after};
+ghost use Rattle.bd_machine.specs.View.{To, message_of};
 ghost use Rattle.bd_machine.specs.declared.state.Kept.TheVariants as keeps;
-ghost use Rattle.bd_machine.specs.declared.state.News.TheVariants as news;
-ghost use Rattle.bd_machine.specs.declared.state.Place.TheVariants.{Ring};
-ghost use Rattle.bd_play.specs.Index.{index_of};
-ghost use Rattle.bd_play.specs.Words.{after_act};
+ghost use Rattle.bd_play.specs.Words.{brought, change_of, changed, moves_of, refused};
 
-use crate::completion::piece_here;
-use crate::duplicate::{Duplicate, duplicate_bytes};
-use crate::registry::{home, next_number};
-use crate::tokens::{as_piece, here, message, put_in};
-use bd_base::{DevId, Name, OutOfMemory, ReqId, Rows, Setup, Token};
+use crate::duplicate::Duplicate;
+use crate::side::Side;
+use crate::tokens::put_in;
+use bd_base::{Name, OutOfMemory, Rows, Token};
+use bd_blocks::copy_of_piece;
+use bd_changes::{progress_put, progress_took};
 use bd_machine::guard::{MAY_GO, NEXT_MESSAGE, NEXT_PUT, TOKEN_HERE};
-use bd_machine::{Base, Due, Id, Kept, News, OpenPiece, Place, Progress, State, Tracked};
+use bd_machine::{Id, Kept, News, OpenPiece, Place, Progress, State, Tracked};
+use bd_rules::{
+    PieceId, Sees, brings, count_at, id_of, is_token_here, look_up, may_go, piece_here,
+};
 use std::alloc::Global;
 
-/// How many messages a table counts for a thread.
-pub fn count_at(table: &[(u32, u128)], thread: u32) -> u128
-    ensures { result ≡ count_at table.now thread }
-{
-    for entry in table {
-        if entry.0 == thread {
-            return entry.1;
-        }
-    }
-    0
+/// A message, by the thread at its other end (who gets a put one, who sent a taken one) and its number
+/// from 0.
+#[derive(Clone, Copy, Debug, PartialEq, Eq)]
+pub struct Message {
+    pub peer: u32,
+    pub number: u128,
 }
 
-fn count_index(table: &[(u32, u128)], thread: u32) -> usize
-    ensures { result ≡ index_of ◌==◌ table.now thread }
+// A copy of a piece that is this far.
+fn with_progress(p: &OpenPiece, progress: Progress) -> Result<Kept, OutOfMemory>
+    ensures { IfOk result (λ kept. kept ≡ keeps.Piece (record p.now { progress = progress })) }
 {
-    let mut before = 0;
-    for entry in table {
-        if entry.0 == thread {
-            return before;
-        }
-        before += 1;
-    }
-    before
-}
-
-// Writes how many messages there were.
-fn count(table: &mut Rows<(u32, u128)>, thread: u32, number: u128) -> Result<(), OutOfMemory>
-    ensures ok { OnOk result (table.new ≡ write ◌==◌ table.old thread number) }
-    ensures err { OnErr result (table.new ≡ table.old) }
-{
-    let i = count_index(table.as_slice(), thread);
-    if i < table.len() {
-        table.set(i, (thread, number));
-        return Ok(());
-    }
-    table.push((thread, number))?;
-    Ok(())
+    let mut copied = copy_of_piece(p)?;
+    copied.progress = progress;
+    Ok(Kept::Piece(copied))
 }
 
 // ---- Put
 
-fn may_piece_go(setup: &Setup, thread: u32, req: ReqId, piece: Option<&OpenPiece>, to: u32) -> bool
-    ensures { result ≡ may_piece_here_go setup.now thread req (option_copied piece.entry) to }
-{
-    let Some(p) = piece else {
-        return false;
-    };
-    match p.progress {
-        Progress::Held => thread == req.thread && p.end.is_none() && to == home(setup, p.base),
-        Progress::Out => false,
-        Progress::Served => to == req.thread,
-    }
-}
-
-fn is_due_to(due: &Due, to: u32, mark: &Name) -> bool
-    ensures { result ≡ is_due_to to (news.Mark mark.now) due.now }
-{
-    match &due.news {
-        News::Mark(name) => due.receiver == to && name.is(mark),
-    }
-}
-
-fn is_token_here(state: &State, thread: u32, what: &Token) -> bool
-    ensures { result ≡ is_token_here (view state.now thread) what.now }
-{
-    match what {
-        Token::Piece(req, k) => piece_here(state, thread, *req, *k).is_some(),
-        _ => true,
-    }
-}
-
-fn is_mark_due(due: &[Due], to: u32, mark: &Name) -> bool
-    ensures { result ≡ list_any (is_due_to to (news.Mark mark.now)) due.now }
-{
-    due.iter().any(|d| is_due_to(d, to, mark))
-}
-
-fn may_go(setup: &Setup, state: &State, thread: u32, to: u32, what: &Token) -> bool
-    requires { thread < length state.now.parts }
-    ensures { result ≡ may_go setup.now thread (view state.now thread) to what.now }
-{
-    match what {
-        Token::Piece(req, k) => {
-            may_piece_go(setup, thread, *req, piece_here(state, thread, *req, *k), to)
-        }
-        Token::Mark(mark) => {
-            let part = &state.parts.as_slice()[thread as usize];
-            is_mark_due(part.due.as_slice(), to, mark)
-        }
-        _ => false,
-    }
-}
-
 /// Why a Put isn't allowed.
-pub fn refused_put(
-    setup: &Setup,
-    state: &State,
-    thread: u32,
-    to: u32,
-    number: u128,
-    what: &Token,
-) -> Option<u32>
-    requires { thread < length state.now.parts }
-    ensures { result ≡ first_failing (guards_in setup.now state.now thread (acts.Put to number what.now)) }
+pub fn refused_put(side: &Side, message: Message, what: &Token) -> Option<u32>
+    ensures { result ≡ refused side.now (acts.Put message.peer message.number what.now) }
 {
-    let part = &state.parts.as_slice()[thread as usize];
-    if number != count_at(part.put.as_slice(), to) {
+    if message.number != count_at(side.part().put.as_slice(), message.peer) {
         return Some(NEXT_PUT);
     }
-    if !is_token_here(state, thread, what) {
+    if !is_token_here(side, what) {
         return Some(TOKEN_HERE);
     }
-    if may_go(setup, state, thread, to, what) {
+    if may_go(side, side.setup, side.thread, message.peer, what) {
         None
     } else {
         Some(MAY_GO)
     }
 }
 
-fn progress_put(progress: Progress) -> Progress
-    ensures { result ≡ progress_put progress }
+// The ring's place for a message of the thread.
+fn ring_to(thread: u32, message: Message) -> Place
+    ensures { result ≡ place_after thread (To message.peer message.number) }
 {
-    match progress {
-        Progress::Held => Progress::Out,
-        Progress::Out => Progress::Out,
-        Progress::Served => Progress::Served,
+    Place::Ring {
+        sender: thread,
+        receiver: message.peer,
+        number: message.number,
     }
 }
 
-fn with_progress(p: &OpenPiece, progress: Progress) -> Result<Kept, OutOfMemory>
-    ensures { IfOk result (λ kept. kept ≡ keeps.Piece (record p.now { progress = progress })) }
-{
-    let read = duplicate_bytes(&p.read)?;
-    Ok(Kept::Piece(OpenPiece {
-        base: p.base,
-        lba: p.lba,
-        count: p.count,
-        first: p.first,
-        op: p.op,
-        progress,
-        end: p.end,
-        read,
-    }))
-}
-
-// Puts a piece into a ring.
+// A piece that is on the thread goes into a ring.
 fn send_piece(
     tokens: &mut Rows<(Id, Tracked)>,
-    thread: u32,
-    to: u32,
-    number: u128,
-    req: ReqId,
-    k: u32,
+    side: &Side,
+    message: Message,
+    piece: PieceId,
 ) -> Result<(), OutOfMemory>
-    ensures { OnOk result (tokens.new ≡ moved thread (piece_put to number (Piece req k) (as_piece (here_of thread (look_up same_id tokens.old (Piece req k))))) tokens.old) }
+    ensures { OnOk result (tokens.new ≡ moved side.now.thread (moves_of side.now message (whats.Piece piece.req piece.k)) tokens.old) }
 {
-    let Some(p) = as_piece(here(tokens.as_slice(), thread, Id::Piece(req, k))) else {
+    let Some(p) = piece_here(side, piece) else {
         return Ok(());
     };
     let kept = with_progress(p, progress_put(p.progress))?;
-    let place = Place::Ring {
-        sender: thread,
-        receiver: to,
-        number,
-    };
-    put_in(tokens, Id::Piece(req, k), Tracked { place, kept })?;
-    Ok(())
-}
-
-/// The state after a piece was put.
-pub fn put_piece(
-    alloc: Global,
-    setup: &Setup,
-    state: &State,
-    thread: u32,
-    to: u32,
-    number: u128,
-    req: ReqId,
-    k: u32,
-) -> Result<State, OutOfMemory>
-    requires { thread < length state.now.parts }
-    ensures { IfOk result (λ s. s ≡ after_act setup.now state.now thread (acts.Put to number (whats.Piece req k))) }
-{
-    let mut next = state.duplicate(alloc)?;
-    let put = next_number(number)?;
-    send_piece(&mut next.tokens, thread, to, number, req, k)?;
-    count(&mut next.parts.at_mut(thread as usize).put, to, put)?;
-    Ok(next)
-}
-
-// The place of a mark that is due to a thread.
-fn due_place(due: &[Due], to: u32, mark: &Name) -> Option<usize>
-    ensures { result ≡ position (is_due_to to (news.Mark mark.now)) due.now }
-{
-    due.iter().position(|d| is_due_to(d, to, mark))
-}
-
-// A mark that was put isn't due any more.
-#[tactic(auto, using(crate::proofs::Firsts::found_below, crate::proofs::Firsts::remove_found, crate::proofs::Firsts::none_to_remove))]
-fn drop_due(due: &mut Rows<Due>, to: u32, mark: &Name)
-    ensures { due.new ≡ without_first (is_due_to to (news.Mark mark.now)) due.old }
-{
-    if let Some(i) = due_place(due.as_slice(), to, mark) {
-        let _ = due.remove(i);
-    }
+    let place = ring_to(side.thread, message);
+    put_in(
+        tokens,
+        Id::Piece(piece.req, piece.k),
+        Tracked { place, kept },
+    )
 }
 
 // A mark goes into a ring.
 fn send_mark(
     tokens: &mut Rows<(Id, Tracked)>,
-    thread: u32,
-    to: u32,
-    number: u128,
+    side: &Side,
+    message: Message,
     mark: &Name,
 ) -> Result<(), OutOfMemory>
-    ensures { OnOk result (tokens.new ≡ write same_id tokens.old (Notice thread to number) (record { place = Ring thread to number; kept = keeps.Notice (news.Mark mark.now) })) }
+    ensures { OnOk result (tokens.new ≡ moved side.now.thread (moves_of side.now message (whats.Mark mark.now)) tokens.old) }
 {
     let name = mark.copy()?;
     let kept = Kept::Notice(News::Mark(name));
-    let place = Place::Ring {
-        sender: thread,
-        receiver: to,
-        number,
-    };
+    let place = ring_to(side.thread, message);
     let id = Id::Notice {
-        sender: thread,
-        receiver: to,
-        number,
+        sender: side.thread,
+        receiver: message.peer,
+        number: message.number,
     };
     put_in(tokens, id, Tracked { place, kept })
 }
 
-/// The state after a mark was put.
-pub fn put_mark(
-    alloc: Global,
-    setup: &Setup,
-    state: &State,
-    thread: u32,
-    to: u32,
-    number: u128,
-    mark: &Name,
-) -> Result<State, OutOfMemory>
-    requires { thread < length state.now.parts }
-    ensures { IfOk result (λ s. s ≡ after_act setup.now state.now thread (acts.Put to number (whats.Mark mark.now))) }
+// The token that a message has goes into a ring.
+fn send(
+    tokens: &mut Rows<(Id, Tracked)>,
+    side: &Side,
+    message: Message,
+    what: &Token,
+) -> Result<(), OutOfMemory>
+    ensures { OnOk result (tokens.new ≡ moved side.now.thread (moves_of side.now message what.now) tokens.old) }
 {
-    let mut next = state.duplicate(alloc)?;
-    let put = next_number(number)?;
-    send_mark(&mut next.tokens, thread, to, number, mark)?;
-    let part = next.parts.at_mut(thread as usize);
-    count(&mut part.put, to, put)?;
-    drop_due(&mut part.due, to, mark);
+    match what {
+        Token::Piece(req, k) => send_piece(tokens, side, message, PieceId { req: *req, k: *k }),
+        Token::Mark(mark) => send_mark(tokens, side, message, mark),
+        _ => Ok(()),
+    }
+}
+
+/// The state with what a Put changes.
+pub fn put(alloc: Global, side: &Side, message: Message, what: &Token) -> Result<State, OutOfMemory>
+    ensures { IfOk result (λ s. s ≡ changed side.now (change_of side.now (acts.Put message.peer message.number what.now))) }
+{
+    let mut next = side.state.duplicate(alloc)?;
+    send(&mut next.tokens, side, message, what)?;
+    let part = next.parts.at_mut(side.thread as usize);
+    bd_changes::put(part, message.peer, message.number, what)?;
     Ok(next)
 }
 
 // ---- Took
 
-// The message brings this token.
-fn brings(what: &Token, kept: Option<&Kept>) -> bool
-    ensures { result ≡ brings what.now (option_copied kept.entry) }
+// What is kept of a token that is a message from a peer.
+fn kept_in(token: Option<&Tracked>, thread: u32, message: Message) -> Option<&Kept>
+    ensures { option_copied result ≡ message_of message.peer thread message.number (option_copied token.entry) }
 {
-    match (what, kept) {
-        (Token::Piece(_, _), Some(Kept::Piece(_))) => true,
-        (Token::Mark(mark), Some(Kept::Notice(News::Mark(name)))) => name.is(mark),
-        _ => false,
+    match token {
+        Some(
+            Tracked {
+                place: Place::Ring {
+                    sender,
+                    receiver,
+                    number,
+                },
+                kept,
+            },
+        ) => {
+            if *sender == message.peer && *receiver == thread && *number == message.number {
+                Some(kept)
+            } else {
+                None
+            }
+        }
+        _ => None,
     }
 }
 
-fn id_of(sender: u32, receiver: u32, number: u128, what: &Token) -> Id
-    ensures { result ≡ id_of sender receiver number what.now }
+// What is kept of the token that a message brings.
+fn brought<'a>(side: &'a Side, message: Message, what: &Token) -> Option<&'a Kept>
+    ensures { option_copied result ≡ brought side.now message what.now }
 {
-    match what {
-        Token::Request(req) => Id::Request(*req),
-        Token::Piece(req, k) => Id::Piece(*req, *k),
-        _ => Id::Notice {
-            sender,
-            receiver,
-            number,
-        },
-    }
+    let id = id_of(message.peer, side.thread, message.number, what);
+    kept_in(
+        look_up(side.state.tokens.as_slice(), id),
+        side.thread,
+        message,
+    )
 }
 
 /// Why a Took isn't allowed.
-pub fn refused_took(
-    setup: &Setup,
-    state: &State,
-    thread: u32,
-    source: u32,
-    number: u128,
-    what: &Token,
-) -> Option<u32>
-    requires { thread < length state.now.parts }
-    ensures { result ≡ first_failing (guards_in setup.now state.now thread (acts.Took source number what.now)) }
+pub fn refused_took(side: &Side, message: Message, what: &Token) -> Option<u32>
+    ensures { result ≡ refused side.now (acts.Took message.peer message.number what.now) }
 {
-    let part = &state.parts.as_slice()[thread as usize];
-    let id = id_of(source, thread, number, what);
-    let kept = message(state.tokens.as_slice(), source, thread, number, id);
-    if number == count_at(part.taken.as_slice(), source) && brings(what, kept) {
+    let is_next = message.number == count_at(side.part().taken.as_slice(), message.peer);
+    if is_next && brings(what, brought(side, message, what)) {
         None
     } else {
         Some(NEXT_MESSAGE)
     }
 }
 
-/// The place of a base device in a list.
-pub fn base_place(bases: &[Base], dev: DevId) -> Option<usize>
-    ensures { result ≡ position (is_base dev) bases.now }
-{
-    bases.iter().position(|b| b.dev.0 == dev.0)
-}
-
-// A piece joins the queue of its base.
-#[tactic(auto, using(crate::proofs::Firsts::found_below, crate::proofs::Firsts::set_found, crate::proofs::Firsts::not_found))]
-fn join_queue(bases: &mut Rows<Base>, base: DevId, req: ReqId, k: u32) -> Result<(), OutOfMemory>
-    ensures { OnOk result (bases.new ≡ change_first (is_base base) (queued req k) bases.old) }
-{
-    if let Some(i) = base_place(bases.as_slice(), base) {
-        bases.at_mut(i).queue.push((req, k))?;
-    }
-    Ok(())
-}
-
-fn join_if_out(
-    bases: &mut Rows<Base>,
-    piece: &OpenPiece,
-    req: ReqId,
-    k: u32,
+// What a message brought is on the thread; a notice is closed.
+fn arrive(
+    alloc: Global,
+    tokens: &mut Rows<(Id, Tracked)>,
+    thread: u32,
+    id: Id,
+    kept: Option<&Kept>,
 ) -> Result<(), OutOfMemory>
-    ensures { OnOk result (bases.new ≡ bases_took piece.now piece.now.progress req k bases.old) }
+    ensures { OnOk result (tokens.new ≡ moved thread (moves_took id (option_copied kept.entry)) tokens.old) }
 {
-    match piece.progress {
-        Progress::Out => join_queue(bases, piece.base, req, k),
-        Progress::Held => Ok(()),
-        Progress::Served => Ok(()),
+    match kept {
+        Some(Kept::Request(r)) => {
+            let place = Place::At(thread);
+            let kept = Kept::Request(*r);
+            put_in(tokens, id, Tracked { place, kept })
+        }
+        Some(Kept::Piece(p)) => {
+            let place = Place::At(thread);
+            let kept = with_progress(p, progress_took(p.progress))?;
+            put_in(tokens, id, Tracked { place, kept })
+        }
+        Some(Kept::Notice(news)) => {
+            let place = Place::Nowhere;
+            let kept = Kept::Notice(news.duplicate(alloc)?);
+            put_in(tokens, id, Tracked { place, kept })
+        }
+        None => Ok(()),
     }
 }
 
-fn progress_took(progress: Progress) -> Progress
-    ensures { result ≡ progress_took progress }
-{
-    match progress {
-        Progress::Held => Progress::Held,
-        Progress::Out => Progress::Out,
-        Progress::Served => Progress::Held,
-    }
-}
-
-/// The state after a piece was taken.
-pub fn take_piece(
+/// The state with what a Took changes.
+pub fn take(
     alloc: Global,
-    setup: &Setup,
-    state: &State,
-    thread: u32,
-    source: u32,
-    number: u128,
-    req: ReqId,
-    k: u32,
+    side: &Side,
+    message: Message,
+    what: &Token,
 ) -> Result<State, OutOfMemory>
-    requires inside { thread < length state.now.parts }
-    requires brought { brings (whats.Piece req k) (message_of source thread number (look_up same_id state.now.tokens (Piece req k))) ≡ true }
-    ensures { IfOk result (λ s. s ≡ after_act setup.now state.now thread (acts.Took source number (whats.Piece req k))) }
+    ensures { IfOk result (λ s. s ≡ changed side.now (change_of side.now (acts.Took message.peer message.number what.now))) }
 {
-    let mut next = state.duplicate(alloc)?;
-    let id = Id::Piece(req, k);
-    let Some(Kept::Piece(p)) = message(state.tokens.as_slice(), source, thread, number, id) else {
-        return Ok(next);
-    };
-    let taken = next_number(number)?;
-    let kept = with_progress(p, progress_took(p.progress))?;
-    let part = next.parts.at_mut(thread as usize);
-    join_if_out(&mut part.bases, p, req, k)?;
-    count(&mut part.taken, source, taken)?;
-    let place = Place::At(thread);
-    put_in(&mut next.tokens, id, Tracked { place, kept })?;
-    Ok(next)
-}
-
-/// The state after a mark was taken.
-pub fn take_mark(
-    alloc: Global,
-    setup: &Setup,
-    state: &State,
-    thread: u32,
-    source: u32,
-    number: u128,
-    mark: &Name,
-) -> Result<State, OutOfMemory>
-    requires inside { thread < length state.now.parts }
-    requires brought { brings (whats.Mark mark.now) (message_of source thread number (look_up same_id state.now.tokens (Notice source thread number))) ≡ true }
-    ensures { IfOk result (λ s. s ≡ after_act setup.now state.now thread (acts.Took source number (whats.Mark mark.now))) }
-{
-    let mut next = state.duplicate(alloc)?;
-    let id = Id::Notice {
-        sender: source,
-        receiver: thread,
-        number,
-    };
-    let Some(Kept::Notice(news)) = message(state.tokens.as_slice(), source, thread, number, id)
-    else {
-        return Ok(next);
-    };
-    let taken = next_number(number)?;
-    let name = mark.copy()?;
-    let kept = Kept::Notice(news.duplicate(alloc)?);
-    let part = next.parts.at_mut(thread as usize);
-    count(&mut part.taken, source, taken)?;
-    part.marks.push(name)?;
-    let place = Place::Nowhere;
-    put_in(&mut next.tokens, id, Tracked { place, kept })?;
+    let mut next = side.state.duplicate(alloc)?;
+    let kept = brought(side, message, what);
+    let part = next.parts.at_mut(side.thread as usize);
+    bd_changes::took(part, message.peer, message.number, what, kept)?;
+    let id = id_of(message.peer, side.thread, message.number, what);
+    arrive(alloc, &mut next.tokens, side.thread, id, kept)?;
     Ok(next)
 }

@@ -1,166 +1,119 @@
 //! Accept, Refuse, Cut and Complete.
-ghost use Rattle.std.specs.Prelude.{◌≡◌, ◌<◌, ◌∷◌, [], length, not, filter, IfOk, OnOk};
+ghost use Rattle.std.specs.Prelude.{◌≡◌, ◌∷◌, [], IfOk, OnOk};
 ghost use Rattle.bd_base.specs.declared.act.Act.TheVariants as acts;
 ghost use Rattle.bd_machine.specs.Completion.{piece_here, pieces_here};
-ghost use Rattle.bd_machine.specs.Requests.{is_new, pieces_closed, pieces_made};
-ghost use Rattle.bd_machine.specs.Same.{same_request};
-ghost use Rattle.bd_machine.specs.Step.{first_failing, guards_in, moved};
-ghost use Rattle.bd_machine.specs.View.{view};
-ghost use Rattle.bd_play.specs.Words.{after_act};
+ghost use Rattle.bd_machine.specs.Requests.{change_complete, change_refuse, pieces_closed, pieces_made};
+ghost use Rattle.bd_machine.specs.Same.{is_the, same_errno};
+ghost use Rattle.bd_machine.specs.Step.{moved};
+ghost use Rattle.bd_play.specs.Words.{change_of, changed, refused, seen};
 
-use crate::asked;
-use crate::completion::{is_shown_due, is_status_due, may_complete, piece_here, request_here};
 use crate::duplicate::Duplicate;
-use crate::equal::{same_errno, same_request};
-use crate::pieces::{extents, has_extents, may_cut, new_piece};
-use crate::registry::{own_handle, refusal_of};
+use crate::side::Side;
 use crate::tokens::put_in;
-use bd_base::{DevId, Errno, HandleId, Op, OutOfMemory, ReqId, Rows, Setup, Shown, Status};
+use bd_base::{DevId, Errno, HandleId, OutOfMemory, ReqId, Rows, Shown, Status};
+use bd_blocks::{copy_of_piece, extents, new_piece};
+use bd_changes::{accepted, remove_open};
 use bd_machine::guard::{
     ADMITTED, ALL_PIECES_BACK, FRESH_ID, LINE_ASKS, MAY_CUT, PIECE_COUNT, REFUSAL_DUE, SHOWN_DATA,
     STATUS_ALLOWED,
 };
-use bd_machine::{Decided, Extent, Id, Kept, Open, OpenRequest, Place, State, Tracked};
+use bd_machine::{Decided, Extent, Id, Kept, OpenRequest, Place, State, Tracked};
+use bd_rules::{
+    PieceId, Submission, asks_submission, has_extents, is_handle_on, is_new, is_shown_due,
+    is_status_due, may_complete, may_cut, piece_here, refusal_of, request_here, same_errno,
+};
 use std::alloc::Global;
 
 // ---- Accept
 
-// The id is new, and there is room for one more open request.
-fn is_new(state: &State, thread: u32, req: ReqId) -> bool
-    requires { thread < length state.now.parts }
-    ensures { result ≡ is_new thread (view state.now thread) req }
-{
-    let part = &state.parts.as_slice()[thread as usize];
-    req.thread == thread
-        && part.next_request <= req.seq
-        && part.requests.len() < 1024
-        && req.seq < u64::MAX
-}
-
 /// Why an Accept isn't allowed.
 pub fn refused_accept(
-    setup: &Setup,
-    state: &State,
-    thread: u32,
+    side: &Side,
     req: ReqId,
     dev: DevId,
     handle: HandleId,
-    op: Op,
-    lba: u64,
-    count: u64,
+    what: Submission,
 ) -> Option<u32>
-    requires { thread < length state.now.parts }
-    ensures { result ≡ first_failing (guards_in setup.now state.now thread (acts.Accept req dev handle op lba count)) }
+    ensures { result ≡ refused side.now (acts.Accept req dev handle what.op what.lba what.count) }
 {
-    let part = &state.parts.as_slice()[thread as usize];
-    if state.shut || !asked::asks_submission(setup, thread, part, Some(handle), op, lba, count) {
+    let shut = side.state.shut;
+    if !asks_submission(side, side.setup, side.thread, shut, Some(handle), what) {
         return Some(LINE_ASKS);
     }
-    let on_dev = match own_handle(state, thread, handle) {
-        Some(h) => h.dev.0 == dev.0,
-        None => false,
-    };
-    if refusal_of(setup, state, thread, Some(handle), op, lba, count).is_some() || !on_dev {
+    let is_refused = refusal_of(side, side.setup, Some(handle), what).is_some();
+    if is_refused || !is_handle_on(side, dev, handle) {
         return Some(ADMITTED);
     }
-    if is_new(state, thread, req) {
+    if is_new(side, side.thread, req) {
         None
     } else {
         Some(FRESH_ID)
     }
 }
 
-/// The state after a request was accepted.
+/// The state with what an Accept changes.
 pub fn accept(
     alloc: Global,
-    setup: &Setup,
-    state: &State,
-    thread: u32,
+    side: &Side,
     req: ReqId,
     dev: DevId,
     handle: HandleId,
-    op: Op,
-    lba: u64,
-    count: u64,
+    what: Submission,
 ) -> Result<State, OutOfMemory>
-    requires { thread < length state.now.parts }
-    ensures { IfOk result (λ s. s ≡ after_act setup.now state.now thread (acts.Accept req dev handle op lba count)) }
+    ensures { IfOk result (λ s. s ≡ changed side.now (change_of side.now (acts.Accept req dev handle what.op what.lba what.count))) }
 {
-    let Some(next_request) = req.seq.checked_add(1) else {
-        return Err(OutOfMemory);
-    };
-    let mut next = state.duplicate(alloc)?;
+    let mut next = side.state.duplicate(alloc)?;
     let kept = Kept::Request(OpenRequest {
         handle,
         dev,
-        op,
-        lba,
-        count,
+        op: what.op,
+        lba: what.lba,
+        count: what.count,
         pieces: None,
     });
-    let place = Place::At(thread);
+    let place = Place::At(side.thread);
     put_in(&mut next.tokens, Id::Request(req), Tracked { place, kept })?;
-    let part = next.parts.at_mut(thread as usize);
-    part.requests.push(Open {
-        id: req,
-        handle,
-        dev,
-        op,
-    })?;
-    part.decided = Some(Decided::Accepted(req));
-    part.next_request = next_request;
+    let part = next.parts.at_mut(side.thread as usize);
+    accepted(part, req, dev, handle, what)?;
     Ok(next)
 }
 
 // ---- Refuse
 
-/// Why a Refuse isn't allowed.
-pub fn refused_refuse(
-    setup: &Setup,
-    state: &State,
-    thread: u32,
-    handle: Option<HandleId>,
-    op: Op,
-    lba: u64,
-    count: u64,
-    errno: Errno,
-) -> Option<u32>
-    requires { thread < length state.now.parts }
-    ensures { result ≡ first_failing (guards_in setup.now state.now thread (acts.Refuse handle op lba count errno)) }
+fn is_errno(due: Option<Errno>, errno: Errno) -> bool
+    ensures { result ≡ is_the same_errno errno due }
 {
-    let part = &state.parts.as_slice()[thread as usize];
-    if state.shut || !asked::asks_submission(setup, thread, part, handle, op, lba, count) {
-        return Some(LINE_ASKS);
-    }
-    match refusal_of(setup, state, thread, handle, op, lba, count) {
-        Some(due) => {
-            if same_errno(errno, due) {
-                None
-            } else {
-                Some(REFUSAL_DUE)
-            }
-        }
-        None => Some(REFUSAL_DUE),
+    match due {
+        Some(d) => same_errno(errno, d),
+        None => false,
     }
 }
 
-/// The state after a submission was refused.
-pub fn refuse(
-    alloc: Global,
-    setup: &Setup,
-    state: &State,
-    thread: u32,
+/// Why a Refuse isn't allowed.
+pub fn refused_refuse(
+    side: &Side,
     handle: Option<HandleId>,
-    op: Op,
-    lba: u64,
-    count: u64,
+    what: Submission,
     errno: Errno,
-) -> Result<State, OutOfMemory>
-    requires { thread < length state.now.parts }
-    ensures { IfOk result (λ s. s ≡ after_act setup.now state.now thread (acts.Refuse handle op lba count errno)) }
+) -> Option<u32>
+    ensures { result ≡ refused side.now (acts.Refuse handle what.op what.lba what.count errno) }
 {
-    let mut next = state.duplicate(alloc)?;
-    next.parts.at_mut(thread as usize).decided = Some(Decided::Refused(errno));
+    if !asks_submission(side, side.setup, side.thread, side.state.shut, handle, what) {
+        return Some(LINE_ASKS);
+    }
+    if is_errno(refusal_of(side, side.setup, handle, what), errno) {
+        None
+    } else {
+        Some(REFUSAL_DUE)
+    }
+}
+
+/// The state with what a Refuse changes.
+pub fn refuse(alloc: Global, side: &Side, errno: Errno) -> Result<State, OutOfMemory>
+    ensures { IfOk result (λ s. s ≡ changed side.now (change_refuse (seen side.now) errno)) }
+{
+    let mut next = side.state.duplicate(alloc)?;
+    next.parts.at_mut(side.thread as usize).decided = Some(Decided::Refused(errno));
     Ok(next)
 }
 
@@ -169,20 +122,16 @@ pub fn refuse(
 /// Why a Cut isn't allowed.
 pub fn refused_cut(
     alloc: Global,
-    setup: &Setup,
-    state: &State,
-    thread: u32,
+    side: &Side,
     req: ReqId,
     n: u32,
 ) -> Result<Option<u32>, OutOfMemory>
-    requires { thread < length state.now.parts }
-    ensures { IfOk result (λ r. r ≡ first_failing (guards_in setup.now state.now thread (acts.Cut req n))) }
+    ensures { IfOk result (λ r. r ≡ refused side.now (acts.Cut req n)) }
 {
-    let here = request_here(state, thread, req);
-    if !may_cut(thread, req, here) {
+    if !may_cut(side, side.thread, req) {
         return Ok(Some(MAY_CUT));
     }
-    if has_extents(alloc, setup, n, here)? {
+    if has_extents(alloc, side, side.setup, req, n)? {
         Ok(None)
     } else {
         Ok(Some(PIECE_COUNT))
@@ -192,18 +141,17 @@ pub fn refused_cut(
 // The pieces of these extents, numbered from 0, come to the thread.
 fn make_pieces(
     tokens: &mut Rows<(Id, Tracked)>,
-    setup: &Setup,
-    thread: u32,
+    side: &Side,
     req: ReqId,
     r: OpenRequest,
     extents: &[Extent],
 ) -> Result<(), OutOfMemory>
-    ensures { OnOk result (tokens.new ≡ moved thread (pieces_made setup.now req r 0 extents.now) tokens.old) }
+    ensures { OnOk result (tokens.new ≡ moved side.now.thread (pieces_made side.now.setup.now req r 0 extents.now) tokens.old) }
 {
     let mut k: u32 = 0;
     for extent in extents {
-        let kept = Kept::Piece(new_piece(setup, r, k, *extent));
-        let place = Place::At(thread);
+        let kept = Kept::Piece(new_piece(side.setup, r, k, *extent));
+        let place = Place::At(side.thread);
         put_in(tokens, Id::Piece(req, k), Tracked { place, kept })?;
         let Some(more) = k.checked_add(1) else {
             return Err(OutOfMemory);
@@ -213,23 +161,15 @@ fn make_pieces(
     Ok(())
 }
 
-/// The state after a request was cut.
-pub fn cut(
-    alloc: Global,
-    setup: &Setup,
-    state: &State,
-    thread: u32,
-    req: ReqId,
-    n: u32,
-) -> Result<State, OutOfMemory>
-    requires { thread < length state.now.parts }
-    ensures { IfOk result (λ s. s ≡ after_act setup.now state.now thread (acts.Cut req n)) }
+/// The state with what a Cut changes.
+pub fn cut(alloc: Global, side: &Side, req: ReqId, n: u32) -> Result<State, OutOfMemory>
+    ensures { IfOk result (λ s. s ≡ changed side.now (change_of side.now (acts.Cut req n))) }
 {
-    let mut next = state.duplicate(alloc)?;
-    let Some(r) = request_here(state, thread, req) else {
+    let mut next = side.state.duplicate(alloc)?;
+    let Some(r) = request_here(side, req) else {
         return Ok(next);
     };
-    let found = extents(alloc, setup, r.dev, r.lba, r.count)?;
+    let found = extents(alloc, side.setup, r.dev, r.lba, r.count)?;
     let kept = Kept::Request(OpenRequest {
         handle: r.handle,
         dev: r.dev,
@@ -238,9 +178,9 @@ pub fn cut(
         count: r.count,
         pieces: Some(n),
     });
-    let place = Place::At(thread);
+    let place = Place::At(side.thread);
     put_in(&mut next.tokens, Id::Request(req), Tracked { place, kept })?;
-    make_pieces(&mut next.tokens, setup, thread, req, r, found.as_slice())?;
+    make_pieces(&mut next.tokens, side, req, r, found.as_slice())?;
     Ok(next)
 }
 
@@ -249,23 +189,20 @@ pub fn cut(
 /// Why a Complete isn't allowed.
 pub fn refused_complete(
     alloc: Global,
-    setup: &Setup,
-    state: &State,
-    thread: u32,
+    side: &Side,
     req: ReqId,
     status: Status,
     shown: &Option<Shown>,
 ) -> Result<Option<u32>, OutOfMemory>
-    requires { thread < length state.now.parts }
-    ensures { IfOk result (λ r. r ≡ first_failing (guards_in setup.now state.now thread (acts.Complete req status shown.now))) }
+    ensures { IfOk result (λ r. r ≡ refused side.now (acts.Complete req status shown.now)) }
 {
-    if !may_complete(state, thread, req) {
+    if !may_complete(side, side.thread, req) {
         return Ok(Some(ALL_PIECES_BACK));
     }
-    if !is_status_due(state, thread, req, status) {
+    if !is_status_due(side, req, status) {
         return Ok(Some(STATUS_ALLOWED));
     }
-    if is_shown_due(alloc, state, thread, req, status, shown)? {
+    if is_shown_due(alloc, side, req, status, shown)? {
         Ok(None)
     } else {
         Ok(Some(SHOWN_DATA))
@@ -274,79 +211,50 @@ pub fn refused_complete(
 
 // A piece that is on the thread ends.
 fn close_piece(
-    alloc: Global,
     tokens: &mut Rows<(Id, Tracked)>,
-    state: &State,
-    thread: u32,
-    req: ReqId,
-    k: u32,
+    side: &Side,
+    id: PieceId,
 ) -> Result<(), OutOfMemory>
-    ensures { OnOk result (tokens.new ≡ moved thread (pieces_closed req k (piece_here (view state.now thread) req k ∷ [])) tokens.old) }
+    ensures { OnOk result (tokens.new ≡ moved side.now.thread (pieces_closed id.req id.k (piece_here (seen side.now) id.req id.k ∷ [])) tokens.old) }
 {
-    if let Some(p) = piece_here(state, thread, req, k) {
-        let piece = p.duplicate(alloc)?;
+    if let Some(p) = piece_here(side, id) {
         let place = Place::Nowhere;
-        let kept = Kept::Piece(piece);
-        put_in(tokens, Id::Piece(req, k), Tracked { place, kept })?;
+        let kept = Kept::Piece(copy_of_piece(p)?);
+        put_in(tokens, Id::Piece(id.req, id.k), Tracked { place, kept })?;
     }
     Ok(())
 }
 
 // The first n pieces of a request, as far as they are on the thread, end.
-#[tactic(auto, using(crate::proofs::Left::left_from, crate::proofs::Closing::closed_next))]
+#[tactic(auto, using(bd_changes::proofs::Left::left_from, crate::proofs::Closing::closed_next))]
 fn close_pieces(
-    alloc: Global,
     tokens: &mut Rows<(Id, Tracked)>,
-    state: &State,
-    thread: u32,
+    side: &Side,
     req: ReqId,
     n: u32,
 ) -> Result<(), OutOfMemory>
-    ensures { OnOk result (tokens.new ≡ moved thread (pieces_closed req 0 (pieces_here (view state.now thread) req n)) tokens.old) }
+    ensures { OnOk result (tokens.new ≡ moved side.now.thread (pieces_closed req 0 (pieces_here (seen side.now) req n)) tokens.old) }
 {
     for k in 0..n {
-        close_piece(alloc, tokens, state, thread, req, k)?;
+        close_piece(tokens, side, PieceId { req, k })?;
     }
     Ok(())
 }
 
-// The open requests without one.
-fn without(alloc: Global, requests: &[Open], req: ReqId) -> Result<Rows<Open>, OutOfMemory>
-    ensures { IfOk result (λ rs. rs ≡ filter (λ r. not (same_request r.id req)) requests.now) }
+/// The state with what a Complete changes.
+pub fn complete(alloc: Global, side: &Side, req: ReqId) -> Result<State, OutOfMemory>
+    ensures { IfOk result (λ s. s ≡ changed side.now (change_complete (seen side.now) req)) }
 {
-    let mut left = Rows::new(alloc);
-    for r in requests {
-        if !same_request(r.id, req) {
-            left.push(*r)?;
-        }
-    }
-    Ok(left)
-}
-
-/// The state after a request completed.
-pub fn complete(
-    alloc: Global,
-    setup: &Setup,
-    state: &State,
-    thread: u32,
-    req: ReqId,
-    status: Status,
-    shown: &Option<Shown>,
-) -> Result<State, OutOfMemory>
-    requires { thread < length state.now.parts }
-    ensures { IfOk result (λ s. s ≡ after_act setup.now state.now thread (acts.Complete req status shown.now)) }
-{
-    let mut next = state.duplicate(alloc)?;
-    let part = &state.parts.as_slice()[thread as usize];
-    let left = without(alloc, part.requests.as_slice(), req)?;
-    next.parts.at_mut(thread as usize).requests = left;
-    let Some(r) = request_here(state, thread, req) else {
+    let mut next = side.state.duplicate(alloc)?;
+    let part = next.parts.at_mut(side.thread as usize);
+    remove_open(alloc, &mut part.requests, req);
+    let Some(r) = request_here(side, req) else {
         return Ok(next);
     };
     let place = Place::Nowhere;
     let kept = Kept::Request(r);
     put_in(&mut next.tokens, Id::Request(req), Tracked { place, kept })?;
     let n = r.pieces.unwrap_or(0);
-    close_pieces(alloc, &mut next.tokens, state, thread, req, n)?;
+    close_pieces(&mut next.tokens, side, req, n)?;
     Ok(next)
 }

@@ -1,19 +1,20 @@
 //! Which entry is allowed, and the state after it.
-ghost use Rattle.std.specs.Prelude.{◌≡◌, ◌<◌, ◌++◌, true, length, IfOk};
-ghost use Rattle.bd_base.specs.declared.act.Act.TheVariants as acts;
+ghost use Rattle.std.specs.Prelude.{◌≡◌, IfOk, None, OnOk, true};
 ghost use Rattle.bd_machine.specs.Guards.{is_built, is_built_event, is_built_token};
-ghost use Rattle.bd_machine.specs.Messages.{brings};
-ghost use Rattle.bd_machine.specs.Same.{same_id};
-ghost use Rattle.bd_machine.specs.Table.{look_up};
-ghost use Rattle.bd_machine.specs.View.{id_of, message_of};
-ghost use Rattle.bd_machine.specs.Step.{after, first_failing, guards_in, guards_shutdown, is_in_order, refusal};
-ghost use Rattle.bd_play.specs.Words.{after_act};
+ghost use Rattle.bd_machine.specs.Registry.{registry_after};
+ghost use Rattle.bd_machine.specs.Step.{after, is_in_order, is_shutdown, refusal};
+ghost use Rattle.bd_machine.specs.View.{asked};
+ghost use Rattle.bd_play.specs.Words.{change_of, changed, is_of_request, refused, refused_with_shutdown};
 
-use crate::registry::has_range;
+use crate::duplicate::Duplicate;
+use crate::messages::Message;
+use crate::side::Side;
 use crate::{events, homes, messages, requests, scripts};
-use bd_base::{Act, Entry, OutOfMemory, RegEvent, Setup, Token};
-use bd_machine::State;
+use bd_base::{Act, Entry, Op, OutOfMemory, RegEvent, Setup, Token};
+use bd_changes::register;
 use bd_machine::guard::{IN_ORDER, UNBUILT};
+use bd_machine::{Registry, State};
+use bd_rules::{PieceId, Submission, has_range};
 use std::alloc::Global;
 
 fn is_built_token(what: &Token) -> bool
@@ -57,29 +58,28 @@ fn is_in_order(state: &State, entry: &Entry) -> bool
             || (state.stamp == entry.stamp && state.thread < entry.thread))
 }
 
-// Why an act isn't allowed on a thread.
-fn refused_act(
-    alloc: Global,
-    setup: &Setup,
-    state: &State,
-    thread: u32,
-    act: &Act,
-) -> Result<Option<u32>, OutOfMemory>
-    requires { thread < length state.now.parts }
-    ensures { IfOk result (λ r. r ≡ first_failing (guards_shutdown setup.now state.now thread act.now ++ guards_in setup.now state.now thread act.now)) }
+// ---- the fields of an act that travel together
+
+fn message(peer: u32, number: u128) -> Message
+    ensures { result ≡ record { peer = peer; number = number } }
+{
+    Message { peer, number }
+}
+
+fn submission(op: Op, lba: u64, count: u64) -> Submission
+    ensures { result ≡ record { op = op; lba = lba; count = count } }
+{
+    Submission { op, lba, count }
+}
+
+// ---- why an act isn't allowed
+
+// Why an act on a request isn't allowed.
+fn refused_request(alloc: Global, side: &Side, act: &Act) -> Result<Option<u32>, OutOfMemory>
+    requires { is_of_request act.now ≡ true }
+    ensures { IfOk result (λ r. r ≡ refused side.now act.now) }
 {
     match act {
-        Act::Put { to, number, what } => {
-            Ok(messages::refused_put(setup, state, thread, *to, *number, what))
-        }
-        Act::Took {
-            source,
-            number,
-            what,
-        } => Ok(messages::refused_took(setup, state, thread, *source, *number, what)),
-        Act::Reg { event, answer } => {
-            Ok(events::refused_reg(setup, state, thread, event, answer))
-        }
         Act::Accept {
             req,
             dev,
@@ -87,32 +87,53 @@ fn refused_act(
             op,
             lba,
             count,
-        } => Ok(requests::refused_accept(
-            setup, state, thread, *req, *dev, *handle, *op, *lba, *count,
-        )),
+        } => {
+            let what = submission(*op, *lba, *count);
+            Ok(requests::refused_accept(side, *req, *dev, *handle, what))
+        }
         Act::Refuse {
             handle,
             op,
             lba,
             count,
             errno,
-        } => Ok(requests::refused_refuse(setup, state, thread, *handle, *op, *lba, *count, *errno)),
-        Act::Cut { req, pieces } => {
-            requests::refused_cut(alloc, setup, state, thread, *req, *pieces)
+        } => {
+            let what = submission(*op, *lba, *count);
+            Ok(requests::refused_refuse(side, *handle, what, *errno))
         }
-        Act::Apply { req, k, dev, end } => Ok(homes::refused_apply(
-            setup, state, thread, *req, *k, *dev, *end,
-        )),
+        Act::Cut { req, pieces } => requests::refused_cut(alloc, side, *req, *pieces),
         Act::Complete { req, status, shown } => {
-            requests::refused_complete(alloc, setup, state, thread, *req, *status, shown)
+            requests::refused_complete(alloc, side, *req, *status, shown)
         }
-        Act::Destruct { dev, digest } => {
-            homes::refused_destruct(alloc, setup, state, thread, *dev, digest)
+        _ => unreachable!(),
+    }
+}
+
+// Why an act isn't allowed: its first guard that fails, those of a Shutdown among them.
+fn refused_act(alloc: Global, side: &Side, act: &Act) -> Result<Option<u32>, OutOfMemory>
+    ensures { IfOk result (λ r. r ≡ refused_with_shutdown side.now act.now) }
+{
+    match act {
+        Act::Put { to, number, what } => {
+            Ok(messages::refused_put(side, message(*to, *number), what))
         }
-        Act::Script { line, outcome } => {
-            Ok(scripts::refused_script(setup, state, thread, *line, *outcome))
+        Act::Took {
+            source,
+            number,
+            what,
+        } => Ok(messages::refused_took(side, message(*source, *number), what)),
+        Act::Reg { event, answer } => events::refused_reg(side, event, answer),
+        Act::Accept { .. } => refused_request(alloc, side, act),
+        Act::Refuse { .. } => refused_request(alloc, side, act),
+        Act::Cut { .. } => refused_request(alloc, side, act),
+        Act::Complete { .. } => refused_request(alloc, side, act),
+        Act::Apply { req, k, dev, end } => {
+            let piece = PieceId { req: *req, k: *k };
+            Ok(homes::refused_apply(side, piece, *dev, *end))
         }
-        Act::Shutdown => scripts::refused_shutdown(setup, state, thread),
+        Act::Destruct { dev, digest } => Ok(homes::refused_destruct(side, *dev, digest)),
+        Act::Script { line, outcome } => scripts::refused_script(side, *line, *outcome),
+        Act::Shutdown => scripts::refused_shutdown(side),
         _ => Ok(None),
     }
 }
@@ -132,80 +153,23 @@ pub fn refusal(
     if !is_in_order(state, entry) {
         return Ok(Some(IN_ORDER));
     }
-    refused_act(alloc, setup, state, entry.thread, &entry.act)
+    let thread = entry.thread;
+    let side = Side {
+        setup,
+        state,
+        thread,
+    };
+    refused_act(alloc, &side, &entry.act)
 }
 
-fn put(
-    alloc: Global,
-    setup: &Setup,
-    state: &State,
-    thread: u32,
-    to: u32,
-    number: u128,
-    what: &Token,
-) -> Result<State, OutOfMemory>
-    requires inside { thread < length state.now.parts }
-    requires built { is_built_token what.now ≡ true }
-    ensures { IfOk result (λ s. s ≡ after_act setup.now state.now thread (acts.Put to number what.now)) }
-{
-    match what {
-        Token::Piece(req, k) => {
-            messages::put_piece(alloc, setup, state, thread, to, number, *req, *k)
-        }
-        Token::Mark(mark) => messages::put_mark(alloc, setup, state, thread, to, number, mark),
-        _ => unreachable!(),
-    }
-}
+// ---- what an act changes
 
-fn take(
-    alloc: Global,
-    setup: &Setup,
-    state: &State,
-    thread: u32,
-    source: u32,
-    number: u128,
-    what: &Token,
-) -> Result<State, OutOfMemory>
-    requires inside { thread < length state.now.parts }
-    requires built { is_built_token what.now ≡ true }
-    requires brought { brings what.now (message_of source thread number (look_up same_id state.now.tokens (id_of source thread number what.now))) ≡ true }
-    ensures { IfOk result (λ s. s ≡ after_act setup.now state.now thread (acts.Took source number what.now)) }
-{
-    match what {
-        Token::Piece(req, k) => {
-            messages::take_piece(alloc, setup, state, thread, source, number, *req, *k)
-        }
-        Token::Mark(mark) => {
-            messages::take_mark(alloc, setup, state, thread, source, number, mark)
-        }
-        _ => unreachable!(),
-    }
-}
-
-// The state with what an allowed act changes.
-#[tactic(auto, using(crate::proofs::Brought::brought))]
-fn act_on(
-    alloc: Global,
-    setup: &Setup,
-    state: &State,
-    thread: u32,
-    act: &Act,
-) -> Result<State, OutOfMemory>
-    requires inside { thread < length state.now.parts }
-    requires built { is_built act.now ≡ true }
-    requires allowed { first_failing (guards_in setup.now state.now thread act.now) ≡ None }
-    ensures { IfOk result (λ s. s ≡ after_act setup.now state.now thread act.now) }
+// The state with what an act on a request changes of its thread's part and of the tokens.
+fn changed_by_request(alloc: Global, side: &Side, act: &Act) -> Result<State, OutOfMemory>
+    requires { is_of_request act.now ≡ true }
+    ensures { IfOk result (λ s. s ≡ changed side.now (change_of side.now act.now)) }
 {
     match act {
-        Act::Put { to, number, what } => put(alloc, setup, state, thread, *to, *number, what),
-        Act::Took {
-            source,
-            number,
-            what,
-        } => take(alloc, setup, state, thread, *source, *number, what),
-        Act::Reg { event, answer } => {
-            events::register(alloc, setup, state, thread, event, answer)
-        }
         Act::Accept {
             req,
             dev,
@@ -213,38 +177,67 @@ fn act_on(
             op,
             lba,
             count,
-        } => requests::accept(
-            alloc, setup, state, thread, *req, *dev, *handle, *op, *lba, *count,
-        ),
-        Act::Refuse {
-            handle,
-            op,
-            lba,
-            count,
-            errno,
-        } => requests::refuse(
-            alloc, setup, state, thread, *handle, *op, *lba, *count, *errno,
-        ),
-        Act::Cut { req, pieces } => requests::cut(alloc, setup, state, thread, *req, *pieces),
-        Act::Apply { req, k, dev, end } => {
-            homes::apply(alloc, setup, state, thread, *req, *k, *dev, *end)
+        } => {
+            let what = submission(*op, *lba, *count);
+            requests::accept(alloc, side, *req, *dev, *handle, what)
         }
-        Act::Complete { req, status, shown } => {
-            requests::complete(alloc, setup, state, thread, *req, *status, shown)
-        }
-        Act::Destruct { dev, digest } => {
-            homes::destruct(alloc, setup, state, thread, *dev, digest)
-        }
-        Act::Script { line, outcome } => {
-            scripts::script(alloc, setup, state, thread, *line, *outcome)
-        }
-        Act::Shutdown => scripts::shutdown(alloc, setup, state, thread),
+        Act::Refuse { errno, .. } => requests::refuse(alloc, side, *errno),
+        Act::Cut { req, pieces } => requests::cut(alloc, side, *req, *pieces),
+        Act::Complete { req, .. } => requests::complete(alloc, side, *req),
         _ => unreachable!(),
     }
 }
 
+// The state with what an act changes of its thread's part and of the tokens: nothing for a Shutdown, and
+// for an act that isn't built.
+fn changed_by(alloc: Global, side: &Side, act: &Act) -> Result<State, OutOfMemory>
+    ensures { IfOk result (λ s. s ≡ changed side.now (change_of side.now act.now)) }
+{
+    match act {
+        Act::Put { to, number, what } => { messages::put(alloc, side, message(*to, *number), what) }
+        Act::Took {
+            source,
+            number,
+            what,
+        } => messages::take(alloc, side, message(*source, *number), what),
+        Act::Reg { answer, .. } => events::decide(alloc, side, answer),
+        Act::Accept { .. } => changed_by_request(alloc, side, act),
+        Act::Refuse { .. } => changed_by_request(alloc, side, act),
+        Act::Cut { .. } => changed_by_request(alloc, side, act),
+        Act::Complete { .. } => changed_by_request(alloc, side, act),
+        Act::Apply { req, k, dev, end } => {
+            let piece = PieceId { req: *req, k: *k };
+            homes::apply(alloc, side, piece, *dev, *end)
+        }
+        Act::Destruct { dev, .. } => homes::destruct(alloc, side, *dev),
+        Act::Script { .. } => scripts::script(alloc, side),
+        _ => side.state.duplicate(alloc),
+    }
+}
+
+// The registry after what an act asked of it.
+fn register_asked(
+    alloc: Global,
+    registry: &mut Registry,
+    thread: u32,
+    act: &Act,
+) -> Result<(), OutOfMemory>
+    ensures { OnOk result (registry.new ≡ registry_after registry.old thread (asked act.now)) }
+{
+    match act {
+        Act::Reg { event, answer } => register(alloc, registry, thread, event, answer),
+        _ => Ok(()),
+    }
+}
+
+fn is_shutdown(act: &Act) -> bool
+    ensures { result ≡ is_shutdown act.now }
+{
+    matches!(act, Act::Shutdown)
+}
+
 /// The state after an allowed entry.
-#[tactic(auto, unfolding(bd_machine::specs::Step::after))]
+#[tactic(auto, unfolding(bd_machine::specs::Step::after), using(bd_machine::proofs::Steps::allowed_thread))]
 pub fn after(
     alloc: Global,
     setup: &Setup,
@@ -254,8 +247,16 @@ pub fn after(
     requires { refusal setup.now state.now entry.now ≡ None }
     ensures { IfOk result (λ s. s ≡ after setup.now state.now entry.now) }
 {
-    let mut next = act_on(alloc, setup, state, entry.thread, &entry.act)?;
+    let thread = entry.thread;
+    let side = Side {
+        setup,
+        state,
+        thread,
+    };
+    let mut next = changed_by(alloc, &side, &entry.act)?;
+    register_asked(alloc, &mut next.registry, thread, &entry.act)?;
+    next.shut = state.shut || is_shutdown(&entry.act);
     next.stamp = entry.stamp;
-    next.thread = entry.thread;
+    next.thread = thread;
     Ok(next)
 }

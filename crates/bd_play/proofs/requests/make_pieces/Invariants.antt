@@ -4,4 +4,4 @@ use Rattle.bd_machine.specs.Step.{moved}
 use Rattle.bd_play.proofs.requests.make_pieces.Given as goal
 
 abbrev pub invariant-loop-extent : goal.invariant-loop-extent
-invariant-loop-extent l = moved l.thread (pieces_made l.setup l.req l.r l.k (drop l.extent-index l.extents)) l.tokens ≡ moved l.thread (pieces_made l.setup l.req l.r 0 l.extents) l.fn.tokens
+invariant-loop-extent l = moved l.side.thread (pieces_made l.side.setup.now l.req l.r l.k (drop l.extent-index l.extents)) l.tokens ≡ moved l.side.thread (pieces_made l.side.setup.now l.req l.r 0 l.extents) l.fn.tokens

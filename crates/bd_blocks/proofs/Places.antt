@@ -1,0 +1,105 @@
+-- The first item of a list that passes a test, by its place: found, and changed.
+use Rattle.std.proofs.Common.{◌≡◌, ℕ, suc, ◌+◌, ◌<◌, ◌≤◌, Bool, true, false, cond, not, List, [], ◌∷◌, length, get_or, set, nat_lt, ltb-true, ltb-false, Some, None, refl, sym, ◌∙◌, ap, subst, arith}
+use Rattle.std.specs.List.{find, position, position_or_len}
+use Rattle.bd_machine.specs.Table.{change_first}
+
+module _ {X : Type 0} (is : X → Bool) where
+  -- how many items stand before the first that passes
+  abbrev before : List X → ℕ
+  before [] = 0
+  before (x ∷ xs) = cond (not (is x)) (suc (before xs)) 0
+
+  before_is : (xs : List X) → before xs ≡ position_or_len is xs
+  before_is [] = refl
+  before_is (x ∷ xs) = go (not (is x)) (before_is xs)
+    where
+      more : (a b : ℕ) → a ≡ b → suc a ≡ 1 + b
+      more a b e = omega arith
+
+      go : (b : Bool) → before xs ≡ position_or_len is xs → cond b (suc (before xs)) 0 ≡ cond b (1 + position_or_len is xs) 0
+      go true ih = more (before xs) (position_or_len is xs) ih
+      go false ih = refl
+
+  low : (a b : ℕ) → suc a < suc b → a < b
+  low a b p = omega arith
+
+  low_le : (a b : ℕ) → suc a ≤ suc b → a ≤ b
+  low_le a b p = omega arith
+
+  none : (a : ℕ) → suc a ≤ 0 → ⊥
+  none a p = omega arith
+
+  -- a place that is given is that of the first that passes
+  placed : (xs : List X) (i : ℕ) → position is xs ≡ Some i → (before xs ≡ i) × (before xs < length xs)
+  placed xs i e = go (nat_lt (position_or_len is xs) (length xs)) refl e
+    where
+      some_same : Some (position_or_len is xs) ≡ Some i → position_or_len is xs ≡ i
+      some_same e = cc
+
+      go : (b : Bool) → nat_lt (position_or_len is xs) (length xs) ≡ b → cond b (Some (position_or_len is xs)) None ≡ Some i → (before xs ≡ i) × (before xs < length xs)
+      go true q e = (before_is xs ∙ some_same e, subst (λ (n : ℕ). n < length xs) (sym (before_is xs)) (ltb-true (position_or_len is xs) (length xs) q))
+      go false q e = cc
+
+  found_before : (xs : List X) (x : X) → before xs < length xs → x ≡ get_or xs (before xs) x → find is xs ≡ Some x
+  found_before [] x h q = absurd (omega arith)
+  found_before (y ∷ ys) x h q = go (is y) h q (found_before ys x)
+    where
+      go : (b : Bool) → cond (not b) (suc (before ys)) 0 < suc (length ys) → x ≡ get_or (y ∷ ys) (cond (not b) (suc (before ys)) 0) x
+          → (before ys < length ys → x ≡ get_or ys (before ys) x → find is ys ≡ Some x)
+          → cond b (Some y) (find is ys) ≡ Some x
+      go true h q ih = ap Some (sym q)
+      go false h q ih = ih (low (before ys) (length ys) h) q
+
+  -- what stands at the place is the first that passes
+  pub found_at : (xs : List X) (i : ℕ) (x : X) → position is xs ≡ Some i → x ≡ get_or xs i x → find is xs ≡ Some x
+  found_at xs i x e q =
+      let p = placed xs i e in
+      found_before xs x p.1 (q ∙ ap (λ (n : ℕ). get_or xs n x) (sym p.0))
+
+  missed_before : (xs : List X) → length xs ≤ before xs → find is xs ≡ None
+  missed_before [] h = refl
+  missed_before (y ∷ ys) h = go (is y) h (missed_before ys)
+    where
+      go : (b : Bool) → suc (length ys) ≤ cond (not b) (suc (before ys)) 0 → (length ys ≤ before ys → find is ys ≡ None) → cond b (Some y) (find is ys) ≡ None
+      go true l ih = absurd (none (length ys) l)
+      go false l ih = ih (low_le (length ys) (before ys) l)
+
+  -- where there is no place none passes
+  pub missed : (xs : List X) → position is xs ≡ None → find is xs ≡ None
+  missed xs e = go (nat_lt (position_or_len is xs) (length xs)) refl e
+    where
+      go : (b : Bool) → nat_lt (position_or_len is xs) (length xs) ≡ b → cond b (Some (position_or_len is xs)) None ≡ None → find is xs ≡ None
+      go true q e = cc
+      go false q e = missed_before xs (subst (λ (n : ℕ). length xs ≤ n) (sym (before_is xs)) (ltb-false (position_or_len is xs) (length xs) q))
+
+  set_before : (f : X → X) (xs : List X) (y d : X) → before xs < length xs → y ≡ f (get_or xs (before xs) d) → set xs (before xs) y ≡ change_first is f xs
+  set_before f [] y d h q = absurd (omega arith)
+  set_before f (x ∷ xs) y d h q = go (is x) h q (set_before f xs y d)
+    where
+      go : (b : Bool) → cond (not b) (suc (before xs)) 0 < suc (length xs) → y ≡ f (get_or (x ∷ xs) (cond (not b) (suc (before xs)) 0) d)
+          → (before xs < length xs → y ≡ f (get_or xs (before xs) d) → set xs (before xs) y ≡ change_first is f xs)
+          → set (x ∷ xs) (cond (not b) (suc (before xs)) 0) y ≡ cond b (f x ∷ xs) (x ∷ change_first is f xs)
+      go true h q ih = ap (λ (z : X). let w : List X = z ∷ xs in w) q
+      go false h q ih = ap (λ zs. x ∷ zs) (ih (low (before xs) (length xs) h) q)
+
+  -- a change at the place is a change of the first that passes
+  pub set_found : (f : X → X) (xs : List X) (i : ℕ) (y d : X) → position is xs ≡ Some i → y ≡ f (get_or xs i d) → set xs i y ≡ change_first is f xs
+  set_found f xs i y d e q =
+      let p = placed xs i e in
+      ap (λ (n : ℕ). set xs n y) (sym p.0) ∙ set_before f xs y d p.1 (q ∙ ap (λ (n : ℕ). f (get_or xs n d)) (sym p.0))
+
+  kept_before : (f : X → X) (xs : List X) → length xs ≤ before xs → xs ≡ change_first is f xs
+  kept_before f [] h = refl
+  kept_before f (x ∷ xs) h = go (is x) h (kept_before f xs)
+    where
+      go : (b : Bool) → suc (length xs) ≤ cond (not b) (suc (before xs)) 0 → (length xs ≤ before xs → xs ≡ change_first is f xs) → x ∷ xs ≡ cond b (f x ∷ xs) (x ∷ change_first is f xs)
+      go true l ih = absurd (none (length xs) l)
+      go false l ih = ap (λ zs. x ∷ zs) (ih (low_le (length xs) (before xs) l))
+
+  -- where there is no place none is changed
+  pub not_found : (f : X → X) (xs : List X) → position is xs ≡ None → xs ≡ change_first is f xs
+  not_found f xs e = go (nat_lt (position_or_len is xs) (length xs)) refl e
+    where
+      go : (b : Bool) → nat_lt (position_or_len is xs) (length xs) ≡ b → cond b (Some (position_or_len is xs)) None ≡ None → xs ≡ change_first is f xs
+      go true q e = cc
+      go false q e = kept_before f xs (subst (λ (n : ℕ). length xs ≤ n) (sym (before_is xs)) (ltb-false (position_or_len is xs) (length xs) q))

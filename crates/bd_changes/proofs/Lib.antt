@@ -1,0 +1,4 @@
+pub mod Firsts
+pub mod Left
+pub mod Moving
+pub mod Written

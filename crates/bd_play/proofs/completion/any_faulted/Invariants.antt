@@ -1,8 +1,0 @@
-use Rattle.std.proofs.Common.{◌≡◌, ◌-◌, map}
-use Rattle.std.specs.List.{list_any, range_with_len}
-use Rattle.bd_machine.specs.Completion.{is_faulted, piece_here, pieces_here}
-use Rattle.bd_machine.specs.View.{view}
-use Rattle.bd_play.proofs.completion.any_faulted.Given as goal
-
-abbrev pub invariant-loop-k : goal.invariant-loop-k
-invariant-loop-k l = list_any is_faulted (map (piece_here (view l.state l.thread) l.req) (range_with_len l.k (l.n - l.k))) ≡ list_any is_faulted (pieces_here (view l.state l.thread) l.req l.n)
