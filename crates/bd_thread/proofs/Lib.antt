@@ -1,7 +1,5 @@
 pub mod Completing
-pub mod Data
 pub mod Cutting
-pub mod Extents
 pub mod Submissions
 pub mod Tickets
 pub mod Put

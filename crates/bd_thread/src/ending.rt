@@ -8,10 +8,10 @@ ghost use Rattle.bd_thread.specs.Waits.{Idles, NoDestruct, NoHandle, NothingLeft
 
 use crate::lines::release;
 use crate::links::{Links, add};
-use crate::rules::{handle_of, open_on};
 use crate::thread::Thread;
 use bd_base::{Act, Answer, DevId, HandleId, OutOfMemory, RegEvent};
 use bd_machine::{Handle, Part};
+use bd_rules::{handle_of, open_on};
 
 // The first handle of the thread.
 fn first_own(handles: &[Handle], me: u32) -> Option<HandleId>

@@ -10,14 +10,13 @@ ghost use Rattle.bd_thread.specs.Requests.{KeepsTickets};
 ghost use Rattle.bd_thread.specs.Seen.{longer};
 
 use crate::links::{Links, add};
-use crate::rules::{
-    bound_to, device_named, handle_of, next_line, open_on, outcome_of, undecided_job,
-};
 use crate::thread::Thread;
 use bd_base::{
     Act, Answer, DevId, Errno, HandleId, Job, Name, OutOfMemory, RegEvent, Rows, Setup, ThreadId,
 };
+use bd_blocks::device_named;
 use bd_machine::{Binding, Decided, Due, Handle, News, Part, Registry};
+use bd_rules::{bound_to, handle_of, next_line, open_on, outcome_of, undecided_job};
 use std::alloc::Global;
 use std::mem::replace;
 
@@ -106,14 +105,11 @@ impl<'a> Thread<'a> {
         if links.shut {
             return Ok(false);
         }
-        if u32::try_from(self.part.requests.len()).is_err() {
-            return Err(OutOfMemory);
-        }
         let setup = self.setup;
         let Some(line) = next_line(setup, self.me, &self.part) else {
             return Ok(false);
         };
-        let Some(outcome) = outcome_of(&self.part, &line.job) else {
+        let Some(outcome) = outcome_of(&self.part, &line.job)? else {
             return Ok(false);
         };
         go_on(self.alloc, &mut self.part, setup, &line.job)?;

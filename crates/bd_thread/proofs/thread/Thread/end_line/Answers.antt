@@ -12,10 +12,10 @@ pub returns-clause-acted : goal.returns-clause-acted
 returns-clause-acted c =
     let t = c.args.self.now in
     let links = c.args.links.now in
-    let act = acts.Script c.in-Some.line.now.number c.in-Some-outcome_of.outcome in
+    let act = acts.Script c.in-Some.line.now.number c.in-Some-2.outcome in
     let queues = queues_of links.queues.items in
-    let stepped = line_steps t.setup.now t.me t.part (here_in t.held.items) links.registry (length links.entries) queues c.in-Some.line.now.number c.in-Some.line.now.job c.in-Some-outcome_of.outcome
-    (sym c.next_line.ensures ∙ ap option_copied c.in-Some.is) (sym c.outcome_of.ensures ∙ c.in-Some-outcome_of.is) links.shut c.if-links.false c.go_on.new.part c.in_ok-go_on.ensures in
+    let stepped = line_steps t.setup.now t.me t.part (here_in t.held.items) links.registry (length links.entries) queues c.in-Some.line.now.number c.in-Some.line.now.job c.in-Some-2.outcome
+    (sym c.next_line.ensures ∙ ap option_copied c.in-Some.is) (sym c.in_ok-outcome.ensures ∙ c.in-Some-2.is) links.shut c.if-links.false c.go_on.new.part c.in_ok-go_on.ensures in
     acted_step t links _ _ act refl refl refl c.in_ok-add.ensures
     (subst (λ (n : ℕ). Steps t.setup.now t.me (local_at t.me t.part (here_in t.held.items) links.registry links.shut (length links.entries) queues) act (local_at t.me c.go_on.new.part (here_in t.held.items) links.registry links.shut n queues))
     (sym (ap length c.in_ok-add.ensures ∙ length-longer t.me links.entries act)) stepped)
