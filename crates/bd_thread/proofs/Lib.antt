@@ -5,11 +5,9 @@ pub mod Tickets
 pub mod Put
 pub mod Took
 pub mod Here
-pub mod Firsts
-pub mod Written
 pub mod Going
 pub mod Left
-pub mod Moving
+pub mod Written
 pub mod Ends
 pub mod Registering
 pub mod Applies

@@ -12,7 +12,6 @@ mod messages;
 mod pieces;
 mod requests;
 mod resting;
-mod table;
 #[cfg(test)]
 mod tests;
 mod thread;
