@@ -135,9 +135,9 @@ asked_acted t before new after event unshut asks is =
     let p : Thread = record t { part = record t.part { decided = decision_of answer } } in
     let q : Links = record before { registry = registry; entries = longer t.me before.entries act } in
     let stepped = event_steps t.setup.now t.me t.part here before.registry before.shut (length before.entries) queues event answer
-        (asked_built t.setup.now t.me (view_of t before) before.shut event answer asks) is.given
-        (answer_self t.setup.now t.me before.registry event answer is.given)
-        (asked_local t.setup.now t.me (local t before) event answer asks) in
+    (asked_built t.setup.now t.me (view_of t before) before.shut event answer asks) is.given
+    (answer_self t.setup.now t.me before.registry event answer is.given)
+    (asked_local t.setup.now t.me (local t before) event answer asks) in
     let ends : local_at t.me (record t.part { decided = cond before.shut t.part.decided (decision_of answer) }) here registry before.shut (length before.entries + 1) queues ≡ local p q =
     ap (λ (o : Option Decided). local_at t.me (record t.part { decided = o }) here registry before.shut (length before.entries + 1) queues) (ap (λ b. cond b t.part.decided (decision_of answer)) unshut)
     ∙ ap (λ (n : ℕ). local_at t.me p.part here registry before.shut n queues) (sym (length-longer t.me before.entries act)) in

@@ -1,5 +1,5 @@
 -- How a thread and the links begin.
-use Rattle.std.proofs.Common.{◌≡◌, ℕ, zero, suc, ◌+◌, ◌-◌, ◌<◌, Bool, List, [], ◌∷◌, ◌++◌, length, replicate, refl, ◌∙◌, ap, slice_index_or, arith}
+use Rattle.std.proofs.Common.{◌≡◌, ℕ, zero, suc, ◌+◌, ◌-◌, ◌<◌, Bool, List, [], ◌∷◌, length, replicate, refl, ◌∙◌, ap, slice_index_or, arith}
 use mathlib.Core.Path.{fun_ext}
 use Rattle.std.specs.Prelude.{false}
 use Rattle.bd_base.specs.declared.act.Entry.{Entry}

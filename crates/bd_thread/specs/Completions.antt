@@ -1,5 +1,5 @@
 -- When a request completes, how, and what that leaves.
-use Rattle.std.specs.Prelude.{◌≡◌, ℕ, Bool, true, false, cond, not, ◌&&◌, ◌==◌, nat_le, List, [], ◌∷◌, length, filter, map, take, Option, Some, None, is_some}
+use Rattle.std.specs.Prelude.{◌≡◌, ℕ, Bool, true, false, cond, not, ◌&&◌, ◌==◌, nat_le, List, [], ◌∷◌, length, filter, take, Option, Some, None, is_some}
 use Rattle.std.specs.List.{list_all, list_any, range_with_len}
 use Rattle.sha2.specs.Sha256.{sha256}
 use Rattle.bd_base.specs.declared.act.Act.TheVariants as acts

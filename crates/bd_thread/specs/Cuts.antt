@@ -5,9 +5,6 @@ use Rattle.bd_base.specs.declared.act.Act.TheVariants as acts
 use Rattle.bd_base.specs.declared.act.Token.{Token}
 use Rattle.bd_base.specs.declared.act.Token.TheVariants as tokens
 use Rattle.bd_base.specs.declared.id.ReqId.{ReqId}
-use Rattle.bd_machine.specs.declared.state.Id.{Id}
-use Rattle.bd_machine.specs.declared.state.Id.TheVariants as ids
-use Rattle.bd_machine.specs.declared.state.Kept.{Kept}
 use Rattle.bd_machine.specs.declared.state.OpenRequest.{OpenRequest}
 use Rattle.bd_machine.specs.Alone.{held_after}
 use Rattle.bd_machine.specs.BlockMap.{home}

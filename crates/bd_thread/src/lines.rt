@@ -15,7 +15,7 @@ use bd_rules::{answer_to, bound_to, next_line, open_on, outcome_of, undecided_jo
 
 impl<'a> Thread<'a> {
     /// Ends the next line, where it goes on: true. Else, or after Shutdown, nothing changes. More
-    /// open requests than 32 bits count answer out of memory.
+    /// open requests of a handle than 32 bits count answer out of memory.
     pub(crate) fn end_line(&mut self, links: &mut Links) -> Result<bool, OutOfMemory>
         requires me { self.old.me < vec_len links.old.queues }
         ensures acted { OnOk result (Acted self.old links.old self.new links.new) }
@@ -73,8 +73,7 @@ impl<'a> Thread<'a> {
         if links.shut {
             return Ok(false);
         }
-        let Some(Job::Open { handle, dev, write }) =
-            undecided_job(self.setup, self.me, &self.part)
+        let Some(Job::Open { handle, dev, write }) = undecided_job(self.setup, self.me, &self.part)
         else {
             return Ok(false);
         };

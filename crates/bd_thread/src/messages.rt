@@ -29,12 +29,7 @@ fn may_take(queues: &[Queue], me: usize) -> bool
 }
 
 // What a message brought is on this thread: a piece, or for a mark nothing.
-fn arrive(
-    tokens: &mut Vec<(Id, Kept)>,
-    id: Id,
-    what: &Token,
-    kept: Kept,
-) -> Result<(), OutOfMemory>
+fn arrive(tokens: &mut Vec<(Id, Kept)>, id: Id, what: &Token, kept: Kept) -> Result<(), OutOfMemory>
     requires { brings what.now (Some kept) ≡ true }
     ensures { OnOk result (here_in tokens.new.items ≡ held_after (moves_took id (Some kept)) (here_in tokens.old.items)) }
 {
@@ -122,7 +117,8 @@ impl<'a> Thread<'a> {
     pub(crate) fn may_put(&self, links: &Links, to: u32, what: &Token) -> bool
         ensures { result ≡ may_put self.now links.now to what.now }
     {
-        (to as usize) < links.queues.len() && may_go(&self.seen(links), self.setup, self.me, to, what)
+        (to as usize) < links.queues.len()
+            && may_go(&self.seen(links), self.setup, self.me, to, what)
     }
 
     /// Puts a token last in the queue to the thread, where it may go there: a piece that is here,

@@ -16,7 +16,7 @@ use crate::held::hold;
 use crate::links::{Links, add};
 use crate::pieces::{hold_pieces, send_pieces};
 use crate::thread::Thread;
-use bd_base::{Act, DevId, Errno, HandleId, Op, OutOfMemory, ReqId, Rows, Status};
+use bd_base::{Act, DevId, Errno, HandleId, OutOfMemory, ReqId, Rows, Status};
 use bd_blocks::{extents, home};
 use bd_changes::{accepted, remove_open};
 use bd_machine::{Decided, Extent, Id, Kept, OpenRequest};
@@ -59,20 +59,17 @@ impl<'a> Thread<'a> {
         &mut self,
         links: &mut Links,
         handle: HandleId,
-        op: Op,
-        lba: u64,
-        count: u64,
+        asked: Submission,
         ticket: Ticket,
     ) -> Result<ReqId, (Refused, Ticket)>
         requires me { self.old.me < vec_len links.old.queues }
-        requires asked { IsAsked self.old links.old (Some handle) (record { op = op; lba = lba; count = count }) }
+        requires asked { IsAsked self.old links.old (Some handle) asked }
         requires fresh { IsFresh self.old ticket }
         ensures acted { OnOk result (Acted self.old links.old self.new links.new) }
-        ensures accepted { IfOk result (λ req. (req ≡ ticket) × IsAccepted req handle (record { op = op; lba = lba; count = count }) self.old links.old self.new links.new) }
-        ensures refused { IfErr result (λ e. (e.1 ≡ ticket) × Refuses e.0 handle (record { op = op; lba = lba; count = count }) self.old links.old self.new links.new) }
+        ensures accepted { IfOk result (λ req. (req ≡ ticket) × IsAccepted req handle asked self.old links.old self.new links.new) }
+        ensures refused { IfErr result (λ e. (e.1 ≡ ticket) × Refuses e.0 handle asked self.old links.old self.new links.new) }
         ensures tickets { OnOk result (KeepsTickets self.old → KeepsTickets self.new) }
     {
-        let asked = Submission { op, lba, count };
         match admit(&self.seen(links), self.setup, handle, asked) {
             Ok(dev) => self.accept(links, dev, handle, asked, ticket),
             Err(errno) => match self.refuse(links, Some(handle), asked, errno) {

@@ -157,7 +157,7 @@ fn submit_by_hand(
     let Some(ticket) = next_ticket(thread.me, thread.part.next_request) else {
         return Ok(None);
     };
-    Ok(Some(spend(thread.submit(links, id, asked.op, asked.lba, asked.count, ticket))))
+    Ok(Some(spend(thread.submit(links, id, asked, ticket))))
 }
 
 // The answer, without the ticket that came back.

@@ -68,7 +68,7 @@ impl<'a> Thread<'a> {
         let Some(ticket) = next_ticket(self.me, self.part.next_request) else {
             return Err(OutOfMemory);
         };
-        match self.submit(links, handle, asked.op, asked.lba, asked.count, ticket) {
+        match self.submit(links, handle, asked, ticket) {
             Ok(req) => {
                 self.cut(links, req)?;
                 Ok(true)

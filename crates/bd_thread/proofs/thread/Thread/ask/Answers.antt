@@ -1,5 +1,4 @@
-use Rattle.std.proofs.Common.{◌≡◌, List, Option, Some, refl, sym, ◌∙◌, ap, ap₂}
-use Rattle.bd_base.specs.declared.act.Act.TheVariants as acts
+use Rattle.std.proofs.Common.{List, Option, refl, sym, ◌∙◌, ap, ap₂}
 use Rattle.bd_base.specs.declared.act.Entry.{Entry}
 use Rattle.bd_machine.specs.declared.state.Decided.{Decided}
 use Rattle.bd_machine.specs.declared.state.Registry.{Registry}

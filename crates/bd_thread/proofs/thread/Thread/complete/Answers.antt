@@ -1,4 +1,4 @@
-use Rattle.std.proofs.Common.{◌≡◌, Some, sym, ◌∙◌, ap}
+use Rattle.std.proofs.Common.{sym, ◌∙◌, ap}
 use Rattle.bd_machine.specs.View.{View}
 use Rattle.bd_thread.specs.Completions.{ending_of}
 use Rattle.bd_thread.proofs.Completing.{completes_so, stays_open}

@@ -5,7 +5,6 @@ use Rattle.bd_blocks.specs.Digests.{digest_due}
 use Rattle.bd_machine.specs.declared.state.Base.{Base}
 use Rattle.bd_machine.specs.BlockMap.{is_malloc}
 use Rattle.bd_machine.specs.Homes.{is_base, may_destruct}
-use Rattle.bd_machine.specs.Registry.{is_unused}
 use Rattle.bd_machine.specs.View.{View}
 use Rattle.bd_rules.specs.Came.{came_unused}
 use Rattle.bd_thread.specs.Destructs.{may_device_go}
