@@ -1,5 +1,5 @@
 -- A device that can serve a piece is among the bases.
-use Rattle.std.proofs.Common.{◌≡◌, ℕ, true, Option, Some, None, ap, sym, ◌∙◌}
+use Rattle.std.proofs.Common.{◌≡◌, ℕ, true, Option, Some, None}
 use Rattle.std.specs.Option.{option_map}
 use Rattle.bd_base.specs.declared.id.DevId.{DevId}
 use Rattle.bd_machine.specs.declared.state.Base.{Base}
