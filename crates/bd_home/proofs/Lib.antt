@@ -1,5 +1,1 @@
-pub mod Spliced
-pub mod FirstByte
-pub mod Joined
-pub mod Places
 pub mod Ready

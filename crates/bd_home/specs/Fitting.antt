@@ -1,5 +1,5 @@
 -- Where a content has the blocks of a piece.
-use Rattle.std.specs.Prelude.{ℕ, ◌+◌, ◌*◌, ◌<◌, ◌≤◌, ◌^◌, Bool, false, ◌&&◌, nat_le, nat_lt, List, length, Option, Some, None}
+use Rattle.std.specs.Prelude.{ℕ, ◌+◌, ◌*◌, ◌^◌, Bool, false, ◌&&◌, nat_le, nat_lt, List, length, Option, Some, None}
 use Rattle.bd_machine.specs.declared.state.Base.{Base}
 use Rattle.bd_machine.specs.declared.state.Content.{Content}
 use Rattle.bd_machine.specs.declared.state.Content.TheVariants.{Blocks, Zeros, Untold}
@@ -18,14 +18,3 @@ fits size Untold p = false
 abbrev pub fits_at : ℕ → Option Base → OpenPiece → Bool
 fits_at size None p = false
 fits_at size (Some b) p = fits size b.content p
-
--- the same, said of numbers
-
-pub record IsInside (p : OpenPiece) (blocks : List (List ℕ)) : Type 0 where
-  pub inside : p.lba + p.count ≤ length blocks
-  pub numbered : p.first + p.count < 2 ^ 64
-
-abbrev pub Fits : ℕ → Content → OpenPiece → Type 0
-Fits size (Blocks blocks) p = IsInside p blocks
-Fits size Zeros p = p.count * size < 2 ^ 64
-Fits size Untold p = ⊥

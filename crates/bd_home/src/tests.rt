@@ -1,9 +1,8 @@
-//! A malloc device with blocks of 8 bytes, by hand. Bytes and digests are by python.
-use crate::{can_serve, digest_due, first_waiting, home, is_home, may_go, serve, size_of};
-use bd_base::{
-    ApplyEnd, Bytes, DevId, DevRow, Fill, Kind, Name, Op, OutOfMemory, ReqId, Rows, Setup,
-};
-use bd_machine::{Base, Content, OpenPiece, Part, Progress, Registry};
+//! A malloc device of four blocks of 8 bytes, where a write waits and after it a read. The bytes are
+//! by python.
+use crate::{can_serve, first_waiting, serve};
+use bd_base::{Bytes, DevId, Fill, Op, OutOfMemory, ReqId, Rows};
+use bd_machine::{Base, Content, OpenPiece, Progress};
 use std::alloc::Global;
 use std::test::Fail;
 
@@ -15,47 +14,12 @@ const WRITE: ReqId = ReqId { thread: 0, seq: 0 };
 
 const READ: ReqId = ReqId { thread: 1, seq: 0 };
 
-// Four blocks: zeros, and seed 5 in the two in the middle with the first byte turned.
-const WRITTEN: [u8; 32] = [
-    0, 0, 0, 0, 0, 0, 0, 0, 219, 43, 50, 57, 64, 71, 78, 85, 67, 74, 81, 88, 95, 102, 109, 116, 0,
-    0, 0, 0, 0, 0, 0, 0,
+// Seed 5 in the two blocks in the middle, with the first byte turned.
+const MIDDLE: [u8; 16] = [
+    219, 43, 50, 57, 64, 71, 78, 85, 67, 74, 81, 88, 95, 102, 109, 116,
 ];
 
-const DIGEST: [u8; 32] = [
-    169, 230, 174, 130, 232, 206, 156, 222, 75, 123, 49, 142, 118, 55, 246, 129, 173, 42, 194, 207,
-    3, 190, 35, 15, 253, 175, 105, 65, 90, 69, 36, 44,
-];
-
-fn device(alloc: Global, kind: Kind) -> DevRow {
-    DevRow {
-        name: Name::new(alloc),
-        kind,
-        base: None,
-        blocks: 4,
-        size: SIZE,
-        boundary: 0,
-        depth: 128,
-        file: None,
-        group: 0,
-    }
-}
-
-// Device 0 is null, device 1 malloc; both have the home 0 or 1 of two threads.
-fn setup(alloc: Global) -> Result<Setup, OutOfMemory> {
-    let mut devices = Rows::new(alloc);
-    devices.push(device(alloc, Kind::Null))?;
-    devices.push(device(alloc, Kind::Malloc))?;
-    Ok(Setup {
-        threads: 2,
-        devices,
-        rates: Rows::new(alloc),
-        injections: Rows::new(alloc),
-        waiting: Rows::new(alloc),
-        scripts: Rows::new(alloc),
-    })
-}
-
-// The malloc device with zeros, where a write waits, and after it a read.
+// The device with zeros.
 fn bases(alloc: Global) -> Result<Rows<Base>, OutOfMemory> {
     let mut blocks = Rows::new(alloc);
     for _ in 0..4 {
@@ -86,32 +50,19 @@ fn piece(op: Op, lba: u64, count: u64) -> OpenPiece {
     }
 }
 
-// The piece once it was served, where it can be.
-fn served(
+// Whether the device serves the piece, which reads these bytes.
+fn reads(
     alloc: Global,
     bases: &mut Rows<Base>,
     p: &OpenPiece,
-) -> Result<Option<OpenPiece>, OutOfMemory> {
-    if can_serve(bases.as_slice(), SIZE, DEV, p) {
-        let piece = serve(alloc, bases, SIZE, DEV, p)?;
-        Ok(Some(piece))
-    } else {
-        Ok(None)
+    bytes: &[u8],
+) -> Result<bool, OutOfMemory> {
+    if !can_serve(bases.as_slice(), SIZE, DEV, p) {
+        return Ok(false);
     }
-}
-
-// Whether it was served, with this end and these bytes.
-fn has_read(piece: &Option<OpenPiece>, bytes: &[u8]) -> bool {
-    match piece {
-        Some(
-            OpenPiece {
-                progress: Progress::Served,
-                end: Some(ApplyEnd::Done),
-                read: Some(read),
-                ..
-            },
-        ) => read.as_slice() == bytes,
-        _ => false,
+    match serve(alloc, bases, SIZE, DEV, p)?.read {
+        Some(read) => Ok(read.as_slice() == bytes),
+        None => Ok(false),
     }
 }
 
@@ -124,53 +75,19 @@ fn a_write_and_a_read_are_served_in_order(rt: HostRuntime) -> Result<(), Fail> {
         flip: true,
     };
     assert!(rt; first_waiting(bases.as_slice(), DEV) == Some((WRITE, 0)));
-    let written = served(alloc, &mut bases, &piece(Op::Write(fill), 1, 2))?;
-    assert!(rt; has_read(&written, &[]));
+    assert!(rt; reads(alloc, &mut bases, &piece(Op::Write(fill), 1, 2), &[])?);
     assert!(rt; first_waiting(bases.as_slice(), DEV) == Some((READ, 0)));
-    let read = served(alloc, &mut bases, &piece(Op::Read, 0, 4))?;
-    assert!(rt; has_read(&read, &WRITTEN));
+    assert!(rt; reads(alloc, &mut bases, &piece(Op::Read, 1, 2), &MIDDLE)?);
     assert!(rt; first_waiting(bases.as_slice(), DEV) == None);
-    assert!(rt; !can_serve(bases.as_slice(), SIZE, DEV, &piece(Op::Read, 3, 2)));
     Ok(())
 }
 
-fn part(alloc: Global, bases: Rows<Base>) -> Part {
-    Part {
-        next: 0,
-        decided: None,
-        bound: Rows::new(alloc),
-        marks: Rows::new(alloc),
-        put: Rows::new(alloc),
-        taken: Rows::new(alloc),
-        next_request: 0,
-        due: Rows::new(alloc),
-        requests: Rows::new(alloc),
-        bases,
-        destructed: Rows::new(alloc),
-    }
-}
-
 #[test]
-fn a_device_goes_after_a_shutdown_with_its_digest(rt: HostRuntime) -> Result<(), Fail> {
-    let alloc = rt.alloc();
-    let setup = setup(alloc)?;
-    let mut bases = bases(alloc)?;
-    let fill = Fill {
-        seed: 5,
-        flip: true,
-    };
-    let _ = served(alloc, &mut bases, &piece(Op::Write(fill), 1, 2))?;
-    let part = part(alloc, bases);
-    let registry = Registry {
-        handles: Rows::new(alloc),
-        next: 0,
-    };
-    assert_eq!(rt; home(&setup, DEV), 1);
-    assert_eq!(rt; size_of(&setup, DEV), SIZE);
-    assert!(rt; is_home(&setup, 1, DEV) && !is_home(&setup, 0, DEV));
-    assert!(rt; !may_go(&setup, 1, &part, &registry, false, DEV));
-    assert!(rt; may_go(&setup, 1, &part, &registry, true, DEV));
-    assert!(rt; digest_due(&setup, part.bases.as_slice(), DEV) == Some(Some(DIGEST)));
-    assert!(rt; digest_due(&setup, part.bases.as_slice(), DevId(0)) == Some(None));
+fn a_piece_past_the_end_or_of_another_device_is_not_served(rt: HostRuntime) -> Result<(), Fail> {
+    let bases = bases(rt.alloc())?;
+    assert!(rt; can_serve(bases.as_slice(), SIZE, DEV, &piece(Op::Read, 2, 2)));
+    assert!(rt; !can_serve(bases.as_slice(), SIZE, DEV, &piece(Op::Read, 3, 2)));
+    assert!(rt; !can_serve(bases.as_slice(), SIZE, DevId(0), &piece(Op::Read, 0, 1)));
+    assert!(rt; first_waiting(bases.as_slice(), DevId(0)) == None);
     Ok(())
 }

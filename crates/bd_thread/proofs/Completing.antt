@@ -20,7 +20,7 @@ use Rattle.bd_machine.specs.declared.state.OpenRequest.{OpenRequest}
 use Rattle.bd_machine.specs.declared.state.Part.{Part}
 use Rattle.bd_machine.specs.declared.state.Registry.{Registry}
 use Rattle.bd_machine.specs.Alone.{held_after}
-use Rattle.bd_machine.specs.Completion.{data_of, is_back, is_done, is_faulted, is_held_progress, is_shown, may_show, status_due}
+use Rattle.bd_machine.specs.Completion.{data_of, is_back, is_done, is_faulted, is_held_progress, is_shown, may_show, piece_here, pieces_here, request_here, status_due}
 use Rattle.bd_machine.specs.Effect.{is_read}
 use Rattle.bd_machine.specs.Requests.{closed_with, may_complete, is_status_due, is_shown_due, pieces_closed}
 use Rattle.bd_machine.specs.Same.{is_the, same_id, same_status}
@@ -31,9 +31,8 @@ use Rattle.bd_thread.specs.declared.completion.Ending.{Ending}
 use Rattle.bd_thread.specs.declared.links.Links.{Links}
 use Rattle.bd_thread.specs.declared.thread.Thread.{Thread}
 use Rattle.bd_thread.specs.Acted.{Acted}
-use Rattle.bd_thread.specs.Completions.{ended, ending_cut, ending_in, ending_of, ends_by, gone, is_ended, piece_in, pieces_in, read_as, shown_by, shown_of, succeeds, without_open, IsCompleted}
-use Rattle.bd_thread.specs.Cuts.{request_in}
-use Rattle.bd_thread.specs.Seen.{here_in, local_at, queues_of, Sets}
+use Rattle.bd_thread.specs.Completions.{ended, ending_cut, ending_in, ending_of, ends_by, gone, is_ended, read_as, shown_by, shown_of, succeeds, without_open, Completes, CompletesBy, IsCompleted}
+use Rattle.bd_thread.specs.Seen.{here_in, local_at, queues_of, view_of, Sets}
 use Rattle.bd_thread.proofs.Going.{Steps, steps, still_shut}
 use Rattle.bd_thread.proofs.Submissions.{acted_into}
 
@@ -134,46 +133,46 @@ module _ (r : OpenRequest) (n : ℕ) (ps : List (Option OpenPiece)) (cut : r.pie
   due_by false ending none h = success_due (is_read r.op) ending refl none h
 
 -- the request is here on its own thread, cut, and each of its pieces is back with its end
-pub record Ends (me : ℕ) (held : List (Id × Kept)) (req : ReqId) (ending : Ending) : Type 0 where
+pub record Ends (me : ℕ) (v : View) (req : ReqId) (ending : Ending) : Type 0 where
   pub request : OpenRequest
-  pub is : request_in held req ≡ Some request
+  pub is : request_here v req ≡ Some request
   pub own : (req.thread == me) ≡ true
   pub cut : request.pieces ≡ Some ending.pieces
-  pub all : list_all is_ended (pieces_in held req ending.pieces) ≡ true
-  pub status : status_due request (pieces_in held req ending.pieces) ≡ Some ending.status
-  pub shown : may_show request ending.status (pieces_in held req ending.pieces) ending.shown ≡ true
+  pub all : list_all is_ended (pieces_here v req ending.pieces) ≡ true
+  pub status : status_due request (pieces_here v req ending.pieces) ≡ Some ending.status
+  pub shown : may_show request ending.status (pieces_here v req ending.pieces) ending.shown ≡ true
 
-module _ (me : ℕ) (held : List (Id × Kept)) (req : ReqId) (ending : Ending) where
-  ends_all : (r : OpenRequest) (n : ℕ) → request_in held req ≡ Some r → (req.thread == me) ≡ true → r.pieces ≡ Some n
-      → (b : Bool) → list_all is_ended (pieces_in held req n) ≡ b → cond b (ends_by r n (pieces_in held req n)) None ≡ Some ending → Ends me held req ending
+module _ (me : ℕ) (v : View) (req : ReqId) (ending : Ending) where
+  ends_all : (r : OpenRequest) (n : ℕ) → request_here v req ≡ Some r → (req.thread == me) ≡ true → r.pieces ≡ Some n
+      → (b : Bool) → list_all is_ended (pieces_here v req n) ≡ b → cond b (ends_by r n (pieces_here v req n)) None ≡ Some ending → Ends me v req ending
   ends_all r n is own cut false all h = cc
   ends_all r n is own cut true all h =
-      let due : IsDue r (pieces_in held req n) n ending = due_by r n (pieces_in held req n) cut all (list_any is_faulted (pieces_in held req n)) ending refl h in
+      let due : IsDue r (pieces_here v req n) n ending = due_by r n (pieces_here v req n) cut all (list_any is_faulted (pieces_here v req n)) ending refl h in
       let same : n ≡ ending.pieces = sym due.number in
       record {
         request = r;
         is = is;
         own = own;
         cut = cut ∙ ap (λ (m : ℕ). Some m) same;
-        all = subst (λ (m : ℕ). list_all is_ended (pieces_in held req m) ≡ true) same all;
-        status = subst (λ (m : ℕ). status_due r (pieces_in held req m) ≡ Some ending.status) same due.status;
-        shown = subst (λ (m : ℕ). may_show r ending.status (pieces_in held req m) ending.shown ≡ true) same due.shown;
+        all = subst (λ (m : ℕ). list_all is_ended (pieces_here v req m) ≡ true) same all;
+        status = subst (λ (m : ℕ). status_due r (pieces_here v req m) ≡ Some ending.status) same due.status;
+        shown = subst (λ (m : ℕ). may_show r ending.status (pieces_here v req m) ending.shown ≡ true) same due.shown;
       }
 
-  ends_cut : (r : OpenRequest) → request_in held req ≡ Some r → (req.thread == me) ≡ true → (o : Option ℕ) → r.pieces ≡ o → ending_cut held req r o ≡ Some ending → Ends me held req ending
+  ends_cut : (r : OpenRequest) → request_here v req ≡ Some r → (req.thread == me) ≡ true → (o : Option ℕ) → r.pieces ≡ o → ending_cut v req r o ≡ Some ending → Ends me v req ending
   ends_cut r is own None cut h = cc
-  ends_cut r is own (Some n) cut h = ends_all r n is own cut (list_all is_ended (pieces_in held req n)) refl h
+  ends_cut r is own (Some n) cut h = ends_all r n is own cut (list_all is_ended (pieces_here v req n)) refl h
 
-  ends_own : (r : OpenRequest) → request_in held req ≡ Some r → (b : Bool) → (req.thread == me) ≡ b → cond b (ending_cut held req r r.pieces) None ≡ Some ending → Ends me held req ending
+  ends_own : (r : OpenRequest) → request_here v req ≡ Some r → (b : Bool) → (req.thread == me) ≡ b → cond b (ending_cut v req r r.pieces) None ≡ Some ending → Ends me v req ending
   ends_own r is false own h = cc
   ends_own r is true own h = ends_cut r is own r.pieces refl h
 
-  ends_here : (o : Option OpenRequest) → request_in held req ≡ o → ending_in me held req o ≡ Some ending → Ends me held req ending
+  ends_here : (o : Option OpenRequest) → request_here v req ≡ o → ending_in me v req o ≡ Some ending → Ends me v req ending
   ends_here None is h = cc
   ends_here (Some r) is h = ends_own r is (req.thread == me) refl h
 
-  pub ends_now : ending_of me held req ≡ Some ending → Ends me held req ending
-  ends_now h = ends_here (request_in held req) refl h
+  pub ends_now : ending_of me v req ≡ Some ending → Ends me v req ending
+  ends_now h = ends_here (request_here v req) refl h
 
 -- ---- what is here after it
 
@@ -206,19 +205,19 @@ status_self s = go s
     go Failed = refl
     go _ = refl
 
-module _ (setup : Setup) (me : ℕ) (part : Part) (held : List (Id × Kept)) (registry : Registry) (shut : Bool) (stamp : ℕ) (queues : ℕ → List Message) (req : ReqId) (ending : Ending) where
-  pub complete_steps : Ends me held req ending
-      → Steps setup me (local_at me part (here_in held) registry shut stamp queues) (acts.Complete req ending.status ending.shown)
-      (local_at me (record part { requests = without_open req part.requests }) (ended req ending.pieces (here_in held)) registry shut (stamp + 1) queues)
+module _ (setup : Setup) (me : ℕ) (part : Part) (here : Id → Option Kept) (registry : Registry) (shut : Bool) (stamp : ℕ) (queues : ℕ → List Message) (req : ReqId) (ending : Ending) where
+  pub complete_steps : Ends me (local_at me part here registry shut stamp queues).view req ending
+      → Steps setup me (local_at me part here registry shut stamp queues) (acts.Complete req ending.status ending.shown)
+      (local_at me (record part { requests = without_open req part.requests }) (ended req ending.pieces here) registry shut (stamp + 1) queues)
   complete_steps e =
-      let l : Local = local_at me part (here_in held) registry shut stamp queues in
+      let l : Local = local_at me part here registry shut stamp queues in
       let v : View = l.view in
       let r : OpenRequest = e.request in
-      let ps : List (Option OpenPiece) = pieces_in held req ending.pieces in
-      let whole : pieces_in held req (unwrap_or r.pieces 0) ≡ ps = ap (λ (o : Option ℕ). pieces_in held req (unwrap_or o 0)) e.cut in
-      let after : Bool → (Id → Option Kept) → Local = λ b here. local_at me (record part { requests = without_open req part.requests }) here registry b (stamp + 1) queues in
-      let bare : Id → Option Kept = λ j. cond (same_id (ids.Request req) j) None (here_in held j) in
-      steps setup me l (after shut (ended req ending.pieces (here_in held))) (acts.Complete req ending.status ending.shown) refl refl (
+      let ps : List (Option OpenPiece) = pieces_here v req ending.pieces in
+      let whole : pieces_here v req (unwrap_or r.pieces 0) ≡ ps = ap (λ (o : Option ℕ). pieces_here v req (unwrap_or o 0)) e.cut in
+      let after : Bool → (Id → Option Kept) → Local = λ b after. local_at me (record part { requests = without_open req part.requests }) after registry b (stamp + 1) queues in
+      let bare : Id → Option Kept = λ j. cond (same_id (ids.Request req) j) None (here j) in
+      steps setup me l (after shut (ended req ending.pieces here)) (acts.Complete req ending.status ending.shown) refl refl (
         ap (may_complete me v req) e.is ∙ ap (λ (qs : List (Option OpenPiece)). (req.thread == me) && list_all is_back qs) whole ∙ and_from (req.thread == me) (list_all is_back ps) e.own (all_back ps e.all),
         (
           ap (is_status_due v req ending.status) e.is ∙ ap (λ (qs : List (Option OpenPiece)). is_the same_status ending.status (status_due r qs)) whole ∙ ap (is_the same_status ending.status) e.status ∙ status_self ending.status,
@@ -226,15 +225,26 @@ module _ (setup : Setup) (me : ℕ) (part : Part) (held : List (Id × Kept)) (re
         ),
       )
       (ap₂ after (still_shut shut)
-      (ap (λ (o : Option OpenRequest). held_after (closed_with v req o) (here_in held)) e.is
+      (ap (λ (o : Option OpenRequest). held_after (closed_with v req o) here) e.is
       ∙ ap (λ (qs : List (Option OpenPiece)). held_after (pieces_closed req 0 qs) bare) whole
-      ∙ gone_closed (piece_in held req) req 0 ending.pieces bare e.all))
+      ∙ gone_closed (piece_here v req) req 0 ending.pieces bare e.all))
 
 pub completed_acted : (old : Thread) (before : Links) (new : Thread) (after : Links) (req : ReqId) (ending : Ending)
-    → ending_of old.me old.held.items req ≡ Some ending
+    → ending_of old.me (view_of old before) req ≡ Some ending
     → IsCompleted req ending old before new after
     → Acted old before new after
 completed_acted old before new after req ending may done =
     acted_into old before new after (acts.Complete req ending.status ending.shown) (record old.part { requests = without_open req old.part.requests }) (ended req ending.pieces (here_in old.held.items))
     (ap (λ (t : Thread). t.me) done.thread) (ap (λ (t : Thread). t.setup) done.thread) done.part done.held done.links
-    (complete_steps old.setup.now old.me old.part old.held.items before.registry before.shut (length before.entries) (queues_of before.queues.items) req ending (ends_now old.me old.held.items req ending may))
+    (complete_steps old.setup.now old.me old.part (here_in old.held.items) before.registry before.shut (length before.entries) (queues_of before.queues.items) req ending (ends_now old.me (view_of old before) req ending may))
+
+-- where it doesn't complete, nothing changes
+pub stays_open : (old : Thread) (before : Links) (req : ReqId) → ending_of old.me (view_of old before) req ≡ None → Completes req old before old before false
+stays_open old before req none = subst (CompletesBy req old before old before false) (sym none) (refl, refl, refl)
+
+-- where it does, it completed
+pub completes_so : (old : Thread) (before : Links) (new : Thread) (after : Links) (req : ReqId) (ending : Ending)
+    → ending_of old.me (view_of old before) req ≡ Some ending
+    → IsCompleted req ending old before new after
+    → Completes req old before new after true
+completes_so old before new after req ending is done = subst (CompletesBy req old before new after true) (sym is) (refl, done)

@@ -8,7 +8,7 @@ use Rattle.sha2.specs.Sha256.{sha256}
 use Rattle.bd_base.specs.declared.act.Act.TheVariants as acts
 use Rattle.bd_base.specs.declared.id.DevId.{DevId}
 use Rattle.bd_base.specs.declared.setup.Setup.{Setup}
-use Rattle.bd_home.specs.Destructs.{digest_at, digest_due, digest_in, may_go}
+use Rattle.bd_blocks.specs.Digests.{digest_at, digest_due, digest_in}
 use Rattle.bd_machine.specs.declared.state.Base.{Base}
 use Rattle.bd_machine.specs.declared.state.Content.{Content}
 use Rattle.bd_machine.specs.declared.state.Content.TheVariants.{Blocks, Zeros, Untold}
@@ -17,7 +17,9 @@ use Rattle.bd_machine.specs.declared.state.Kept.{Kept}
 use Rattle.bd_machine.specs.declared.state.Part.{Part}
 use Rattle.bd_machine.specs.declared.state.Registry.{Registry}
 use Rattle.bd_machine.specs.BlockMap.{is_malloc}
-use Rattle.bd_machine.specs.Homes.{is_base, is_digest_at}
+use Rattle.bd_machine.specs.Homes.{is_base, is_digest_at, may_destruct}
+use Rattle.bd_machine.specs.Registry.{is_unused}
+use Rattle.bd_rules.specs.Came.{came_unused}
 use Rattle.bd_turns.specs.Local.{Local}
 use Rattle.bd_turns.specs.declared.queue.Message.{Message}
 use Rattle.bd_thread.specs.Seen.{local_at}
@@ -47,7 +49,7 @@ due_passes false o digest h = ap (λ (d : Option (List ℕ)). is_none d) (sym (s
 
 -- **Destruct**
 pub destruct_steps : (setup : Setup) (t : ℕ) (part : Part) (here : Id → Option Kept) (registry : Registry) (shut : Bool) (stamp : ℕ) (queues : ℕ → List Message) (dev : DevId) (digest : Option (List ℕ)) (destructed : List DevId)
-    → may_go setup t part registry shut dev ≡ true
+    → may_destruct setup t (local_at t part here registry shut stamp queues).view (came_unused (is_unused registry dev) shut) dev ≡ true
     → digest_due (is_malloc setup dev) (find (is_base dev) part.bases) ≡ Some digest
     → destructed ≡ part.destructed ++ dev ∷ []
     → Steps setup t (local_at t part here registry shut stamp queues) (acts.Destruct dev digest) (local_at t (record part { destructed = destructed }) here registry shut (stamp + 1) queues)

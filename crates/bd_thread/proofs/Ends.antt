@@ -1,5 +1,5 @@
 -- The end of a line, by the local rules.
-use Rattle.std.proofs.Common.{◌≡◌, ℕ, ◌+◌, Bool, true, false, cond, ◌&&◌, ◌==◌, nat_lt, List, [], ◌∷◌, ◌++◌, length, Option, Some, None, refl, sym, ◌∙◌, ap, subst, eq-eqb, arith}
+use Rattle.std.proofs.Common.{◌≡◌, ℕ, ◌+◌, Bool, true, false, cond, ◌&&◌, ◌==◌, nat_lt, List, [], ◌∷◌, length, Option, Some, None, refl, sym, ◌∙◌, ap, subst, eq-eqb, arith}
 use Rattle.std.specs.Option.{option_map, option_and_then}
 use Rattle.std.proofs.lemmas.Bool.{and_from}
 use Rattle.std.proofs.lemmas.List.{length-append}
@@ -19,7 +19,8 @@ use Rattle.bd_machine.specs.declared.state.Part.{Part}
 use Rattle.bd_machine.specs.declared.state.Registry.{Registry}
 use Rattle.bd_machine.specs.Asked.{next_line, outcome_by, job_of}
 use Rattle.bd_machine.specs.Same.{same_outcome, is_the}
-use Rattle.bd_machine.specs.Scripts.{bound_after, posted, is_line}
+use Rattle.bd_machine.specs.Scripts.{change_job, is_line}
+use Rattle.bd_changes.specs.Lone.{lone}
 use Rattle.bd_turns.specs.declared.queue.Message.{Message}
 use Rattle.bd_turns.specs.Local.{Local, refusal_local, local_after}
 use Rattle.bd_thread.specs.Seen.{local_at, entry_at, longer}
@@ -40,7 +41,7 @@ outcome_self (outcomes.Accepted r) = and_from (r.thread == r.thread) (r.seq == r
 
 module _ (setup : Setup) (me : ℕ) (part : Part) (here : Id → Option Kept) (registry : Registry) (stamp : ℕ) (queues : ℕ → List Message) (number : ℕ) (job : Job) (outcome : Outcome) (line : next_line setup me part ≡ Some (record { number = number; job = job })) (due : outcome_by part part.decided job ≡ Some outcome) where
   abbrev after_line : Option Job → Part
-  after_line o = record part { next = part.next + 1; decided = None; bound = bound_after o part.decided part.bound; due = part.due ++ posted setup o }
+  after_line o = (change_job setup (lone part) o).part
 
   pub line_allowed : refusal_local setup me (local_at me part here registry false stamp queues) (entry_at me (stamp + 1) (acts.Script number outcome)) ≡ None
   line_allowed =

@@ -23,11 +23,11 @@ use Rattle.bd_thread.specs.declared.links.Links.{Links}
 use Rattle.bd_thread.specs.declared.thread.Thread.{Thread}
 use Rattle.bd_thread.specs.Acted.{Acted}
 use Rattle.bd_thread.specs.Completions.{ending_of, Completes, CompletesBy}
-use Rattle.bd_home.specs.Destructs.{digest_due, may_go}
-use Rattle.bd_thread.specs.Destructs.{DestructAdded, Destructs}
+use Rattle.bd_blocks.specs.Digests.{digest_due}
+use Rattle.bd_thread.specs.Destructs.{may_device_go, DestructAdded, Destructs}
 use Rattle.bd_thread.specs.Endings.{left_over, ClosesIfAny, ClosesLeft}
 use Rattle.bd_thread.specs.Lines.{close_asked, job_now, open_asked, outcome_now, AsksBy, Closes, EndsBy, EndsLine, Opens}
-use Rattle.bd_thread.specs.Seen.{longer, queues_of}
+use Rattle.bd_thread.specs.Seen.{longer, queues_of, view_of}
 use Rattle.bd_thread.specs.Sent.{first_brought, may_put, Puts, PutsBy, Takes, TakesBy}
 use Rattle.bd_thread.specs.Served.{Applies}
 use Rattle.bd_thread.specs.Waits.{Idles, IsIdle, NoDestructOn, NoHandle, NoLine, NoMessage, NoSubmission}
@@ -83,7 +83,7 @@ takes_idle old before new after id h few = go (first_brought (queues_of before.q
     go (Some m) e k = absurd (more old.me before after (acts.Took m.sender (count_at old.part.taken m.sender) m.what) k.1 few)
 
 pub completes_idle : {P : Thread → Links → Type 0} (req : ReqId) (old : Thread) (before : Links) (new : Thread) (after : Links) (done : Bool) → P old before → Completes req old before new after done → Idles P old before new after
-completes_idle {P = P} req old before new after done p h few = go (ending_of old.me old.held.items req) h
+completes_idle {P = P} req old before new after done p h few = go (ending_of old.me (view_of old before) req) h
   where
     go : (o : Option Ending) → CompletesBy req old before new after done o → IsIdle P old before new after
     go None k = record { thread = k.1; links = k.2; waits = p }
@@ -141,10 +141,10 @@ leaves_idle old before new after done h few = go (left_over old before) refl h
 
 pub destructs_idle : (old : Thread) (before : Links) (new : Thread) (after : Links) (dev : DevId) (done : Bool) → Destructs old before new after dev done → Idles (NoDestructOn dev) old before new after
 destructs_idle old before new after dev done h few =
-    go (may_go old.setup.now old.me old.part before.registry before.shut dev) (digest_due (is_malloc old.setup.now dev) (find (is_base dev) old.part.bases)) refl refl h
+    go (may_device_go old before dev) (digest_due (is_malloc old.setup.now dev) (find (is_base dev) old.part.bases)) refl refl h
   where
     go : (may : Bool) (shown : Option (Option (List ℕ)))
-        → may_go old.setup.now old.me old.part before.registry before.shut dev ≡ may
+        → may_device_go old before dev ≡ may
         → digest_due (is_malloc old.setup.now dev) (find (is_base dev) old.part.bases) ≡ shown
         → DestructAdded old before new after dev done may shown
         → IsIdle (NoDestructOn dev) old before new after

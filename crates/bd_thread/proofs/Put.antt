@@ -111,15 +111,5 @@ put_steps setup t p new here here' registry shut stamp queues queues' to number 
     refl refl (still_shut shut) refl
     (ap (λ (ms : List Move). λ r. cond (r == to) (queues r ++ sent_by t what ms) (queues r)) moves ∙ sym queued))
 
--- the part of the thread, counted and then with what is due
-pub part_left : (p counted new : Part) (to number : ℕ) (what : Token)
-    → number ≡ count_at p.put to
-    → counted ≡ record p { put = write ◌==◌ p.put to (count_at p.put to + 1) }
-    → new ≡ record counted { due = due_after to what counted.due }
-    → new ≡ record p { put = write ◌==◌ p.put to (number + 1); due = due_after to what p.due }
-part_left p counted new to number what next count leaves =
-    let at : ℕ → Part = λ n. record p { put = write ◌==◌ p.put to (n + 1) } in
-    leaves ∙ ap (λ (q : Part). let r : Part = record q { due = due_after to what q.due } in r) (count ∙ ap at (sym next))
-
 pub may_parts : (t : Thread) (links : Links) (to : ℕ) (what : Token) → may_put t links to what ≡ true → (nat_lt to (vec_len links.queues) ≡ true) × (may_go t.setup.now t.me (local t links).view to what ≡ true)
 may_parts t links to what h = and_parts (nat_lt to (vec_len links.queues)) (may_go t.setup.now t.me (local t links).view to what) h

@@ -1,5 +1,5 @@
 -- An event of the registry, by the local rules.
-use Rattle.std.proofs.Common.{◌≡◌, ℕ, ◌+◌, Bool, true, false, cond, ◌&&◌, ◌||◌, nat_eq, List, [], ◌∷◌, length, Option, Some, None, is_none, is_some, refl, sym, ◌∙◌, ap, subst, eq-eqb}
+use Rattle.std.proofs.Common.{◌≡◌, ℕ, ◌+◌, Bool, true, false, cond, ◌&&◌, ◌||◌, ◌==◌, nat_eq, List, [], ◌∷◌, length, Option, Some, None, is_none, is_some, refl, sym, ◌∙◌, ap, subst, eq-eqb}
 use Rattle.std.specs.Bool.{beq}
 use Rattle.std.proofs.lemmas.Bool.{and_from}
 use Rattle.bd_base.specs.Name.{same_name}
@@ -10,10 +10,13 @@ use Rattle.bd_base.specs.declared.job.Job.{Job}
 use Rattle.bd_base.specs.declared.job.Job.TheVariants as jobs
 use Rattle.std.specs.Cmp.Lexicographic.{pointwise}
 use Rattle.bd_base.specs.declared.event.Answer.{Answer}
+use Rattle.bd_base.specs.declared.event.Answer.TheVariants as answers
 use Rattle.bd_base.specs.declared.event.RegEvent.{RegEvent}
 use Rattle.bd_base.specs.declared.event.RegEvent.TheVariants as events
+use Rattle.bd_base.specs.declared.request.Errno.TheVariants.{BadDesc}
 use Rattle.bd_base.specs.declared.setup.Setup.{Setup}
 use Rattle.bd_machine.specs.declared.state.Decided.{Decided}
+use Rattle.bd_machine.specs.declared.state.Handle.{Handle}
 use Rattle.bd_machine.specs.declared.state.Id.{Id}
 use Rattle.bd_machine.specs.declared.state.Kept.{Kept}
 use Rattle.bd_machine.specs.declared.state.Part.{Part}
@@ -21,15 +24,17 @@ use Rattle.bd_machine.specs.declared.state.Registry.{Registry}
 use Rattle.bd_machine.specs.Asked.{asks_event, bound_to, is_job_open, is_job_close, open_on}
 use Rattle.bd_machine.specs.Events.{decision_of}
 use Rattle.bd_machine.specs.Guards.{is_built}
-use Rattle.bd_machine.specs.Registry.{answer_to, registry_after}
+use Rattle.bd_machine.specs.Registry.{answer_to, close_answer, device_named, handle_of, open_answer, registry_after}
 use Rattle.bd_machine.specs.Same.{same_answer, same_handle, is_the}
+use Rattle.bd_machine.specs.View.{View}
+use Rattle.bd_rules.specs.Came.{came_shut}
 use Rattle.bd_turns.specs.declared.queue.Message.{Message}
 use Rattle.bd_turns.specs.Local.{Local, came_local}
 use Rattle.bd_thread.specs.declared.links.Links.{Links}
 use Rattle.bd_thread.specs.declared.thread.Thread.{Thread}
 use Rattle.bd_thread.specs.Acted.{Acted}
 use Rattle.bd_thread.specs.Lines.{close_asked, close_if_idle, open_asked, AsksBy, IsAnswered}
-use Rattle.bd_thread.specs.Seen.{here_in, local, local_at, longer, queues_of}
+use Rattle.bd_thread.specs.Seen.{here_in, local, local_at, longer, queues_of, view_of}
 use Rattle.bd_thread.proofs.Ends.{length-longer}
 use Rattle.bd_thread.proofs.Going.{Steps, steps, handles_own, local_eq, acted_step}
 
@@ -74,52 +79,73 @@ asks_open part handle dev write o line free =
 pub asks_close : (part : Part) (handle : List ℕ) (id : HandleId) (o : Option Job) → o ≡ Some (jobs.Close handle) → bound_to part handle ≡ Some id → is_job_close part id o ≡ true
 asks_close part handle id o line bound = ap (is_job_close part id) line ∙ ap (is_the same_handle id) bound ∙ eq-eqb id.0 id.0 refl
 
-pub event_acted : (t : Thread) (before : Links) (new : Thread) (after : Links) (event : RegEvent) (answer : Answer) (decided : Decided) (registry : Registry)
-    → new ≡ record t { part = record t.part { decided = Some decided } }
-    → after ≡ record before { registry = registry; entries = longer t.me before.entries (acts.Reg event answer) }
-    → registry ≡ registry_after before.registry t.me (Some (record { event = event; answer = answer }))
+-- ---- an event that is asked
+
+module _ (setup : Setup) (me : ℕ) where
+  -- it is built
+  asked_built : (v : View) (shut : Bool) (event : RegEvent) (answer : Answer) → asks_event setup me v (came_shut shut) event ≡ true → is_built (acts.Reg event answer) ≡ true
+  asked_built v shut (events.Open name write) answer h = refl
+  asked_built v shut (events.Close id) answer h = refl
+  asked_built v shut _ answer h = h
+
+  -- what came with it doesn't matter
+  asked_local : (l : Local) (event : RegEvent) (answer : Answer) → asks_event setup me l.view (came_shut l.shared.shut) event ≡ true → asks_event setup me l.view (came_local setup me l (acts.Reg event answer)) event ≡ true
+  asked_local l (events.Open name write) answer h = h
+  asked_local l (events.Close id) answer h = h
+  asked_local l _ answer h = h
+
+  -- it has an answer
+  pub unanswered : (registry : Registry) (v : View) (shut : Bool) (event : RegEvent) → asks_event setup me v (came_shut shut) event ≡ true → answer_to setup registry me event ≡ None → ⊥
+  unanswered registry v shut (events.Open name write) h e = cc
+  unanswered registry v shut (events.Close id) h e = cc
+  unanswered registry v shut _ h e = let x : false ≡ true = h in cc
+
+  some_same : {X : Type 0} {x y : X} → Some x ≡ Some y → x ≡ y
+  some_same e = cc
+
+  open_self : (registry : Registry) (place : Option ℕ) → same_answer (open_answer registry place) (open_answer registry place) ≡ true
+  open_self registry None = refl
+  open_self registry (Some dev) = and_from (registry.next == registry.next) (dev == dev) (eq-eqb registry.next registry.next refl) (eq-eqb dev dev refl)
+
+  close_self : (handle : Option Handle) → same_answer (close_answer me handle) (close_answer me handle) ≡ true
+  close_self None = refl
+  close_self (Some h) = go (h.thread.0 == me)
+    where
+      go : (b : Bool) → same_answer (cond b (answers.Closed None) (answers.Refused BadDesc)) (cond b (answers.Closed None) (answers.Refused BadDesc)) ≡ true
+      go true = refl
+      go false = refl
+
+  answer_self : (registry : Registry) (event : RegEvent) (answer : Answer) → answer_to setup registry me event ≡ Some answer → same_answer answer answer ≡ true
+  answer_self registry (events.Open name write) answer e = subst (λ (a : Answer). same_answer a a ≡ true) (some_same e) (open_self registry (device_named setup name))
+  answer_self registry (events.Close id) answer e = subst (λ (a : Answer). same_answer a a ≡ true) (some_same e) (close_self (handle_of registry.handles id))
+  answer_self registry _ answer e = let x : None ≡ Some answer = e in cc
+
+-- the thread that asked goes on
+pub asked_acted : (t : Thread) (before : Links) (new : Thread) (after : Links) (event : RegEvent)
     → before.shut ≡ false
-    → decision_of answer ≡ Some decided
-    → is_built (acts.Reg event answer) ≡ true
-    → answer_to t.setup.now before.registry t.me event ≡ Some answer
-    → same_answer answer answer ≡ true
-    → asks_event t.setup.now t.me (local t before).view (came_local t.setup.now t.me (local t before) (acts.Reg event answer)) event ≡ true
+    → asks_event t.setup.now t.me (view_of t before) (came_shut before.shut) event ≡ true
+    → IsAnswered event t before new after
     → Acted t before new after
-event_acted t before new after event answer decided registry new-is after-is registry-is unshut decision built given self asks =
+asked_acted t before new after event unshut asks is =
     let queues = queues_of before.queues.items in
     let here = here_in t.held.items in
+    let answer : Answer = is.answer in
     let act : Act = acts.Reg event answer in
-    let p : Thread = record t { part = record t.part { decided = Some decided } } in
+    let registry : Registry = registry_after before.registry t.me (Some (record { event = event; answer = answer })) in
+    let p : Thread = record t { part = record t.part { decided = decision_of answer } } in
     let q : Links = record before { registry = registry; entries = longer t.me before.entries act } in
-    let stepped = event_steps t.setup.now t.me t.part here before.registry before.shut (length before.entries) queues event answer built given self asks in
-    let ends : local_at t.me (record t.part { decided = cond before.shut t.part.decided (decision_of answer) }) here (registry_after before.registry t.me (Some (record { event = event; answer = answer }))) before.shut (length before.entries + 1) queues ≡ local p q =
-    ap (λ (o : Option Decided). local_at t.me (record t.part { decided = o }) here (registry_after before.registry t.me (Some (record { event = event; answer = answer }))) before.shut (length before.entries + 1) queues)
-    (ap (λ b. cond b t.part.decided (decision_of answer)) unshut ∙ decision)
-    ∙ ap (λ (r : Registry). local_at t.me p.part here r before.shut (length before.entries + 1) queues) (sym registry-is)
+    let stepped = event_steps t.setup.now t.me t.part here before.registry before.shut (length before.entries) queues event answer
+    (asked_built t.setup.now t.me (view_of t before) before.shut event answer asks) is.given
+    (answer_self t.setup.now t.me before.registry event answer is.given)
+    (asked_local t.setup.now t.me (local t before) event answer asks) in
+    let ends : local_at t.me (record t.part { decided = cond before.shut t.part.decided (decision_of answer) }) here registry before.shut (length before.entries + 1) queues ≡ local p q =
+    ap (λ (o : Option Decided). local_at t.me (record t.part { decided = o }) here registry before.shut (length before.entries + 1) queues) (ap (λ b. cond b t.part.decided (decision_of answer)) unshut)
     ∙ ap (λ (n : ℕ). local_at t.me p.part here registry before.shut n queues) (sym (length-longer t.me before.entries act)) in
-    subst (λ (n : Thread). Acted t before n after) (sym new-is)
-    (subst (λ (l : Links). Acted t before p l) (sym after-is)
+    subst (λ (n : Thread). Acted t before n after) (sym is.thread)
+    (subst (λ (l : Links). Acted t before p l) (sym is.links)
     (acted_step t before p q act refl refl refl refl (subst (Steps t.setup.now t.me (local t before) act) ends stepped)))
 
 -- ---- the same, said exactly
-
--- the event was answered
-pub answered : (t : Thread) (before : Links) (new : Thread) (after : Links) (event : RegEvent) (answer : Answer) (decided : Decided) (registry : Registry)
-    → new ≡ record t { part = record t.part { decided = Some decided } }
-    → after ≡ record before { registry = registry; entries = longer t.me before.entries (acts.Reg event answer) }
-    → registry ≡ registry_after before.registry t.me (Some (record { event = event; answer = answer }))
-    → decision_of answer ≡ Some decided
-    → answer_to t.setup.now before.registry t.me event ≡ Some answer
-    → IsAnswered event t before new after
-answered t before new after event answer decided registry new-is after-is registry-is decision given =
-    let decides : Option Decided → Thread = λ o. record t { part = record t.part { decided = o } } in
-    let logs : Registry → Links = λ r. record before { registry = r; entries = longer t.me before.entries (acts.Reg event answer) } in
-    record {
-      answer = answer;
-      given = given;
-      thread = new-is ∙ sym (ap decides decision);
-      links = after-is ∙ ap logs registry-is;
-    }
 
 pub asked_by : (t : Thread) (before : Links) (new : Thread) (after : Links) (event : RegEvent) (o : Option RegEvent)
     → o ≡ Some event

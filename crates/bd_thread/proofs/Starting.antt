@@ -1,8 +1,7 @@
 -- How a thread and the links begin.
-use Rattle.std.proofs.Common.{◌≡◌, ℕ, zero, suc, ◌+◌, ◌-◌, ◌<◌, Bool, List, [], ◌∷◌, ◌++◌, length, Option, Some, None, replicate, refl, ◌∙◌, ap, slice_index_or, arith}
+use Rattle.std.proofs.Common.{◌≡◌, ℕ, zero, suc, ◌+◌, ◌-◌, ◌<◌, Bool, List, [], ◌∷◌, length, replicate, refl, ◌∙◌, ap, slice_index_or, arith}
 use mathlib.Core.Path.{fun_ext}
-use Rattle.std.specs.List.{cons_option}
-use Rattle.std.specs.Prelude.{option_to_list, false}
+use Rattle.std.specs.Prelude.{false}
 use Rattle.bd_base.specs.declared.act.Entry.{Entry}
 use Rattle.bd_machine.specs.declared.state.Id.{Id}
 use Rattle.bd_machine.specs.declared.state.Kept.{Kept}
@@ -12,11 +11,6 @@ use Rattle.bd_machine.specs.Start.{part_at_start}
 use Rattle.bd_turns.specs.declared.queue.Message.{Message}
 use Rattle.bd_thread.specs.Seen.{here_in, local_at, queues_of}
 use Rattle.bd_thread.specs.Starts.{NewIsAtStart, empty_queues}
-
--- bases found one after another
-pub next_base : {X : Type 0} (o : Option X) (xs : List X) → cons_option o xs ≡ option_to_list o ++ xs
-next_base None xs = refl
-next_base (Some x) xs = refl
 
 -- the same value a number of times
 pub zeros_next : {X : Type 0} (i n : ℕ) (x : X) → i < n → replicate (n - i) x ≡ x ∷ replicate (n - (i + 1)) x

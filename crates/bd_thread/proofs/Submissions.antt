@@ -24,12 +24,12 @@ use Rattle.bd_machine.specs.View.{is_of}
 use Rattle.bd_msg.specs.Purse.{Kept as Purse}
 use Rattle.bd_turns.specs.declared.queue.Message.{Message}
 use Rattle.bd_turns.specs.Local.{Local}
-use Rattle.bd_thread.specs.declared.admission.Asked.{Asked}
+use Rattle.bd_rules.specs.declared.names.Submission.{Submission}
 use Rattle.bd_thread.specs.declared.links.Links.{Links}
 use Rattle.bd_thread.specs.declared.thread.Thread.{Thread}
 use Rattle.bd_thread.specs.Acted.{Acted}
-use Rattle.bd_thread.specs.Requests.{accept_act, accepted, refusal, refuse_act, uncut, view_of, IsAsked, IsFresh, IsOpened}
-use Rattle.bd_thread.specs.Seen.{here_in, local, local_at, longer, queues_of}
+use Rattle.bd_thread.specs.Requests.{accept_act, accepted, refusal, refuse_act, uncut, IsAsked, IsFresh, IsOpened}
+use Rattle.bd_thread.specs.Seen.{here_in, local, local_at, longer, queues_of, view_of}
 use Rattle.bd_thread.proofs.Going.{Steps, steps, still_shut, acted_step}
 
 -- one act that leads to this part and to what is then here
@@ -48,7 +48,7 @@ acted_into old before new after act part here me setup part-is here-is links lea
     acted_step old before new after act me setup (ap (λ (l : Links). vec_len l.queues) links) (ap (λ (l : Links). l.entries) links)
     (subst (λ (l : Local). Steps old.setup.now old.me (local old before) act l) (ap then_is counted ∙ same) leads)
 
-module _ (setup : Setup) (me : ℕ) (part : Part) (here : Id → Option Kept) (registry : Registry) (shut : Bool) (stamp : ℕ) (queues : ℕ → List Message) (running : shut ≡ false) (asked : Asked) where
+module _ (setup : Setup) (me : ℕ) (part : Part) (here : Id → Option Kept) (registry : Registry) (shut : Bool) (stamp : ℕ) (queues : ℕ → List Message) (running : shut ≡ false) (asked : Submission) where
   -- the thread's handle of this number
   abbrev found : HandleId → Option Handle
   found handle = handle_of (filter (is_of me) registry.handles) handle
@@ -103,7 +103,7 @@ module _ (setup : Setup) (me : ℕ) (part : Part) (here : Id → Option Kept) (r
 
 -- ---- the thread
 
-pub opened_acted : (old : Thread) (before : Links) (new : Thread) (after : Links) (req : ReqId) (dev : DevId) (handle : HandleId) (asked : Asked)
+pub opened_acted : (old : Thread) (before : Links) (new : Thread) (after : Links) (req : ReqId) (dev : DevId) (handle : HandleId) (asked : Submission)
     → IsAsked old before (Some handle) asked
     → IsFresh old req
     → refusal old before (Some handle) asked ≡ None
@@ -117,7 +117,7 @@ opened_acted old before new after req dev handle asked is fresh admitted on room
     (accept_steps old.setup.now old.me old.part (here_in old.held.items) before.registry before.shut (length before.entries) (queues_of before.queues.items) is.running asked
     req dev handle is.line is.ranged admitted on fresh.own fresh.above room fresh.names)
 
-pub refused_acted : (old : Thread) (before : Links) (new : Thread) (after : Links) (handle : Option HandleId) (asked : Asked) (errno : Errno)
+pub refused_acted : (old : Thread) (before : Links) (new : Thread) (after : Links) (handle : Option HandleId) (asked : Submission) (errno : Errno)
     → IsAsked old before handle asked
     → refusal old before handle asked ≡ Some errno
     → new ≡ record old { part = record old.part { decided = Some (decisions.Refused errno) } }
@@ -130,7 +130,7 @@ refused_acted old before new after handle asked errno is due thread links =
     handle errno is.line is.ranged due)
 
 -- the place of a ticket is no matter of the local rules
-pub opened_keeping : (old : Thread) (before : Links) (new : Thread) (after : Links) (req : ReqId) (dev : DevId) (handle : HandleId) (asked : Asked) (purse : Purse)
+pub opened_keeping : (old : Thread) (before : Links) (new : Thread) (after : Links) (req : ReqId) (dev : DevId) (handle : HandleId) (asked : Submission) (purse : Purse)
     → IsOpened req dev handle asked old before new after
     → IsOpened req dev handle asked old before (record new { purse = purse }) after
 opened_keeping old before new after req dev handle asked purse opens = record {

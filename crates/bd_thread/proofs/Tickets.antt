@@ -11,10 +11,10 @@ use Rattle.bd_machine.proofs.Tables.{request_same}
 use Rattle.bd_msg.specs.Purse.{without}
 use Rattle.bd_msg.specs.Purse.{Kept as Purse}
 use Rattle.bd_msg.specs.declared.ticket.Finished.{Finished}
-use Rattle.bd_thread.specs.declared.admission.Asked.{Asked}
+use Rattle.bd_rules.specs.declared.names.Submission.{Submission}
 use Rattle.bd_thread.specs.declared.thread.Thread.{Thread}
 use Rattle.bd_thread.specs.Completions.{without_open}
-use Rattle.bd_thread.specs.Requests.{accepted, ids_of, opened, AreDistinct, IsFresh, KeepsTickets}
+use Rattle.bd_thread.specs.Requests.{accepted, ids_of, AreDistinct, IsFresh, KeepsTickets}
 
 -- each id has a number below this one
 abbrev pub AreBelow : ℕ → List ReqId → Type 0
@@ -53,14 +53,14 @@ ids_more : (os : List Open) (o : Open) → ids_of (os ++ o ∷ []) ≡ ids_of os
 ids_more [] o = refl
 ids_more (x ∷ xs) o = ap (λ (ids : List ReqId). x.id ∷ ids) (ids_more xs o)
 
-pub accepted_tickets : (old new : Thread) (req : ReqId) (dev : DevId) (handle : HandleId) (asked : Asked)
+pub accepted_tickets : (old new : Thread) (req : ReqId) (dev : DevId) (handle : HandleId) (asked : Submission)
     → IsFresh old req
     → new.part ≡ accepted old.part req dev handle asked
     → new.purse.ids ≡ old.purse.ids ++ req ∷ []
     → KeepsTickets old
     → KeepsTickets new
 accepted_tickets old new req dev handle asked fresh part ids keeps =
-    let now : ids_of new.part.requests ≡ ids_of old.part.requests ++ req ∷ [] = ap (λ (p : Part). ids_of p.requests) part ∙ ids_more old.part.requests (opened req dev handle asked) in
+    let now : ids_of new.part.requests ≡ ids_of old.part.requests ++ req ∷ [] = ap (λ (p : Part). ids_of p.requests) part ∙ ids_more old.part.requests (record { id = req; handle = handle; dev = dev; op = asked.op }) in
     record {
       tickets = ids ∙ ap (λ (xs : List ReqId). xs ++ req ∷ []) keeps.tickets ∙ sym now;
       distinct = subst AreDistinct (sym now) (distinct_more (ids_of old.part.requests) req old.part.next_request keeps.distinct keeps.given fresh.above);

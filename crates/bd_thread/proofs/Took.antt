@@ -81,13 +81,3 @@ brought_first queue m ms h first = go (brings m.what (Some m.kept)) (ap (λ q. i
     go : (b : Bool) → is_some (cond b (Some m) None) ≡ true → b ≡ true
     go true h = refl
     go false h = h
-
--- the part of the thread, counted and then joined by what came
-pub part_arrived : (p counted new : Part) (sender number : ℕ) (what : Token) (kept : Kept)
-    → number ≡ count_at p.taken sender
-    → counted ≡ record p { taken = write ◌==◌ p.taken sender (count_at p.taken sender + 1) }
-    → new ≡ part_took counted what (Some kept)
-    → new ≡ part_took (record p { taken = write ◌==◌ p.taken sender (number + 1) }) what (Some kept)
-part_arrived p counted new sender number what kept next count arrives =
-    let at : ℕ → Part = λ n. record p { taken = write ◌==◌ p.taken sender (n + 1) } in
-    arrives ∙ ap (λ q. part_took q what (Some kept)) (count ∙ ap at (sym next))

@@ -1,5 +1,5 @@
 -- When a request completes, how, and what that leaves.
-use Rattle.std.specs.Prelude.{◌≡◌, ℕ, Bool, true, false, cond, not, ◌&&◌, ◌==◌, nat_le, List, [], ◌∷◌, length, filter, map, take, Option, Some, None, is_some}
+use Rattle.std.specs.Prelude.{◌≡◌, ℕ, Bool, true, false, cond, not, ◌&&◌, ◌==◌, nat_le, List, [], ◌∷◌, length, filter, take, Option, Some, None, is_some}
 use Rattle.std.specs.List.{list_all, list_any, range_with_len}
 use Rattle.sha2.specs.Sha256.{sha256}
 use Rattle.bd_base.specs.declared.act.Act.TheVariants as acts
@@ -13,24 +13,16 @@ use Rattle.bd_machine.specs.declared.state.Kept.{Kept}
 use Rattle.bd_machine.specs.declared.state.Open.{Open}
 use Rattle.bd_machine.specs.declared.state.OpenPiece.{OpenPiece}
 use Rattle.bd_machine.specs.declared.state.OpenRequest.{OpenRequest}
-use Rattle.bd_machine.specs.Completion.{as_piece, data_of, is_faulted, is_held_progress}
+use Rattle.bd_machine.specs.Completion.{data_of, is_faulted, is_held_progress, pieces_here, request_here}
 use Rattle.bd_machine.specs.Effect.{is_read}
 use Rattle.bd_machine.specs.Same.{same_id, same_request}
+use Rattle.bd_machine.specs.View.{View}
 use Rattle.bd_thread.specs.declared.completion.Ending.{Ending}
 use Rattle.bd_thread.specs.declared.links.Links.{Links}
 use Rattle.bd_thread.specs.declared.thread.Thread.{Thread}
-use Rattle.bd_thread.specs.Cuts.{request_in}
-use Rattle.bd_thread.specs.Seen.{here_in, longer}
+use Rattle.bd_thread.specs.Seen.{here_in, longer, view_of}
 
 -- ---- the pieces
-
--- what is here of a piece
-abbrev pub piece_in : List (Id × Kept) → ReqId → ℕ → Option OpenPiece
-piece_in held req k = as_piece (here_in held (ids.Piece req k))
-
--- the first n pieces of a request, as far as they are here
-abbrev pub pieces_in : List (Id × Kept) → ReqId → ℕ → List (Option OpenPiece)
-pieces_in held req n = map (piece_in held req) (range_with_len 0 n)
 
 -- it is back, with its end
 abbrev pub is_ended : Option OpenPiece → Bool
@@ -59,17 +51,17 @@ succeeds r n pieces = cond (is_read r.op) (read_as n (shown_of (data_of pieces))
 abbrev pub ends_by : OpenRequest → ℕ → List (Option OpenPiece) → Option Ending
 ends_by r n pieces = cond (list_any is_faulted pieces) (Some (record { pieces = n; status = Failed; shown = None })) (succeeds r n pieces)
 
-abbrev pub ending_cut : List (Id × Kept) → ReqId → OpenRequest → Option ℕ → Option Ending
-ending_cut held req r None = None
-ending_cut held req r (Some n) = cond (list_all is_ended (pieces_in held req n)) (ends_by r n (pieces_in held req n)) None
+abbrev pub ending_cut : View → ReqId → OpenRequest → Option ℕ → Option Ending
+ending_cut v req r None = None
+ending_cut v req r (Some n) = cond (list_all is_ended (pieces_here v req n)) (ends_by r n (pieces_here v req n)) None
 
-abbrev pub ending_in : ℕ → List (Id × Kept) → ReqId → Option OpenRequest → Option Ending
-ending_in me held req None = None
-ending_in me held req (Some r) = cond (req.thread == me) (ending_cut held req r r.pieces) None
+abbrev pub ending_in : ℕ → View → ReqId → Option OpenRequest → Option Ending
+ending_in me v req None = None
+ending_in me v req (Some r) = cond (req.thread == me) (ending_cut v req r r.pieces) None
 
 -- how a request completes that is here on its own thread and cut, where every piece of it is back with its end; a read with success only where it has 8 bytes to show
-abbrev pub ending_of : ℕ → List (Id × Kept) → ReqId → Option Ending
-ending_of me held req = ending_in me held req (request_in held req)
+abbrev pub ending_of : ℕ → View → ReqId → Option Ending
+ending_of me v req = ending_in me v req (request_here v req)
 
 -- ---- what it leaves
 
@@ -100,4 +92,4 @@ CompletesBy req old before new after done (Some ending) = (done ≡ true) × IsC
 
 -- it completes where it may; else nothing changes
 abbrev pub Completes : ReqId → Thread → Links → Thread → Links → Bool → Type 0
-Completes req old before new after done = CompletesBy req old before new after done (ending_of old.me old.held.items req)
+Completes req old before new after done = CompletesBy req old before new after done (ending_of old.me (view_of old before) req)

@@ -5,21 +5,14 @@ use Rattle.bd_base.specs.declared.act.Act.TheVariants as acts
 use Rattle.bd_base.specs.declared.act.Token.{Token}
 use Rattle.bd_base.specs.declared.act.Token.TheVariants as tokens
 use Rattle.bd_base.specs.declared.id.ReqId.{ReqId}
-use Rattle.bd_machine.specs.declared.state.Id.{Id}
-use Rattle.bd_machine.specs.declared.state.Id.TheVariants as ids
-use Rattle.bd_machine.specs.declared.state.Kept.{Kept}
 use Rattle.bd_machine.specs.declared.state.OpenRequest.{OpenRequest}
 use Rattle.bd_machine.specs.Alone.{held_after}
 use Rattle.bd_machine.specs.BlockMap.{home}
-use Rattle.bd_machine.specs.Completion.{as_request}
+use Rattle.bd_machine.specs.Completion.{request_here}
 use Rattle.bd_machine.specs.Requests.{cut_into, extents_of, may_cut}
 use Rattle.bd_thread.specs.declared.links.Links.{Links}
 use Rattle.bd_thread.specs.declared.thread.Thread.{Thread}
-use Rattle.bd_thread.specs.Seen.{here_in, longer}
-
--- what is here of a request
-abbrev pub request_in : List (Id × Kept) → ReqId → Option OpenRequest
-request_in held req = as_request (here_in held (ids.Request req))
+use Rattle.bd_thread.specs.Seen.{here_in, longer, view_of}
 
 -- a piece that is still to be put to a thread
 abbrev pub piece_to : ℕ → ReqId → ℕ → ℕ × Token
@@ -42,4 +35,4 @@ CutsBy req n old before new after _ _ = (n ≡ 0) × (new ≡ old) × (after ≡
 
 -- where the request is here on its own thread, has a range and isn't cut, it is cut into n pieces; else n is 0, and nothing changes
 abbrev pub Cuts : ReqId → Thread → Links → Thread → Links → ℕ → Type 0
-Cuts req old before new after n = CutsBy req n old before new after (may_cut old.me req (request_in old.held.items req)) (request_in old.held.items req)
+Cuts req old before new after n = CutsBy req n old before new after (may_cut old.me req (request_here (view_of old before) req)) (request_here (view_of old before) req)

@@ -1,23 +1,20 @@
 -- What a line asks of the registry, and what the answer leaves; what a line's end changes, and when it comes.
-use Rattle.std.specs.Prelude.{◌≡◌, ℕ, ◌+◌, Bool, true, false, cond, ◌++◌, ◌==◌, Option, Some, None, is_none}
+use Rattle.std.specs.Prelude.{◌≡◌, Bool, true, false, cond, ◌==◌, Option, Some, None, is_none}
 use Rattle.bd_base.specs.declared.act.Act.TheVariants as acts
 use Rattle.bd_base.specs.declared.act.Outcome.{Outcome}
 use Rattle.bd_base.specs.declared.job.Job.{Job}
 use Rattle.bd_base.specs.declared.job.Line.{Line}
-use Rattle.bd_base.specs.declared.setup.Setup.{Setup}
 use Rattle.bd_machine.specs.declared.state.Part.{Part}
 use Rattle.bd_machine.specs.Asked.{bound_to, next_line, open_on, outcome_due, undecided_job}
 use Rattle.bd_base.specs.declared.event.Answer.{Answer}
-use Rattle.bd_base.specs.declared.event.Answer.TheVariants as answers
 use Rattle.bd_base.specs.declared.event.RegEvent.{RegEvent}
 use Rattle.bd_base.specs.declared.event.RegEvent.TheVariants as events
 use Rattle.bd_base.specs.declared.id.HandleId.{HandleId}
 use Rattle.bd_base.specs.declared.job.Job.TheVariants as jobs
-use Rattle.bd_base.specs.declared.request.Errno.{Errno}
-use Rattle.bd_machine.specs.declared.state.Handle.{Handle}
 use Rattle.bd_machine.specs.Events.{decision_of}
-use Rattle.bd_machine.specs.Registry.{answer_to, close_answer, registry_after}
-use Rattle.bd_machine.specs.Scripts.{bound_after, posted}
+use Rattle.bd_machine.specs.Registry.{answer_to, registry_after}
+use Rattle.bd_machine.specs.Scripts.{change_job}
+use Rattle.bd_changes.specs.Lone.{lone}
 use Rattle.bd_thread.specs.declared.links.Links.{Links}
 use Rattle.bd_thread.specs.declared.thread.Thread.{Thread}
 use Rattle.bd_thread.specs.Seen.{longer}
@@ -65,20 +62,11 @@ Closes old before new after asked = AsksBy old before new after asked (close_ask
 
 -- ---- a line's end
 
--- the line that asks for this is done: the next one is to come, undecided
-abbrev pub IsDone : Setup → Job → Part → Part → Type 0
-IsDone setup job old new = new ≡ record old {
-  next = old.next + 1;
-  decided = None;
-  bound = bound_after (Some job) old.decided old.bound;
-  due = old.due ++ posted setup (Some job);
-}
-
 -- the next line ended so: it is done, one Script says how it ended, and all else stayed
 pub record IsEnded (outcome : Outcome) (old : Thread) (before : Links) (new : Thread) (after : Links) : Type 0 where
   pub line : Line
   pub next : next_line old.setup.now old.me old.part ≡ Some line
-  pub part : IsDone old.setup.now line.job old.part new.part
+  pub part : new.part ≡ (change_job old.setup.now (lone old.part) (Some line.job)).part
   pub thread : new ≡ record old { part = new.part }
   pub links : after ≡ record before { entries = longer old.me before.entries (acts.Script line.number outcome) }
 
@@ -93,13 +81,3 @@ outcome_now t links = cond links.shut None (outcome_due t.setup.now t.me t.part)
 
 abbrev pub EndsLine : Thread → Links → Thread → Links → Bool → Type 0
 EndsLine old before new after ended = EndsBy old before new after ended (outcome_now old before)
-
--- ---- a close
-
--- the registry's answer to a close: granted without an errno, refused with this one
-abbrev pub close_answer_by : Option Errno → Answer
-close_answer_by None = answers.Closed None
-close_answer_by (Some errno) = answers.Refused errno
-
-abbrev pub RefusesClose : ℕ → Option Handle → Option Errno → Type 0
-RefusesClose thread handle refusal = close_answer thread handle ≡ close_answer_by refusal

@@ -1,5 +1,5 @@
 -- A thread's own requests: what a submission asks and what it leaves.
-use Rattle.std.specs.Prelude.{◌≡◌, ◌+◌, ◌<◌, ◌≤◌, true, false, List, [], ◌∷◌, ◌++◌, length, map, Option, Some, None}
+use Rattle.std.specs.Prelude.{◌≡◌, ◌<◌, ◌≤◌, true, false, List, [], ◌∷◌, ◌++◌, length, map, Option, Some, None}
 use Rattle.std.specs.List.{AllByRecursion, list_any}
 use Rattle.bd_base.specs.declared.act.Act.{Act}
 use Rattle.bd_base.specs.declared.act.Act.TheVariants as acts
@@ -16,24 +16,21 @@ use Rattle.bd_machine.specs.declared.state.Part.{Part}
 use Rattle.bd_machine.specs.Admission.{has_range, refusal_of}
 use Rattle.bd_machine.specs.Asked.{is_handle_on, is_job_submit, most_requests, no_request, undecided_job}
 use Rattle.bd_machine.specs.Registry.{handle_of}
+use Rattle.bd_machine.specs.Requests.{change_accept}
 use Rattle.bd_machine.specs.Same.{same_request}
-use Rattle.bd_machine.specs.View.{View}
-use Rattle.bd_thread.specs.declared.admission.Asked.{Asked}
+use Rattle.bd_changes.specs.Lone.{lone}
+use Rattle.bd_rules.specs.declared.names.Submission.{Submission}
 use Rattle.bd_thread.specs.declared.links.Links.{Links}
 use Rattle.bd_thread.specs.declared.requests.Refused.{Refused}
 use Rattle.bd_thread.specs.declared.requests.Refused.TheVariants as refusals
 use Rattle.bd_thread.specs.declared.thread.Thread.{Thread}
 use Rattle.bd_thread.specs.Acted.{Acted}
-use Rattle.bd_thread.specs.Seen.{Sets, local, longer}
-
--- what the thread sees
-abbrev pub view_of : Thread → Links → View
-view_of t links = (local t links).view
+use Rattle.bd_thread.specs.Seen.{Sets, longer, view_of}
 
 -- ---- what is asked of a thread
 
 -- the next line asks for this submission on a range, nothing decided it, and no Shutdown came
-pub record IsAsked (t : Thread) (links : Links) (handle : Option HandleId) (asked : Asked) : Type 0 where
+pub record IsAsked (t : Thread) (links : Links) (handle : Option HandleId) (asked : Submission) : Type 0 where
   pub running : links.shut ≡ false
   pub line : is_job_submit t.part handle asked.op asked.lba asked.count (undecided_job t.setup.now t.me t.part) ≡ true
   pub ranged : has_range asked.op ≡ true
@@ -45,61 +42,54 @@ pub record IsFresh (t : Thread) (id : ReqId) : Type 0 where
   pub names : id.seq < no_request
 
 -- why the definitions refuse it, if they do
-abbrev pub refusal : Thread → Links → Option HandleId → Asked → Option Errno
+abbrev pub refusal : Thread → Links → Option HandleId → Submission → Option Errno
 refusal t links handle asked = refusal_of t.setup.now (view_of t links) handle asked.op asked.lba asked.count
 
 -- ---- what it leaves
 
-abbrev pub refuse_act : Option HandleId → Asked → Errno → Act
+abbrev pub refuse_act : Option HandleId → Submission → Errno → Act
 refuse_act handle asked errno = acts.Refuse handle asked.op asked.lba asked.count errno
 
 -- it was refused by this errno: that decided the line, the entry says so, and all else stayed
-pub record IsRefused (errno : Errno) (handle : Option HandleId) (asked : Asked) (old : Thread) (before : Links) (new : Thread) (after : Links) : Type 0 where
+pub record IsRefused (errno : Errno) (handle : Option HandleId) (asked : Submission) (old : Thread) (before : Links) (new : Thread) (after : Links) : Type 0 where
   pub due : refusal old before handle asked ≡ Some errno
   pub acted : Acted old before new after
   pub thread : new ≡ record old { part = record old.part { decided = Some (decisions.Refused errno) } }
   pub links : after ≡ record before { entries = longer old.me before.entries (refuse_act handle asked errno) }
 
 -- no cause refuses it, but as many requests are open as may be: nothing changed
-pub record IsFull (handle : HandleId) (asked : Asked) (old : Thread) (before : Links) (new : Thread) (after : Links) : Type 0 where
+pub record IsFull (handle : HandleId) (asked : Submission) (old : Thread) (before : Links) (new : Thread) (after : Links) : Type 0 where
   pub admitted : refusal old before (Some handle) asked ≡ None
   pub full : most_requests ≤ length old.part.requests
   pub thread : new ≡ old
   pub links : after ≡ before
 
 -- what a refusal leaves; after out of memory nothing is said
-abbrev pub Refuses : Refused → HandleId → Asked → Thread → Links → Thread → Links → Type 0
+abbrev pub Refuses : Refused → HandleId → Submission → Thread → Links → Thread → Links → Type 0
 Refuses (refusals.Errno errno) handle asked old before new after = IsRefused errno (Some handle) asked old before new after
 Refuses refusals.Full handle asked old before new after = IsFull handle asked old before new after
 Refuses refusals.OutOfMemory handle asked old before new after = Unit {0}
 
-abbrev pub accept_act : ReqId → DevId → HandleId → Asked → Act
+abbrev pub accept_act : ReqId → DevId → HandleId → Submission → Act
 accept_act req dev handle asked = acts.Accept req dev handle asked.op asked.lba asked.count
 
 -- a request that isn't cut
-abbrev pub uncut : DevId → HandleId → Asked → Kept
+abbrev pub uncut : DevId → HandleId → Submission → Kept
 uncut dev handle asked = keeps.Request (record { handle = handle; dev = dev; op = asked.op; lba = asked.lba; count = asked.count; pieces = None })
 
-abbrev pub opened : ReqId → DevId → HandleId → Asked → Open
-opened req dev handle asked = record { id = req; handle = handle; dev = dev; op = asked.op }
-
 -- the part with this request accepted
-abbrev pub accepted : Part → ReqId → DevId → HandleId → Asked → Part
-accepted part req dev handle asked = record part {
-  decided = Some (decisions.Accepted req);
-  next_request = req.seq + 1;
-  requests = part.requests ++ opened req dev handle asked ∷ [];
-}
+abbrev pub accepted : Part → ReqId → DevId → HandleId → Submission → Part
+accepted part req dev handle asked = (change_accept (lone part) req dev handle asked.op asked.lba asked.count).part
 
 -- it was accepted by this id: the request is open and here, and the entry says so
-pub record IsOpened (req : ReqId) (dev : DevId) (handle : HandleId) (asked : Asked) (old : Thread) (before : Links) (new : Thread) (after : Links) : Type 0 where
+pub record IsOpened (req : ReqId) (dev : DevId) (handle : HandleId) (asked : Submission) (old : Thread) (before : Links) (new : Thread) (after : Links) : Type 0 where
   pub part : new.part ≡ accepted old.part req dev handle asked
   pub held : Sets old.held.items new.held.items (ids.Request req) (Some (uncut dev handle asked))
   pub thread : new ≡ record old { part = new.part; held = new.held; purse = new.purse }
   pub links : after ≡ record before { entries = longer old.me before.entries (accept_act req dev handle asked) }
 
 -- nothing spoke against it, there was room, and its ticket is kept
-pub record IsAccepted (req : ReqId) (handle : HandleId) (asked : Asked) (old : Thread) (before : Links) (new : Thread) (after : Links) : Type 0 where
+pub record IsAccepted (req : ReqId) (handle : HandleId) (asked : Submission) (old : Thread) (before : Links) (new : Thread) (after : Links) : Type 0 where
   pub admitted : refusal old before (Some handle) asked ≡ None
   pub room : length old.part.requests < most_requests
   pub dev : DevId

@@ -9,11 +9,12 @@ use Rattle.bd_machine.specs.declared.state.Part.{Part}
 use Rattle.bd_machine.specs.declared.state.Registry.{Registry}
 use Rattle.bd_machine.specs.Same.{same_id}
 use Rattle.bd_machine.specs.Table.{look_up}
-use Rattle.bd_machine.specs.View.{is_of}
+use Rattle.bd_machine.specs.View.{View, is_of}
 use Rattle.bd_turns.specs.declared.queue.Message.{Message}
 use Rattle.bd_turns.specs.Local.{Local}
 use Rattle.bd_thread.specs.declared.links.Links.{Links}
 use Rattle.bd_thread.specs.declared.thread.Thread.{Thread}
+use Rattle.bd_thread.specs.declared.view.Seen.{Seen}
 
 -- what is here of a token
 abbrev pub here_in : List (Id × Kept) → Id → Option Kept
@@ -46,6 +47,14 @@ local_at me part here registry shut stamp queues = record {
 -- what the thread sees and what is shared
 abbrev pub local : Thread → Links → Local
 local t links = local_at t.me t.part (here_in t.held.items) links.registry links.shut (length links.entries) (queues_of links.queues.items)
+
+-- what the thread sees
+abbrev pub view_of : Thread → Links → View
+view_of t links = (local t links).view
+
+-- the same, by its parts
+abbrev pub view_seen : Seen → View
+view_seen s = record { part = s.part.now; here = here_in s.held.now; handles = filter (is_of s.me) s.handles.now }
 
 -- which thread it is, and of which setup, for the crates above
 abbrev pub number_of : Thread → ℕ

@@ -5,7 +5,7 @@ use Rattle.bd_base.specs.declared.act.Token.TheVariants as tokens
 use Rattle.bd_base.specs.declared.id.DevId.{DevId}
 use Rattle.bd_base.specs.declared.job.Job.{Job}
 use Rattle.bd_base.specs.declared.job.Job.TheVariants as jobs
-use Rattle.bd_home.specs.Destructs.{digest_due, may_go as may_device_go}
+use Rattle.bd_blocks.specs.Digests.{digest_due}
 use Rattle.bd_machine.specs.declared.state.Due.{Due}
 use Rattle.bd_machine.specs.declared.state.News.{News}
 use Rattle.bd_machine.specs.declared.state.News.TheVariants.{Mark}
@@ -19,6 +19,7 @@ use Rattle.bd_thread.specs.declared.links.Links.{Links}
 use Rattle.bd_thread.specs.declared.thread.Thread.{Thread}
 use Rattle.bd_thread.specs.declared.turn.Turned.{Turned}
 use Rattle.bd_thread.specs.declared.turn.Turned.TheVariants.{Moved, Quiet}
+use Rattle.bd_thread.specs.Destructs.{may_device_go}
 use Rattle.bd_thread.specs.Endings.{left_over}
 use Rattle.bd_thread.specs.Lines.{close_asked, job_now, open_asked, outcome_now}
 use Rattle.bd_thread.specs.Seen.{local, queues_of}
@@ -90,7 +91,7 @@ NoHandle t links = left_over t links ≡ None
 
 -- the device may be destructed, and what its entry shows is here
 abbrev pub may_destruct : Thread → Links → DevId → Bool
-may_destruct t links dev = may_device_go t.setup.now t.me t.part links.registry links.shut dev && is_some (digest_due (is_malloc t.setup.now dev) (find (is_base dev) t.part.bases))
+may_destruct t links dev = may_device_go t links dev && is_some (digest_due (is_malloc t.setup.now dev) (find (is_base dev) t.part.bases))
 
 abbrev pub NoDestructOn : DevId → Thread → Links → Type 0
 NoDestructOn dev t links = may_destruct t links dev ≡ false

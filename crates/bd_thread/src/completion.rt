@@ -1,16 +1,16 @@
 //! When a request completes, and how.
 ghost use Rattle.std.specs.Prelude.{◌≡◌, length, IfOk, option_copied, Some};
-ghost use Rattle.std.specs.List.{list_all, list_any, range_with_len};
-ghost use Rattle.bd_machine.specs.Completion.{both_bytes, bytes_of, data_of, is_faulted};
-ghost use Rattle.bd_thread.specs.Completions.{ended, ending_cut, ending_of, ends_by, gone, is_ended, piece_in, pieces_in, read_as, shown_by, shown_of, succeeds, without_open};
-ghost use Rattle.bd_thread.specs.Cuts.{request_in};
-ghost use Rattle.bd_thread.specs.Seen.{here_in};
+ghost use Rattle.std.specs.List.{list_all, range_with_len};
+ghost use Rattle.bd_machine.specs.Completion.{pieces_here};
+ghost use Rattle.bd_thread.specs.Completions.{ended, ending_cut, ending_of, ends_by, gone, is_ended, read_as, shown_by, shown_of, succeeds};
+ghost use Rattle.bd_thread.specs.Seen.{here_in, view_seen};
 
-use crate::held::{held, let_go};
-use bd_base::{ApplyEnd, Bytes, Op, OutOfMemory, ReqId, Rows, Shown, Status, digest_of};
-use bd_machine::{Id, Kept, Open, OpenPiece, OpenRequest, Progress};
+use crate::held::let_go;
+use crate::view::Seen;
+use bd_base::{Bytes, Op, OutOfMemory, ReqId, Shown, Status, digest_of};
+use bd_machine::{Id, Kept, OpenPiece, OpenRequest, Progress};
+use bd_rules::{PieceId, any_faulted, data_of, piece_here, request_here};
 use std::alloc::Global;
-use std::mem::replace;
 
 /// How a request with this number of pieces completes; a read with success shows its data.
 #[derive(Clone, Copy)]
@@ -18,25 +18,6 @@ pub(crate) struct Ending {
     pub pieces: u32,
     pub status: Status,
     pub shown: Option<Shown>,
-}
-
-/// What is here of a request.
-pub(crate) fn request_here(tokens: &[(Id, Kept)], req: ReqId) -> Option<OpenRequest>
-    ensures { result ≡ request_in tokens.now req }
-{
-    match held(tokens, Id::Request(req)) {
-        Some(Kept::Request(r)) => Some(*r),
-        _ => None,
-    }
-}
-
-fn piece_here(tokens: &[(Id, Kept)], req: ReqId, k: u32) -> Option<&OpenPiece>
-    ensures { option_copied result ≡ piece_in tokens.now req k }
-{
-    match held(tokens, Id::Piece(req, k)) {
-        Some(Kept::Piece(p)) => Some(p),
-        _ => None,
-    }
 }
 
 fn is_ended(piece: Option<&OpenPiece>) -> bool
@@ -48,77 +29,17 @@ fn is_ended(piece: Option<&OpenPiece>) -> bool
     }
 }
 
-fn is_faulted(piece: Option<&OpenPiece>) -> bool
-    ensures { result ≡ is_faulted (option_copied piece.entry) }
-{
-    match piece {
-        Some(p) => matches!(p.end, Some(ApplyEnd::Fault)),
-        None => false,
-    }
-}
-
 // Every one of the first n pieces is back with its end.
 #[tactic(auto, using(crate::proofs::Left::left_from))]
-fn all_ended(tokens: &[(Id, Kept)], req: ReqId, n: u32) -> bool
-    ensures { result ≡ list_all is_ended (pieces_in tokens.now req n) }
+fn all_ended(seen: &Seen, req: ReqId, n: u32) -> bool
+    ensures { result ≡ list_all is_ended (pieces_here (view_seen seen.now) req n) }
 {
     for k in 0..n {
-        if !is_ended(piece_here(tokens, req, k)) {
+        if !is_ended(piece_here(seen, PieceId { req, k })) {
             return false;
         }
     }
     true
-}
-
-#[tactic(auto, using(crate::proofs::Left::left_from))]
-fn any_faulted(tokens: &[(Id, Kept)], req: ReqId, n: u32) -> bool
-    ensures { result ≡ list_any is_faulted (pieces_in tokens.now req n) }
-{
-    for k in 0..n {
-        if is_faulted(piece_here(tokens, req, k)) {
-            return true;
-        }
-    }
-    false
-}
-
-// The bytes so far, and after them those that a piece read; none where they are untold.
-fn append_read(
-    so_far: Option<Bytes>,
-    piece: Option<&OpenPiece>,
-) -> Result<Option<Bytes>, OutOfMemory>
-    ensures { IfOk result (λ bytes. bytes ≡ both_bytes so_far (bytes_of (option_copied piece.entry))) }
-{
-    let Some(mut bytes) = so_far else {
-        return Ok(None);
-    };
-    let Some(p) = piece else {
-        return Ok(None);
-    };
-    match &p.read {
-        Some(more) => {
-            bytes.append(more.as_slice())?;
-            Ok(Some(bytes))
-        }
-        None => Ok(None),
-    }
-}
-
-// The data of the first n pieces in order; none where a part of it is untold.
-#[tactic(auto, using(crate::proofs::Left::left_from, crate::proofs::Data::both_assoc, crate::proofs::Data::both_none, crate::proofs::Data::both_end))]
-fn data_of(
-    alloc: Global,
-    tokens: &[(Id, Kept)],
-    req: ReqId,
-    n: u32,
-) -> Result<Option<Bytes>, OutOfMemory>
-    ensures { IfOk result (λ bytes. bytes ≡ data_of (pieces_in tokens.now req n)) }
-{
-    let mut bytes = Some(Bytes::new(alloc));
-    for k in 0..n {
-        bytes = append_read(bytes, piece_here(tokens, req, k))?;
-    }
-    Ok(bytes)
 }
 
 // The first 8 bytes and the digest, where there are as many.
@@ -161,12 +82,12 @@ fn read_as(pieces: u32, shown: Option<Shown>) -> Option<Ending>
 // How a request completes none of whose pieces has a fault.
 fn succeeds(
     alloc: Global,
-    tokens: &[(Id, Kept)],
+    seen: &Seen,
     req: ReqId,
     r: OpenRequest,
     n: u32,
 ) -> Result<Option<Ending>, OutOfMemory>
-    ensures { IfOk result (λ e. e ≡ succeeds r n (pieces_in tokens.now req n)) }
+    ensures { IfOk result (λ e. e ≡ succeeds r n (pieces_here (view_seen seen.now) req n)) }
 {
     if !matches!(r.op, Op::Read) {
         return Ok(Some(Ending {
@@ -175,42 +96,42 @@ fn succeeds(
             shown: None,
         }));
     }
-    let data = data_of(alloc, tokens, req, n)?;
+    let data = data_of(alloc, seen, req, n)?;
     Ok(read_as(n, shown_of(&data)))
 }
 
 fn ends_by(
     alloc: Global,
-    tokens: &[(Id, Kept)],
+    seen: &Seen,
     req: ReqId,
     r: OpenRequest,
     n: u32,
 ) -> Result<Option<Ending>, OutOfMemory>
-    ensures { IfOk result (λ e. e ≡ ends_by r n (pieces_in tokens.now req n)) }
+    ensures { IfOk result (λ e. e ≡ ends_by r n (pieces_here (view_seen seen.now) req n)) }
 {
-    if any_faulted(tokens, req, n) {
+    if any_faulted(seen, req, n) {
         Ok(Some(Ending {
             pieces: n,
             status: Status::Failed,
             shown: None,
         }))
     } else {
-        succeeds(alloc, tokens, req, r, n)
+        succeeds(alloc, seen, req, r, n)
     }
 }
 
 fn ending_cut(
     alloc: Global,
-    tokens: &[(Id, Kept)],
+    seen: &Seen,
     req: ReqId,
     r: OpenRequest,
 ) -> Result<Option<Ending>, OutOfMemory>
-    ensures { IfOk result (λ e. e ≡ ending_cut tokens.now req r r.pieces) }
+    ensures { IfOk result (λ e. e ≡ ending_cut (view_seen seen.now) req r r.pieces) }
 {
     match r.pieces {
         Some(n) => {
-            if all_ended(tokens, req, n) {
-                ends_by(alloc, tokens, req, r, n)
+            if all_ended(seen, req, n) {
+                ends_by(alloc, seen, req, r, n)
             } else {
                 Ok(None)
             }
@@ -223,16 +144,16 @@ fn ending_cut(
 /// with its end.
 pub(crate) fn ending_of(
     alloc: Global,
-    tokens: &[(Id, Kept)],
+    seen: &Seen,
     me: u32,
     req: ReqId,
 ) -> Result<Option<Ending>, OutOfMemory>
-    ensures { IfOk result (λ e. e ≡ ending_of me tokens.now req) }
+    ensures { IfOk result (λ e. e ≡ ending_of me (view_seen seen.now) req) }
 {
-    match request_here(tokens, req) {
+    match request_here(seen, req) {
         Some(r) => {
             if req.thread == me {
-                ending_cut(alloc, tokens, req, r)
+                ending_cut(alloc, seen, req, r)
             } else {
                 Ok(None)
             }
@@ -257,13 +178,4 @@ pub(crate) fn drop_request(tokens: &mut Vec<(Id, Kept)>, req: ReqId, n: u32)
 {
     let_go(tokens, Id::Request(req));
     drop_pieces(tokens, req, n);
-}
-
-/// Takes a request out of those that are open.
-pub(crate) fn remove_open(alloc: Global, requests: &mut Rows<Open>, req: ReqId)
-    ensures { requests.new ≡ without_open req requests.old }
-{
-    let mut left = replace(requests, Rows::new(alloc)).into_vec();
-    left.retain(|r| !(r.id.thread == req.thread && r.id.seq == req.seq));
-    *requests = Rows::from_vec(left);
 }

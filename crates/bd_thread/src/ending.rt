@@ -6,12 +6,12 @@ ghost use Rattle.bd_thread.specs.Endings.{ClosesLeft, first_own, is_of_if_any, l
 ghost use Rattle.bd_thread.specs.Requests.{KeepsTickets};
 ghost use Rattle.bd_thread.specs.Waits.{Idles, NoDestruct, NoHandle, NothingLeft};
 
-use crate::lines::release;
 use crate::links::{Links, add};
-use crate::rules::{handle_of, open_on};
 use crate::thread::Thread;
 use bd_base::{Act, Answer, DevId, HandleId, OutOfMemory, RegEvent};
+use bd_changes::register;
 use bd_machine::{Handle, Part};
+use bd_rules::{handle_of, open_on};
 
 // The first handle of the thread.
 fn first_own(handles: &[Handle], me: u32) -> Option<HandleId>
@@ -65,9 +65,9 @@ impl<'a> Thread<'a> {
         let Some(id) = self.left_over(links) else {
             return Ok(false);
         };
-        release(self.alloc, &mut links.registry, self.me, id);
         let event = RegEvent::Close { handle: id };
         let answer = Answer::Closed { destruct: None };
+        register(self.alloc, &mut links.registry, self.me, &event, &answer)?;
         add(&mut links.entries, self.me, Act::Reg { event, answer })?;
         Ok(true)
     }

@@ -1,8 +1,7 @@
 //! What a home does: it applies pieces to its base devices, and destructs its devices.
-ghost use Rattle.std.specs.Prelude.{◌≡◌, ◌<◌, IfOk, IfSome, OnOk, find, option_copied, vec_len, true};
+ghost use Rattle.std.specs.Prelude.{◌≡◌, ◌<◌, IfOk, IfSome, OnOk, find, vec_len, true};
 ghost use Rattle.std.specs.Option.{option_map};
 ghost use Rattle.bd_machine.specs.BlockMap.{size_of};
-ghost use Rattle.bd_machine.specs.Completion.{as_piece};
 ghost use Rattle.bd_machine.specs.Homes.{is_base, is_home};
 ghost use Rattle.bd_thread.specs.Acted.{Acted};
 ghost use Rattle.bd_thread.specs.Destructs.{Destructs};
@@ -12,22 +11,14 @@ ghost use Rattle.bd_thread.specs.Seen.{here_in};
 ghost use Rattle.bd_thread.specs.Sent.{KeepsRequests};
 ghost use Rattle.bd_thread.specs.Served.{Applies, next_due, next_in};
 
-use crate::held::{held, hold};
+use crate::held::hold;
 use crate::links::{Links, add};
 use crate::thread::Thread;
 use bd_base::{Act, ApplyEnd, DevId, OutOfMemory, ReqId};
-use bd_home::{can_serve, digest_due, first_waiting, is_home, may_go, serve, size_of};
+use bd_blocks::{digest_due, is_home, size_of};
+use bd_home::{can_serve, first_waiting, serve};
 use bd_machine::{Base, Id, Kept, OpenPiece};
-
-// A piece that is here.
-fn piece_here(tokens: &[(Id, Kept)], id: Id) -> Option<&OpenPiece>
-    ensures { option_copied result ≡ as_piece (here_in tokens.now id) }
-{
-    match held(tokens, id) {
-        Some(Kept::Piece(p)) => Some(p),
-        _ => None,
-    }
-}
+use bd_rules::{as_piece, is_unused, look_up, may_destruct};
 
 // The piece that a thread serves next, by its name, as it is kept here.
 #[derive(Clone, Copy)]
@@ -43,7 +34,7 @@ fn next_in<'t>(bases: &[Base], tokens: &'t [(Id, Kept)], size: u32, dev: DevId) 
     ensures due { option_map id_of result ≡ next_in size dev (here_in tokens.now) (find (is_base dev) bases.now) }
 {
     let (req, k) = first_waiting(bases, dev)?;
-    let piece = piece_here(tokens, Id::Piece(req, k))?;
+    let piece = as_piece(look_up(tokens, Id::Piece(req, k)))?;
     if can_serve(bases, size, dev, piece) {
         Some(Next { req, k, piece })
     } else {
@@ -97,7 +88,9 @@ impl<'a> Thread<'a> {
         ensures destructed { IfOk result (Destructs self.old links.old self.new links.new dev) }
     {
         let setup = self.setup;
-        if !may_go(setup, self.me, &self.part, &links.registry, links.shut, dev) {
+        let unused = is_unused(&links.registry, dev);
+        let may = may_destruct(&self.seen(links), setup, self.me, unused, links.shut, dev);
+        if !may {
             return Ok(false);
         }
         let Some(digest) = digest_due(setup, self.part.bases.as_slice(), dev) else {

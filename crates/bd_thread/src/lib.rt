@@ -1,7 +1,6 @@
 //! One thread of the layer: what it holds, and its turn.
 #![tactic(auto)]
 
-mod admission;
 mod completion;
 mod ending;
 mod held;
@@ -13,13 +12,11 @@ mod messages;
 mod pieces;
 mod requests;
 mod resting;
-mod rules;
-mod start;
-mod table;
 #[cfg(test)]
 mod tests;
 mod thread;
 mod turn;
+mod view;
 
 pub use links::{Links, Queue};
 pub use requests::Refused;

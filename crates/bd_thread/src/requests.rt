@@ -2,26 +2,26 @@
 ghost use Rattle.std.specs.Prelude.{◌≡◌, ◌<◌, length, vec_len, Some, None, IfOk, IfErr, IfSome, IfNone, OnOk, true, false};
 ghost use Rattle.bd_msg.specs.Purse.{without};
 ghost use Rattle.bd_machine.specs.Asked.{is_handle_on};
+ghost use Rattle.bd_machine.specs.Completion.{request_here};
 ghost use Rattle.bd_machine.specs.Registry.{handle_of};
 ghost use Rattle.bd_machine.specs.Requests.{may_cut};
 ghost use Rattle.bd_thread.specs.Acted.{Acted};
 ghost use Rattle.bd_thread.specs.Completions.{ending_of, Completes, IsCompleted};
-ghost use Rattle.bd_thread.specs.Cuts.{request_in, Cuts, IsCut};
-ghost use Rattle.bd_thread.specs.Seen.{number_of};
-ghost use Rattle.bd_thread.specs.Requests.{refusal, view_of, IsAccepted, IsAsked, IsFresh, IsOpened, IsRefused, KeepsTickets, Refuses};
+ghost use Rattle.bd_thread.specs.Cuts.{Cuts, IsCut};
+ghost use Rattle.bd_thread.specs.Requests.{refusal, IsAccepted, IsAsked, IsFresh, IsOpened, IsRefused, KeepsTickets, Refuses};
+ghost use Rattle.bd_thread.specs.Seen.{number_of, view_of};
 
-use crate::admission::{Asked, admit, has_range, own_handle};
-use crate::completion::{Ending, drop_request, ending_of, remove_open, request_here};
+use crate::completion::{Ending, drop_request, ending_of};
 use crate::held::hold;
 use crate::links::{Links, add};
-use crate::pieces::{extents, hold_pieces, home, send_pieces};
+use crate::pieces::{hold_pieces, send_pieces};
 use crate::thread::Thread;
-use bd_base::{Act, DevId, Errno, HandleId, Op, OutOfMemory, ReqId, Rows, Status};
-use bd_machine::{Decided, Extent, Id, Kept, Open, OpenRequest};
+use bd_base::{Act, DevId, Errno, HandleId, OutOfMemory, ReqId, Rows, Status};
+use bd_blocks::{extents, home};
+use bd_changes::{accepted, remove_open};
+use bd_machine::{Decided, Extent, Id, Kept, OpenRequest};
 use bd_msg::{Purse, Ticket};
-
-/// The most open requests of a thread.
-pub(crate) const MOST_REQUESTS: usize = 1024;
+use bd_rules::{MOST_REQUESTS, Submission, admit, uncut};
 
 /// Why a submission isn't accepted.
 #[derive(Clone, Copy, Debug, PartialEq, Eq)]
@@ -34,19 +34,6 @@ pub enum Refused {
     Full,
     /// Memory ran out, and the run halts: nothing is said of the thread from then on.
     OutOfMemory,
-}
-
-// The request, where it is here on its own thread, has a range, and isn't cut.
-fn uncut(tokens: &[(Id, Kept)], me: u32, req: ReqId) -> Option<OpenRequest>
-    ensures some { IfSome result (λ r. (request_in tokens.now req ≡ Some r) × (may_cut me req (Some r) ≡ true)) }
-    ensures none { IfNone result (may_cut me req (request_in tokens.now req) ≡ false) }
-{
-    let r = request_here(tokens, req)?;
-    if req.thread == me && has_range(r.op) && r.pieces.is_none() {
-        Some(r)
-    } else {
-        None
-    }
 }
 
 // How many pieces there are. More than 32 bits count answer out of memory.
@@ -72,24 +59,18 @@ impl<'a> Thread<'a> {
         &mut self,
         links: &mut Links,
         handle: HandleId,
-        op: Op,
-        lba: u64,
-        count: u64,
+        asked: Submission,
         ticket: Ticket,
     ) -> Result<ReqId, (Refused, Ticket)>
         requires me { number_of self.old < vec_len links.old.queues }
-        requires asked { IsAsked self.old links.old (Some handle) (record { op = op; lba = lba; count = count }) }
+        requires asked { IsAsked self.old links.old (Some handle) asked }
         requires fresh { IsFresh self.old ticket }
         ensures acted { OnOk result (Acted self.old links.old self.new links.new) }
-        ensures accepted { IfOk result (λ req. (req ≡ ticket)
-            × IsAccepted req handle (record { op = op; lba = lba; count = count }) self.old links.old self.new links.new) }
-        ensures refused { IfErr result (λ e. (e.1 ≡ ticket)
-            × Refuses e.0 handle (record { op = op; lba = lba; count = count }) self.old links.old self.new links.new) }
+        ensures accepted { IfOk result (λ req. (req ≡ ticket) × IsAccepted req handle asked self.old links.old self.new links.new) }
+        ensures refused { IfErr result (λ e. (e.1 ≡ ticket) × Refuses e.0 handle asked self.old links.old self.new links.new) }
         ensures tickets { OnOk result (KeepsTickets self.old → KeepsTickets self.new) }
     {
-        let asked = Asked { op, lba, count };
-        let found = own_handle(links.registry.handles.as_slice(), self.me, handle);
-        match admit(self.setup, found, asked) {
+        match admit(&self.seen(links), self.setup, handle, asked) {
             Ok(dev) => self.accept(links, dev, handle, asked, ticket),
             Err(errno) => match self.refuse(links, Some(handle), asked, errno) {
                 Ok(()) => Err((Refused::Errno(errno), ticket)),
@@ -103,7 +84,7 @@ impl<'a> Thread<'a> {
         &mut self,
         links: &mut Links,
         handle: Option<HandleId>,
-        asked: Asked,
+        asked: Submission,
         errno: Errno,
     ) -> Result<(), OutOfMemory>
         requires me { self.old.me < vec_len links.old.queues }
@@ -111,7 +92,7 @@ impl<'a> Thread<'a> {
         requires due { refusal self.old links.old handle asked ≡ Some errno }
         ensures { OnOk result (IsRefused errno handle asked self.old links.old self.new links.new) }
     {
-        let Asked { op, lba, count } = asked;
+        let Submission { op, lba, count } = asked;
         add(
             &mut links.entries,
             self.me,
@@ -133,7 +114,7 @@ impl<'a> Thread<'a> {
         links: &mut Links,
         dev: DevId,
         handle: HandleId,
-        asked: Asked,
+        asked: Submission,
         ticket: Ticket,
     ) -> Result<ReqId, (Refused, Ticket)>
         requires me { self.old.me < vec_len links.old.queues }
@@ -166,7 +147,7 @@ impl<'a> Thread<'a> {
         req: ReqId,
         dev: DevId,
         handle: HandleId,
-        asked: Asked,
+        asked: Submission,
     ) -> Result<(), OutOfMemory>
         requires { req.seq < u64.MAX }
         ensures opened { OnOk result (IsOpened req dev handle asked self.old links.old self.new links.new) }
@@ -174,7 +155,7 @@ impl<'a> Thread<'a> {
         ensures room { OnOk result (length self.old.purse.ids < self.new.purse.capacity) }
     {
         self.purse.reserve(1)?;
-        let Asked { op, lba, count } = asked;
+        let Submission { op, lba, count } = asked;
         let kept = Kept::Request(OpenRequest {
             handle,
             dev,
@@ -184,14 +165,7 @@ impl<'a> Thread<'a> {
             pieces: None,
         });
         hold(&mut self.held, Id::Request(req), kept)?;
-        self.part.requests.push(Open {
-            id: req,
-            handle,
-            dev,
-            op,
-        })?;
-        self.part.decided = Some(Decided::Accepted(req));
-        self.part.next_request = req.seq + 1;
+        accepted(&mut self.part, req, dev, handle, asked)?;
         add(
             &mut links.entries,
             self.me,
@@ -215,7 +189,7 @@ impl<'a> Thread<'a> {
         ensures cut { IfOk result (Cuts req self.old links.old self.new links.new) }
         ensures tickets { OnOk result (KeepsTickets self.old → KeepsTickets self.new) }
     {
-        let Some(r) = uncut(self.held.as_slice(), self.me, req) else {
+        let Some(r) = uncut(&self.seen(links), self.me, req) else {
             return Ok(0);
         };
         self.cut_into(links, req, r)
@@ -228,7 +202,7 @@ impl<'a> Thread<'a> {
         req: ReqId,
         r: OpenRequest,
     ) -> Result<u32, OutOfMemory>
-        requires here { request_in self.old.held.items req ≡ Some r }
+        requires here { request_here (view_of self.old links.old) req ≡ Some r }
         requires may { may_cut self.old.me req (Some r) ≡ true }
         ensures acted { OnOk result (Acted self.old links.old self.new links.new) }
         ensures cut { IfOk result (λ n. IsCut req r n self.old links.old self.new links.new) }
@@ -258,7 +232,7 @@ impl<'a> Thread<'a> {
         ensures completes { IfOk result (Completes req self.old links.old self.new links.new) }
         ensures tickets { OnOk result (KeepsTickets self.old → KeepsTickets self.new) }
     {
-        let Some(ending) = ending_of(self.alloc, self.held.as_slice(), self.me, req)? else {
+        let Some(ending) = ending_of(self.alloc, &self.seen(links), self.me, req)? else {
             return Ok(false);
         };
         self.end(links, req, ending)?;
@@ -267,7 +241,7 @@ impl<'a> Thread<'a> {
 
     // The request completes so.
     fn end(&mut self, links: &mut Links, req: ReqId, ending: Ending) -> Result<(), OutOfMemory>
-        requires { ending_of self.old.me self.old.held.items req ≡ Some ending }
+        requires { ending_of self.old.me (view_of self.old links.old) req ≡ Some ending }
         ensures acted { OnOk result (Acted self.old links.old self.new links.new) }
         ensures completed { OnOk result (IsCompleted req ending self.old links.old self.new links.new) }
         ensures tickets { OnOk result (KeepsTickets self.old → KeepsTickets self.new) }

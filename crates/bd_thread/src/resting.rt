@@ -1,29 +1,13 @@
 //! When a thread has nothing under way.
 ghost use Rattle.std.specs.Prelude.{◌≡◌, ◌-◌};
 ghost use Rattle.std.specs.List.{list_all, list_any, range_with_len};
-ghost use Rattle.bd_machine.specs.Asked.{is_waiting_job};
 ghost use Rattle.bd_machine.specs.Same.{same_dev};
 ghost use Rattle.bd_thread.specs.Resting.{has_destructed_all, is_blocked, is_done_with, rests};
 
-use crate::pieces::home;
-use crate::requests::MOST_REQUESTS;
-use crate::rules::{has_mark, next_line};
 use crate::thread::Thread;
-use bd_base::{DevId, Job, Setup};
-use bd_home::has_destructed;
-use bd_machine::Part;
-
-// Whether a line waits: for the open requests, for a mark, or for room.
-fn is_waiting_job(part: &Part, job: &Job) -> bool
-    ensures { result ≡ is_waiting_job part.now job.now }
-{
-    match job {
-        Job::Wait => 0 < part.requests.len(),
-        Job::Await(mark) => !has_mark(part, mark),
-        Job::Submit { .. } => MOST_REQUESTS <= part.requests.len(),
-        _ => false,
-    }
-}
+use bd_base::{DevId, Setup};
+use bd_blocks::home;
+use bd_rules::{has_destructed, is_script_blocked};
 
 // Whether another thread is the device's home, or it was destructed.
 fn is_done_with(setup: &Setup, me: u32, destructed: &[DevId], n: u32) -> bool
@@ -57,10 +41,7 @@ impl<'a> Thread<'a> {
     pub fn is_blocked(&self) -> bool
         ensures { result ≡ is_blocked self.now }
     {
-        match next_line(self.setup, self.me, &self.part) {
-            Some(line) => self.part.decided.is_none() && is_waiting_job(&self.part, &line.job),
-            None => true,
-        }
+        is_script_blocked(self.setup, self.me, &self.part)
     }
 
     /// Whether each device whose home it is was destructed.

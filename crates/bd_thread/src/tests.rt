@@ -2,10 +2,8 @@
 ghost use Rattle.std.specs.Prelude.{◌<◌, vec_len};
 ghost use Rattle.std.specs.Bool.{OnTrue};
 
-use crate::admission::{Asked, has_range};
 use crate::links::Links;
 use crate::requests::Refused;
-use crate::rules::{bound_to, undecided_job};
 use crate::thread::Thread;
 use crate::turn::next_ticket;
 use bd_base::{
@@ -14,6 +12,7 @@ use bd_base::{
 };
 use bd_machine::{Binding, Handle};
 use bd_msg::Ticket;
+use bd_rules::{Submission, bound_to, has_range, undecided_job};
 use std::alloc::Global;
 use std::test::Fail;
 
@@ -147,7 +146,7 @@ fn submit_by_hand(
     let Some(id) = bound_to(&thread.part, handle) else {
         return Ok(None);
     };
-    let asked = Asked {
+    let asked = Submission {
         op: *op,
         lba: *lba,
         count: *count,
@@ -158,7 +157,7 @@ fn submit_by_hand(
     let Some(ticket) = next_ticket(thread.me, thread.part.next_request) else {
         return Ok(None);
     };
-    Ok(Some(spend(thread.submit(links, id, asked.op, asked.lba, asked.count, ticket))))
+    Ok(Some(spend(thread.submit(links, id, asked, ticket))))
 }
 
 // The answer, without the ticket that came back.

@@ -3,8 +3,8 @@ ghost use Rattle.std.specs.Prelude.{IfOk};
 ghost use Rattle.bd_thread.specs.Requests.{KeepsTickets};
 ghost use Rattle.bd_thread.specs.Starts.{IsNew};
 
-use crate::start::part_at_start;
 use bd_base::{OutOfMemory, Setup, Token};
+use bd_blocks::part_at_start;
 use bd_machine::{Id, Kept, Part};
 use bd_msg::Purse;
 use std::alloc::Global;

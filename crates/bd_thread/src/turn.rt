@@ -6,14 +6,13 @@ ghost use Rattle.bd_thread.specs.Requests.{IsAsked, IsFresh, KeepsTickets};
 ghost use Rattle.bd_thread.specs.Moves.{turned_of, AddsMore, IsNextTicket, SendsFirst, Serves};
 ghost use Rattle.bd_thread.specs.Waits.{first_due, may_send, Idles, IsFilled, NoLine, NoMessage, NoPiece, NoPieceOn, NoSubmission, NothingToPost, NothingToSend, Quiets};
 
-use crate::admission::{Asked, has_range};
 use crate::links::{Links, is_full};
-use crate::requests::{MOST_REQUESTS, Refused};
-use crate::rules::{bound_to, undecided_job};
+use crate::requests::Refused;
 use crate::thread::Thread;
 use bd_base::{DevId, Errno, HandleId, Job, OutOfMemory, ReqId, ThreadId, Token};
 use bd_machine::{Id, News};
 use bd_msg::{Mint, Ticket};
+use bd_rules::{MOST_REQUESTS, Submission, bound_to, has_range, undecided_job};
 
 /// How many messages a turn takes, pieces of a store it serves, and lines it does, at most (SPDK's
 /// batch of messages).
@@ -59,7 +58,7 @@ impl<'a> Thread<'a> {
         &mut self,
         links: &mut Links,
         handle: HandleId,
-        asked: Asked,
+        asked: Submission,
     ) -> Result<bool, OutOfMemory>
         requires me { self.old.me < vec_len links.old.queues }
         requires asked { IsAsked self.old links.old (Some handle) asked }
@@ -70,7 +69,7 @@ impl<'a> Thread<'a> {
         let Some(ticket) = next_ticket(self.me, self.part.next_request) else {
             return Err(OutOfMemory);
         };
-        match self.submit(links, handle, asked.op, asked.lba, asked.count, ticket) {
+        match self.submit(links, handle, asked, ticket) {
             Ok(req) => {
                 self.cut(links, req)?;
                 Ok(true)
@@ -107,7 +106,7 @@ impl<'a> Thread<'a> {
         else {
             return Ok(false);
         };
-        let asked = Asked {
+        let asked = Submission {
             op: *op,
             lba: *lba,
             count: *count,

@@ -1,40 +1,13 @@
-use Rattle.std.proofs.Common.{◌≡◌, Option, Some, None, sym, ◌∙◌, ap}
-use Rattle.std.specs.List.{find, position}
-use Rattle.std.specs.Option.{option_map}
+use Rattle.std.proofs.Common.{sym, ◌∙◌}
+use Rattle.std.specs.List.{find}
 use Rattle.bd_base.specs.declared.act.ApplyEnd.TheVariants as ends
-use Rattle.bd_machine.specs.declared.state.Base.{Base}
-use Rattle.bd_machine.specs.Homes.{applied, is_base, served}
-use Rattle.bd_home.proofs.Places.{found_at, missed, set_found}
-use Rattle.bd_home.proofs.Ready.{ready, none_ready}
+use Rattle.bd_machine.specs.Homes.{is_base, served}
+use Rattle.bd_home.proofs.Ready.{none_ready}
 use Rattle.bd_home.proofs.serving.serve.Goals as goal
 
 pub unreachable-requires : goal.unreachable-requires
 unreachable-requires c =
+    let size = c.args.size in
     let dev = c.args.dev in
-    let bases = c.args.bases.now in
-    let place : position (is_base dev) bases ≡ None = ap (position (is_base dev)) (sym c.as_slice.ensures) ∙ sym c.base_place.ensures ∙ c.in_default.is in
-    none_ready c.args.size dev (find (is_base dev) bases) c.args.p.now (missed (is_base dev) bases place) c.requires
-
-pub serve_first-requires : goal.serve_first-requires
-serve_first-requires c =
-    let dev = c.args.dev in
-    let bases = c.args.bases.now in
-    let place : position (is_base dev) bases ≡ Some c.in-Some.place = ap (position (is_base dev)) (sym c.as_slice.ensures) ∙ sym c.base_place.ensures ∙ c.in-Some.is in
-    let found : find (is_base dev) bases ≡ Some c.at_mut.result.now = found_at (is_base dev) bases c.in-Some.place c.at_mut.result.now place c.at_mut.ensures.value in
-    ready c.args.size dev (find (is_base dev) bases) c.at_mut.result.now c.args.p.now found c.requires
-
-pub returns-clause-bases : goal.returns-clause-bases
-returns-clause-bases c =
-    let dev = c.args.dev in
-    let bases = c.args.bases.now in
-    let place : position (is_base dev) bases ≡ Some c.in-Some.place = ap (position (is_base dev)) (sym c.as_slice.ensures) ∙ sym c.base_place.ensures ∙ c.in-Some.is in
-    set_found (is_base dev) (applied ends.Done c.args.p.now) bases c.in-Some.place c.serve_first.new.base c.at_mut.result.now place
-    (c.in_ok-piece.ensures.base ∙ ap (applied ends.Done c.args.p.now) c.at_mut.ensures.value)
-
-pub returns-clause-piece : goal.returns-clause-piece
-returns-clause-piece c =
-    let dev = c.args.dev in
-    let bases = c.args.bases.now in
-    let place : position (is_base dev) bases ≡ Some c.in-Some.place = ap (position (is_base dev)) (sym c.as_slice.ensures) ∙ sym c.base_place.ensures ∙ c.in-Some.is in
-    let found : find (is_base dev) bases ≡ Some c.at_mut.result.now = found_at (is_base dev) bases c.in-Some.place c.at_mut.result.now place c.at_mut.ensures.value in
-    ap (λ (o : Option Base). option_map (served ends.Done c.args.size c.args.p.now) o) found ∙ ap Some (sym c.in_ok-piece.ensures.piece)
+    let piece = c.args.p.now in
+    none_ready size dev (served ends.Done size piece) (find (is_base dev) c.args.bases.now) piece (sym c.in_ok-piece.ensures.piece ∙ c.in_default.is) c.requires

@@ -2,7 +2,7 @@ use Rattle.std.proofs.Common.{Some, sym, ◌∙◌, ap, rules}
 use Rattle.bd_machine.specs.declared.state.Id.{Id}
 use Rattle.bd_machine.specs.declared.state.Kept.{Kept}
 use Rattle.bd_machine.specs.Same.{same_id}
-use Rattle.bd_thread.proofs.Firsts.{remove_found}
+use Rattle.bd_changes.proofs.Firsts.{remove_found}
 use Rattle.bd_thread.proofs.Here.{sets_gone}
 use Rattle.bd_thread.proofs.Written.{found_there, not_there}
 use Rattle.bd_thread.proofs.held.take_out.Goals as goal

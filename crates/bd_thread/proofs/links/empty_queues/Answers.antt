@@ -1,7 +1,7 @@
 use Rattle.std.proofs.Common.{◌+◌, ◌-◌, ◌<◌, List, [], ◌∷◌, ◌++◌, ◌∙◌, ap, arith}
 use Rattle.bd_turns.specs.declared.queue.Message.{Message}
 use Rattle.bd_thread.specs.Starts.{empty_queues}
-use Rattle.bd_thread.proofs.Moving.{moved_on}
+use Rattle.bd_changes.proofs.Moving.{moved_on}
 use Rattle.bd_thread.proofs.Starting.{zeros_next}
 use Rattle.bd_thread.proofs.links.empty_queues.Goals as goal
 

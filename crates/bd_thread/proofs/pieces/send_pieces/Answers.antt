@@ -2,7 +2,7 @@ use Rattle.std.proofs.Common.{◌-◌, ◌+◌, ◌<◌, map, ap, arith}
 use Rattle.std.specs.List.{range_with_len}
 use Rattle.bd_thread.specs.Cuts.{piece_to}
 use Rattle.bd_thread.proofs.Left.{left_from}
-use Rattle.bd_thread.proofs.Moving.{moved_on}
+use Rattle.bd_changes.proofs.Moving.{moved_on}
 use Rattle.bd_thread.proofs.pieces.send_pieces.Goals as goal
 
 pub loop-k-preserved : goal.loop-k-preserved

@@ -1,10 +1,13 @@
-use Rattle.std.proofs.Common.{◌≡◌, ℕ, true, List, Some, refl, sym, ◌∙◌, ap, subst, length}
+use Rattle.std.proofs.Common.{◌≡◌, ℕ, Bool, true, List, Some, refl, sym, ◌∙◌, ap, ap₂, subst, length}
 use Rattle.std.specs.List.{find}
 use Rattle.bd_base.specs.declared.act.Act.TheVariants as acts
-use Rattle.bd_home.specs.Destructs.{digest_due, may_go}
+use Rattle.bd_blocks.specs.Digests.{digest_due}
 use Rattle.bd_machine.specs.declared.state.Base.{Base}
 use Rattle.bd_machine.specs.BlockMap.{is_malloc}
-use Rattle.bd_machine.specs.Homes.{is_base}
+use Rattle.bd_machine.specs.Homes.{is_base, may_destruct}
+use Rattle.bd_machine.specs.View.{View}
+use Rattle.bd_rules.specs.Came.{came_unused}
+use Rattle.bd_thread.specs.Destructs.{may_device_go}
 use Rattle.bd_thread.specs.Seen.{here_in, local_at, queues_of}
 use Rattle.bd_thread.proofs.Destructs.{destruct_steps}
 use Rattle.bd_thread.proofs.Ends.{length-longer}
@@ -22,7 +25,8 @@ returns-clause-acted c =
     let here = here_in t.held.items in
     let queues = queues_of links.queues.items in
     let stamp = length links.entries in
-    let may : may_go setup t.me t.part links.registry links.shut dev ≡ true = sym c.may_go.ensures ∙ c.if-not-may_go.false in
+    let rule : View → Bool → Bool = λ v unused. may_destruct setup t.me v (came_unused unused links.shut) dev in
+    let may : may_device_go t links dev ≡ true = sym (ap₂ rule c.seen.ensures c.is_unused-unused.ensures) ∙ sym c.may_destruct-may.ensures ∙ c.if-not-may.false in
     let due : digest_due (is_malloc setup dev) (find (is_base dev) t.part.bases) ≡ Some c.in-Some.digest =
     ap (λ (bs : List Base). digest_due (is_malloc setup dev) (find (is_base dev) bs)) (sym c.as_slice.ensures)
     ∙ sym c.digest_due.ensures

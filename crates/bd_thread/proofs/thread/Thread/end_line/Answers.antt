@@ -12,13 +12,13 @@ pub returns-clause-acted : goal.returns-clause-acted
 returns-clause-acted c =
     let t = c.args.self.now in
     let links = c.args.links.now in
-    let act = acts.Script c.in-Some.line.now.number c.in-Some-outcome_of.outcome in
+    let act = acts.Script c.in-Some.line.now.number c.in-Some-2.outcome in
     let queues = queues_of links.queues.items in
-    let stepped = line_steps t.setup.now t.me t.part (here_in t.held.items) links.registry (length links.entries) queues c.in-Some.line.now.number c.in-Some.line.now.job c.in-Some-outcome_of.outcome
-    (sym c.next_line.ensures ∙ ap option_copied c.in-Some.is) (sym c.outcome_of.ensures ∙ c.in-Some-outcome_of.is) links.shut c.if-links.false c.go_on.new.part c.in_ok-go_on.ensures in
+    let stepped = line_steps t.setup.now t.me t.part (here_in t.held.items) links.registry (length links.entries) queues c.in-Some.line.now.number c.in-Some.line.now.job c.in-Some-2.outcome
+    (sym c.next_line.ensures ∙ ap option_copied c.in-Some.is) (sym c.in_ok-outcome.ensures ∙ c.in-Some-2.is) links.shut c.if-links.false c.line_done.new.part c.in_ok-line_done.ensures in
     acted_step t links _ _ act refl refl refl c.in_ok-add.ensures
-    (subst (λ (n : ℕ). Steps t.setup.now t.me (local_at t.me t.part (here_in t.held.items) links.registry links.shut (length links.entries) queues) act (local_at t.me c.go_on.new.part (here_in t.held.items) links.registry links.shut n queues))
+    (subst (λ (n : ℕ). Steps t.setup.now t.me (local_at t.me t.part (here_in t.held.items) links.registry links.shut (length links.entries) queues) act (local_at t.me c.line_done.new.part (here_in t.held.items) links.registry links.shut n queues))
     (sym (ap length c.in_ok-add.ensures ∙ length-longer t.me links.entries act)) stepped)
 
 pub returns-clause-tickets : goal.returns-clause-tickets
-returns-clause-tickets c = λ keeps. same_tickets c.args.self.now _ refl (ap (λ (p : Part). p.requests) c.in_ok-go_on.ensures) (ap (λ (p : Part). p.next_request) c.in_ok-go_on.ensures) keeps
+returns-clause-tickets c = λ keeps. same_tickets c.args.self.now _ refl (ap (λ (p : Part). p.requests) c.in_ok-line_done.ensures) (ap (λ (p : Part). p.next_request) c.in_ok-line_done.ensures) keeps

@@ -1,13 +1,14 @@
-use Rattle.std.proofs.Common.{◌≡◌, cond, ◌==◌, ◌++◌, ◌∷◌, [], length, None, refl, sym, ◌∙◌, ap, rules}
+use Rattle.std.proofs.Common.{◌≡◌, ℕ, cond, List, ◌==◌, ◌++◌, ◌∷◌, [], length, None, refl, sym, ◌∙◌, ap, rules}
 use Rattle.bd_base.specs.declared.act.Act.TheVariants as acts
 use Rattle.bd_base.specs.declared.act.Token.{Token}
 use Rattle.bd_machine.specs.declared.state.Id.{Id}
+use Rattle.bd_machine.specs.Messages.{count_at}
 use Rattle.bd_machine.specs.Same.{same_id}
 use Rattle.bd_turns.specs.declared.queue.Message.{Message}
 use Rattle.bd_thread.specs.Seen.{here_in, queues_of}
 use Rattle.bd_thread.specs.Sent.{kept_on_way}
 use Rattle.bd_thread.proofs.Going.{acted_by}
-use Rattle.bd_thread.proofs.Put.{put_steps, part_left, may_parts}
+use Rattle.bd_thread.proofs.Put.{put_steps, may_parts}
 use Rattle.bd_thread.proofs.Tickets.{same_tickets}
 use Rattle.bd_thread.proofs.thread.Thread.put.Goals as goal
 
@@ -17,20 +18,20 @@ returns-clause-acted c =
     let links = c.args.links.now in
     let to = c.args.to in
     let what = c.args.what in
-    let number = c.in_ok-number.number in
+    let number = c.count_at-number.result in
     let here = here_in t.held.items in
     let queues = queues_of links.queues.items in
     acted_by t links _ _ (acts.Put to number what) refl refl c.in_ok-push.ensures.len c.in_ok-add.ensures
-    (put_steps t.setup.now t.me t.part c.leave.new.part here (here_in c.leave.new.tokens.items) links.registry links.shut (length links.entries) queues (queues_of c.push.new.queues.items) to number what c.in_ok-kept.kept
-    c.in_ok-number.ensures.number
+    (put_steps t.setup.now t.me t.part c.put.new.part here (here_in c.leave.new.tokens.items) links.registry links.shut (length links.entries) queues (queues_of c.push.new.queues.items) to number what c.in_ok-kept.kept
+    (c.count_at-number.ensures ∙ ap (λ (counts : List (ℕ × ℕ)). count_at counts to) c.as_slice.ensures)
     (may_parts t links to what (search rules)).1
     (ap (λ (id : Id). kept_on_way what (here id)) (sym c.id_of-id.ensures) ∙ c.in_ok-kept.ensures.kept)
-    (part_left t.part c.count_put.new.part c.leave.new.part to number what c.in_ok-number.ensures.number c.in_ok-number.ensures.part c.in_ok-kept.ensures.part)
+    c.in_ok-put.ensures
     (c.in_ok-kept.ensures.gone ∙ ap (λ (id : Id). λ j. cond (same_id id j) None (here j)) c.id_of-id.ensures)
     (c.in_ok-push.ensures.ok ∙ ap (λ (w : Token). let m : Message = record { sender = t.me; what = w; kept = c.in_ok-kept.kept } in λ r. cond (r == to) (queues r ++ m ∷ []) (queues r)) c.in_ok-told.ensures))
 
 pub returns-clause-tickets : goal.returns-clause-tickets
 returns-clause-tickets c = λ keeps.
-    let requests : c.leave.new.part.requests ≡ c.args.self.now.part.requests = search rules in
-    let next : c.leave.new.part.next_request ≡ c.args.self.now.part.next_request = search rules in
+    let requests : c.put.new.part.requests ≡ c.args.self.now.part.requests = search rules in
+    let next : c.put.new.part.next_request ≡ c.args.self.now.part.next_request = search rules in
     same_tickets c.args.self.now _ refl requests next keeps
