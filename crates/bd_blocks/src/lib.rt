@@ -9,8 +9,6 @@ mod pieces;
 mod serving;
 mod start;
 mod store;
-#[cfg(test)]
-mod tests;
 
 pub use bases::{base_place, find_base};
 pub use devices::{

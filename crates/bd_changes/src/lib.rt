@@ -6,8 +6,6 @@ mod lines;
 mod messages;
 mod registry;
 mod requests;
-#[cfg(test)]
-mod tests;
 
 pub use lines::{decision_of, line_done};
 pub use messages::{progress_put, progress_took, put, took};

@@ -11,8 +11,6 @@ mod names;
 mod outcome;
 mod same;
 mod sees;
-#[cfg(test)]
-mod tests;
 mod tokens;
 
 pub use admission::{admit, has_range, is_handle_on, refusal_of};

@@ -6,8 +6,16 @@
 #[cfg(test)]
 mod base;
 #[cfg(test)]
+mod blocks;
+#[cfg(test)]
+mod changes;
+#[cfg(test)]
 mod config;
+#[cfg(test)]
+mod home;
 #[cfg(test)]
 mod jobs;
 #[cfg(test)]
 mod report;
+#[cfg(test)]
+mod rules;

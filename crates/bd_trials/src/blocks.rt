@@ -1,10 +1,10 @@
 //! A malloc device of four blocks of 8 bytes, by hand. Bytes and digests are by python.
-use crate::{
+use bd_base::{ApplyEnd, DevId, DevRow, Fill, HandleId, Kind, Name, Op, OutOfMemory, Rows, Setup};
+use bd_blocks::{
     base_place, blocks_of, boundary_of, copy_of_piece, device_named, digest_due, extents,
     find_base, home, is_aio, is_digest_due, is_home, is_malloc, new_piece, part_at_start, serve,
     size_of,
 };
-use bd_base::{ApplyEnd, DevId, DevRow, Fill, HandleId, Kind, Name, Op, OutOfMemory, Rows, Setup};
 use bd_machine::{Base, Extent, OpenPiece, OpenRequest, Progress};
 use std::alloc::Global;
 use std::test::Fail;

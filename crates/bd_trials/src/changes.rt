@@ -1,11 +1,11 @@
 //! What acts make of a part and of the registry, by hand.
-use crate::{
-    accepted, decision_of, line_done, progress_put, progress_took, put, register, remove_open, took,
-};
 use bd_base::{
     Answer, DevId, HandleId, Job, Name, Op, OutOfMemory, RegEvent, ReqId, Rows, Setup, Token,
 };
 use bd_blocks::part_at_start;
+use bd_changes::{
+    accepted, decision_of, line_done, progress_put, progress_took, put, register, remove_open, took,
+};
 use bd_machine::{Kept, News, Part, Progress, Registry};
 use bd_rules::Submission;
 use std::alloc::Global;

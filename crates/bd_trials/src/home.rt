@@ -1,7 +1,7 @@
 //! A malloc device of four blocks of 8 bytes, where a write waits and after it a read. The bytes are
 //! by python.
-use crate::{can_serve, first_waiting, serve};
 use bd_base::{Bytes, DevId, Fill, Op, OutOfMemory, ReqId, Rows};
+use bd_home::{can_serve, first_waiting, serve};
 use bd_machine::{Base, Content, OpenPiece, Progress};
 use std::alloc::Global;
 use std::test::Fail;

@@ -4,7 +4,6 @@ ghost use Rattle.bd_machine.specs.Same.{same_id};
 ghost use Rattle.bd_machine.specs.Table.{look_up};
 ghost use Rattle.bd_machine.specs.View.{is_of};
 
-use crate::*;
 use bd_base::{
     Answer, ApplyEnd, Bytes, DevId, DevRow, Errno, HandleId, Job, Kind, Line, Name, Op,
     OutOfMemory, Outcome, RegEvent, ReqId, Rows, Script, Setup, Shown, Status, ThreadId, Token,
@@ -12,6 +11,7 @@ use bd_base::{
 };
 use bd_blocks::part_at_start;
 use bd_machine::{Binding, Handle, Id, Kept, OpenPiece, OpenRequest, Part, Progress, Registry};
+use bd_rules::*;
 use std::alloc::Global;
 use std::test::Fail;
 
