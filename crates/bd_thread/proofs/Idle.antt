@@ -3,7 +3,6 @@ use Rattle.std.proofs.Common.{◌≡◌, ℕ, ◌≤◌, Bool, true, false, List
 use Rattle.std.proofs.lemmas.List.{length-append}
 use Rattle.bd_base.specs.declared.act.Act.{Act}
 use Rattle.bd_base.specs.declared.act.Act.TheVariants as acts
-use Rattle.bd_base.specs.declared.act.ApplyEnd.TheVariants as apply_ends
 use Rattle.bd_base.specs.declared.act.Outcome.{Outcome}
 use Rattle.bd_base.specs.declared.act.Token.{Token}
 use Rattle.bd_base.specs.declared.event.Answer.TheVariants as answers
@@ -13,7 +12,6 @@ use Rattle.bd_base.specs.declared.id.DevId.{DevId}
 use Rattle.bd_base.specs.declared.id.HandleId.{HandleId}
 use Rattle.bd_base.specs.declared.id.ReqId.{ReqId}
 use Rattle.bd_machine.specs.declared.state.Id.{Id}
-use Rattle.bd_machine.specs.declared.state.Id.TheVariants as ids
 use Rattle.bd_machine.specs.BlockMap.{is_malloc}
 use Rattle.bd_machine.specs.Homes.{is_base}
 use Rattle.bd_machine.specs.Messages.{count_at}
@@ -29,7 +27,6 @@ use Rattle.bd_thread.specs.Endings.{left_over, ClosesIfAny, ClosesLeft}
 use Rattle.bd_thread.specs.Lines.{close_asked, job_now, open_asked, outcome_now, AsksBy, Closes, EndsBy, EndsLine, Opens}
 use Rattle.bd_thread.specs.Seen.{longer, queues_of, view_of}
 use Rattle.bd_thread.specs.Sent.{first_brought, may_put, Puts, PutsBy, Takes, TakesBy}
-use Rattle.bd_thread.specs.Served.{Applies}
 use Rattle.bd_thread.specs.Waits.{Idles, IsIdle, NoDestructOn, NoHandle, NoLine, NoMessage, NoSubmission}
 use Rattle.bd_thread.proofs.Ends.{length-longer}
 use Rattle.bd_thread.proofs.Going.{acted_then}
@@ -125,12 +122,6 @@ line_idle o a p b q d r e n f open-acted close-acted submit-acted end-acted open
     idle_then o a q d r e two-acted submit-acted (λ asked submission. (asked.0, asked.1, submission)) two submits in
     idle_then o a r e n f (acted_then o a q d r e two-acted submit-acted) end-acted
     (λ asked outcome. record { opening = asked.0; closing = asked.1; submission = asked.2; outcome = outcome }) three ends
-
--- a piece was served
-pub applies_more : (old : Thread) (before : Links) (new : Thread) (after : Links) (dev : DevId) (id : Id) → Applies old before new after dev (Some id) → length after.entries ≤ length before.entries → ⊥
-applies_more old before new after dev (ids.Piece req k) h few = more old.me before after (acts.Apply req k dev apply_ends.Done) h.1 few
-applies_more old before new after dev (ids.Request req) h few = h.1
-applies_more old before new after dev (ids.Notice s r n) h few = h.1
 
 pub leaves_idle : (old : Thread) (before : Links) (new : Thread) (after : Links) (done : Bool) → ClosesLeft old before new after done → Idles NoHandle old before new after
 leaves_idle old before new after done h few = go (left_over old before) refl h

@@ -153,9 +153,6 @@ pub asked_by : (t : Thread) (before : Links) (new : Thread) (after : Links) (eve
     → AsksBy t before new after true o
 asked_by t before new after event o asked h = subst (AsksBy t before new after true) (sym asked) (refl, h)
 
-pub unasked : (t : Thread) (before : Links) (o : Option RegEvent) → o ≡ None → AsksBy t before t before false o
-unasked t before o none = subst (AsksBy t before t before false) (sym none) (refl, refl, refl)
-
 -- the open that the line asks for
 pub opens_asked : (part : Part) (handle dev : List ℕ) (write shut : Bool) (o : Option Job)
     → shut ≡ false
