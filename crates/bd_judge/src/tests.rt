@@ -1,3 +1,4 @@
 //! The machine played by hand, and the histories of whole runs judged by it.
 mod by_hand;
 mod runs;
+mod top;

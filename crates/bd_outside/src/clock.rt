@@ -48,15 +48,3 @@ impl Clock for StillClock {
         self.at
     }
 }
-
-#[cfg(test)]
-mod tests {
-    use super::*;
-
-    #[test]
-    fn stands_still(rt: HostRuntime) {
-        let clock = StillClock::new(7);
-        assert_eq!(rt; clock.now(), 7);
-        assert_eq!(rt; clock.now(), 7);
-    }
-}

@@ -114,24 +114,3 @@ impl Disk for MemDisk {
         Ok(())
     }
 }
-
-#[cfg(test)]
-mod tests {
-    use super::*;
-    use std::test::Fail;
-
-    #[test]
-    fn reads_and_writes_whole_blocks(rt: HostRuntime) -> Result<(), Fail> {
-        let alloc = rt.alloc();
-        let mut disk = MemDisk::new(alloc, Bytes::from_slice(alloc, b"aaaabbbbccccdd")?, 4);
-        assert_eq!(rt; disk.blocks(), 3);
-        assert!(rt; disk.write(1, b"BBBB").is_ok());
-        assert!(rt; disk.content() == b"aaaaBBBBcccc".as_slice());
-        let mut two = [0; 8];
-        assert!(rt; disk.read(1, &mut two).is_ok());
-        assert!(rt; &two == b"BBBBcccc");
-        assert!(rt; disk.flush().is_ok());
-        assert_eq!(rt; disk.flushes(), 1);
-        Ok(())
-    }
-}

@@ -73,26 +73,3 @@ impl Sink for MemSink {
         Ok(n)
     }
 }
-
-#[cfg(test)]
-mod tests {
-    use super::*;
-    use std::test::Fail;
-
-    #[test]
-    fn takes_as_much_as_there_is_room_for(rt: HostRuntime) -> Result<(), Fail> {
-        let mut sink = MemSink::new(rt.alloc(), 10)?;
-        for (piece, want) in [
-            ("job 1", Ok(5)),
-            ("", Ok(0)),
-            (" 0 open ok", Ok(5)),
-            ("en ok", Err(Failed)),
-            ("", Ok(0)),
-        ] {
-            assert!(rt; sink.put(piece.as_bytes()) == want, "at {piece}");
-        }
-        assert!(rt; sink.bytes() == b"job 1 0 op".as_slice());
-        assert_eq!(rt; sink.faults(), 1);
-        Ok(())
-    }
-}

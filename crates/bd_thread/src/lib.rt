@@ -12,8 +12,6 @@ mod messages;
 mod pieces;
 mod requests;
 mod resting;
-#[cfg(test)]
-mod tests;
 mod thread;
 mod turn;
 mod view;

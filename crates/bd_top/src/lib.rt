@@ -7,8 +7,6 @@ mod fault;
 mod files;
 mod inputs;
 mod setup;
-#[cfg(test)]
-mod tests;
 mod top;
 mod words;
 

@@ -16,6 +16,16 @@ mod home;
 #[cfg(test)]
 mod jobs;
 #[cfg(test)]
+mod msg;
+#[cfg(test)]
+mod outside;
+#[cfg(test)]
 mod report;
 #[cfg(test)]
+mod retry;
+#[cfg(test)]
 mod rules;
+#[cfg(test)]
+mod stack;
+#[cfg(test)]
+mod tables;

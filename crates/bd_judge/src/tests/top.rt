@@ -1,10 +1,9 @@
 //! The whole call over files and output in memory: what the program's own tests can't bring about.
 //! Expected digests, and which thread a schedule begins with, were computed by another program,
 //! from the rules alone.
-use crate::fault::Fault;
-use crate::top::{Ran, run};
 use bd_base::{Bytes, Name};
 use bd_outside::{MemHost, MemSink, OpenGate, StillClock};
+use bd_top::{Fault, Ran, run};
 use std::alloc::Global;
 use std::test::Fail;
 
