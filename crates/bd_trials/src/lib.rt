@@ -22,10 +22,6 @@ mod outside;
 #[cfg(test)]
 mod report;
 #[cfg(test)]
-mod retry;
-#[cfg(test)]
 mod rules;
 #[cfg(test)]
 mod stack;
-#[cfg(test)]
-mod tables;
