@@ -2,7 +2,7 @@
 ghost use Rattle.std.specs.Prelude.{◌≡◌, ◌≤◌, length, IfOk, IfErr, OnOk, OnErr};
 ghost use Rattle.std.specs.Io.KnownBytes.{Appends};
 ghost use Rattle.bd_outside.specs.Host.{IsLater};
-ghost use Rattle.bd_outside.specs.Sink.{Fails};
+ghost use Rattle.bd_outside.specs.Sink.{Fails, StaysUntold};
 ghost use Rattle.bd_top.specs.Files.{IsRead, ReadCause, AppendsPrefix};
 
 use crate::config::MAX_FILE;
@@ -78,6 +78,7 @@ pub(crate) fn read_file<H: Host>(alloc: Global, host: &mut H, name: &str) -> Res
 pub(crate) fn write_all<K: Sink>(out: &mut K, bytes: &[u8]) -> Result<(), Failed>
     ensures ok { OnOk result (Appends (K.state out.old).written (K.state out.new).written bytes.now) }
     ensures prefix { OnErr result (AppendsPrefix (K.state out.old).written (K.state out.new).written bytes.now) }
+    ensures untold { StaysUntold (K.state out.old) (K.state out.new) }
     ensures count { (K.state out.old).faults ≤ (K.state out.new).faults }
     ensures err { OnErr result (Fails (K.state out.old) (K.state out.new)) }
 {

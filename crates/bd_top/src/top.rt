@@ -1,6 +1,7 @@
 //! The top call.
 ghost use Rattle.std.specs.Prelude.{◌≡◌, ◌<◌, [], map, string_bytes, IfOk, IfErr, None, Err};
 ghost use Rattle.bd_machine.specs.Run.{IsCompleteRun};
+ghost use Rattle.bd_outside.specs.Sink.{StaysUntold};
 ghost use Rattle.bd_report.specs.Report.{report_of};
 ghost use Rattle.bd_top.specs.Run.{IsRun, Cause, AreInForm, NothingFails, WritesNothing};
 ghost use Rattle.bd_top.specs.Words.{arguments_of};
@@ -65,6 +66,7 @@ pub fn run<H: Host, K: Sink, C: Clock, G: Gate>(
         → NothingFails (H.state host.old) (H.state host.new) (K.state out.old) (K.state out.new)
         → IfErr result (λ fault. fault ≡ Fault.OutOfMemory) }
     ensures nothing { IfErr result (WritesNothing (K.state out.old) (K.state out.new)) }
+    ensures untold { StaysUntold (K.state out.old) (K.state out.new) }
 {
     let Some(asked) = parse(words) else {
         return Err(Fault::Usage);

@@ -1,22 +1,37 @@
 //! Standard output.
 use bd_outside::{Failed, Sink};
-use std::io::Write;
+use std::io::{Print, Printer, Write};
+
+/// A writer of a type that tells what was written, or of one that doesn't: what isn't told of a
+/// writer isn't told of it later.
+pub(crate) trait SteadyWrite: Write {
+    ghost use Rattle.std.specs.Prelude.{◌≡◌, None};
+
+    ghost steady: { (old new : Self) → Self.contents old ≡ None → Self.contents new ≡ None };
+}
+
+/// What prints tells nothing.
+impl<P: Print> SteadyWrite for Printer<'_, P> {
+    ghost use Rattle.std.specs.Prelude.{refl};
+
+    ghost steady = { λ old new untold. refl };
+}
 
 /// A writer as a sink, which tells the bytes that its writer tells: those of standard output are
 /// not told. Nothing is kept back: what `put` says it took, the writer has taken.
 #[derive(Drop)]
-pub(crate) struct Output<W: Write + Drop> {
+pub(crate) struct Output<W: SteadyWrite + Drop> {
     to: W,
     faults: u64,
 }
 
-impl<W: Write + Drop> Output<W> {
+impl<W: SteadyWrite + Drop> Output<W> {
     pub(crate) fn new(to: W) -> Output<W> {
         Output { to, faults: 0 }
     }
 }
 
-impl<W: Write + Drop> Sink for Output<W> {
+impl<W: SteadyWrite + Drop> Sink for Output<W> {
     ghost state = { λ s. record { faults = s.faults; written = W.contents s.to } };
 
     /// Failed where the system refuses, or takes nothing of a piece that isn't empty.
@@ -73,6 +88,12 @@ mod tests {
         fn flush(&mut self) -> io::Result<()> {
             Ok(())
         }
+    }
+
+    impl SteadyWrite for SlowWriter {
+        ghost use Rattle.std.specs.Prelude.{refl};
+
+        ghost steady = { λ old new untold. refl };
     }
 
     // The fault of a run over this output, if there is one.
