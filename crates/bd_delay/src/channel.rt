@@ -79,23 +79,3 @@ impl DelayChannel {
         }
     }
 }
-
-#[cfg(test)]
-mod tests {
-    use super::*;
-
-    #[test]
-    fn each_hundredth_of_a_way_waits_the_p99(rt: HostRuntime) {
-        let mut channel = DelayChannel::new(10, 500, 20, 900);
-        // A write in between isn't counted among the reads.
-        assert_eq!(rt; channel.next(Way::Write), 20);
-        for n in 1..=200u64 {
-            let wanted = if n == 100 || n == 200 { 500 } else { 10 };
-            assert_eq!(rt; channel.next(Way::Read), wanted, "read {n}");
-        }
-        for n in 2..=100u64 {
-            let wanted = if n == 100 { 900 } else { 20 };
-            assert_eq!(rt; channel.next(Way::Write), wanted, "write {n}");
-        }
-    }
-}

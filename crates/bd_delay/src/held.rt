@@ -137,27 +137,3 @@ impl Held {
         held
     }
 }
-
-#[cfg(test)]
-mod tests {
-    use super::*;
-    use std::test::Fail;
-
-    #[test]
-    fn holds_end_by_moment_and_then_by_request(rt: HostRuntime) -> Result<(), Fail> {
-        let mut held = Held::new(rt.alloc());
-        held.reserve(4)?;
-        held.hold(ReqId { thread: 0, seq: 7 }, 30);
-        held.hold(ReqId { thread: 0, seq: 5 }, 20);
-        held.hold(ReqId { thread: 0, seq: 4 }, 30);
-        held.hold(ReqId { thread: 0, seq: 6 }, 10);
-        assert!(rt; held.due(9).is_none());
-        assert!(rt; held.stop(ReqId { thread: 0, seq: 5 }));
-        assert!(rt; !held.stop(ReqId { thread: 0, seq: 5 }));
-        for seq in [6, 4, 7] {
-            assert_eq!(rt; held.due(30), Some(ReqId { thread: 0, seq }));
-        }
-        assert!(rt; held.due(u64::MAX).is_none());
-        Ok(())
-    }
-}

@@ -43,6 +43,11 @@ impl fmt::Display for StepNo {
 impl Error for StepNo {}
 
 impl From<OutOfMemory> for StepNo {
+    ghost use Rattle.std.specs.Prelude.{◌≡◌};
+    ghost use Rattle.bd_play.specs.declared.machine.StepNo.TheVariants as nos;
+
+    ghost from_gives = { λ _ no. no ≡ nos.OutOfMemory };
+
     fn from(_e: OutOfMemory) -> StepNo {
         StepNo::OutOfMemory
     }

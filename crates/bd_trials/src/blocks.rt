@@ -1,17 +1,11 @@
 //! A malloc device of four blocks of 8 bytes, by hand. Bytes and digests are by python.
 use bd_base::{ApplyEnd, DevId, DevRow, Fill, HandleId, Kind, Name, Op, OutOfMemory, Rows, Setup};
-use bd_blocks::{
-    base_place, blocks_of, boundary_of, copy_of_piece, device_named, digest_due, extents,
-    find_base, home, is_aio, is_digest_due, is_home, is_malloc, new_piece, part_at_start, serve,
-    size_of,
-};
+use bd_blocks::{digest_due, extents, new_piece, part_at_start, serve};
 use bd_machine::{Base, Extent, OpenPiece, OpenRequest, Progress};
 use std::alloc::Global;
 use std::test::Fail;
 
-const NULL: DevId = DevId(0);
-
-const MALLOC: DevId = DevId(1);
+const MALLOC: DevId = DevId(0);
 
 const SIZE: u32 = 8;
 
@@ -26,10 +20,10 @@ const DIGEST: [u8; 32] = [
     3, 190, 35, 15, 253, 175, 105, 65, 90, 69, 36, 44,
 ];
 
-fn row(alloc: Global, name: &[u8], kind: Kind) -> Result<DevRow, OutOfMemory> {
+fn row(alloc: Global) -> Result<DevRow, OutOfMemory> {
     Ok(DevRow {
-        name: Name::from_slice(alloc, name)?,
-        kind,
+        name: Name::from_slice(alloc, b"Malloc0")?,
+        kind: Kind::Malloc,
         base: None,
         blocks: 4,
         size: SIZE,
@@ -40,13 +34,11 @@ fn row(alloc: Global, name: &[u8], kind: Kind) -> Result<DevRow, OutOfMemory> {
     })
 }
 
-// Device 0 is null, device 1 malloc; their homes are threads 0 and 1 of two.
 fn setup(alloc: Global) -> Result<Setup, OutOfMemory> {
     let mut devices = Rows::new(alloc);
-    devices.push(row(alloc, b"Null0", Kind::Null)?)?;
-    devices.push(row(alloc, b"Malloc0", Kind::Malloc)?)?;
+    devices.push(row(alloc)?)?;
     Ok(Setup {
-        threads: 2,
+        threads: 1,
         devices,
         rates: Rows::new(alloc),
         injections: Rows::new(alloc),
@@ -66,41 +58,25 @@ fn request(op: Op) -> OpenRequest {
     }
 }
 
-#[test]
-fn devices_have_rows_and_homes(rt: HostRuntime) -> Result<(), Fail> {
-    let setup = setup(rt.alloc())?;
-    let name = Name::from_slice(rt.alloc(), b"Malloc0")?;
-    assert!(rt; device_named(&setup, &name) == Some(1));
-    assert_eq!(rt; blocks_of(&setup, MALLOC), 4);
-    assert_eq!(rt; size_of(&setup, DevId(2)), 0);
-    assert_eq!(rt; boundary_of(&setup, NULL), 2);
-    assert_eq!(rt; home(&setup, MALLOC), 1);
-    assert!(rt; is_home(&setup, 1, MALLOC) && !is_home(&setup, 0, DevId(2)));
-    assert!(rt; is_malloc(&setup, MALLOC) && !is_malloc(&setup, NULL) && !is_aio(&setup, NULL));
-    Ok(())
-}
+// First block, number of blocks, and the extents that such a range is cut into.
+const CUTS: [(u64, u64, &[Extent]); 3] = [
+    (0, 2, &[Extent { first: 0, count: 2 }]),
+    (
+        1,
+        3,
+        &[Extent { first: 1, count: 1 }, Extent { first: 2, count: 2 }],
+    ),
+    (3, 1, &[Extent { first: 3, count: 1 }]),
+];
 
 #[test]
-fn a_request_is_cut_at_the_boundary(rt: HostRuntime) -> Result<(), Fail> {
+fn ranges_are_cut_at_the_boundary(rt: HostRuntime) -> Result<(), Fail> {
     let setup = setup(rt.alloc())?;
-    let found = extents(rt.alloc(), &setup, MALLOC, 1, 3)?;
-    let wanted = [Extent { first: 1, count: 1 }, Extent { first: 2, count: 2 }];
-    assert!(rt; found.as_slice() == wanted.as_slice());
-    let fill = Fill {
-        seed: 5,
-        flip: true,
-    };
-    let piece = new_piece(&setup, request(Op::Write(fill)), 1, wanted[1]);
-    assert!(rt;
-        matches!(
-            piece.op,
-            Op::Write(Fill {
-                seed: 5,
-                flip: false
-            })
-        )
-    );
-    assert!(rt; copy_of_piece(&piece)?.lba == 2);
+    for row in &CUTS {
+        let (lba, count, expected) = *row;
+        let found = extents(rt.alloc(), &setup, MALLOC, lba, count)?;
+        assert!(rt; found.as_slice() == expected, "{count} from {lba}");
+    }
     Ok(())
 }
 
@@ -134,9 +110,7 @@ fn has_read(piece: &Option<OpenPiece>, bytes: &[u8]) -> bool {
 fn a_write_is_read_back(rt: HostRuntime) -> Result<(), Fail> {
     let alloc = rt.alloc();
     let setup = setup(alloc)?;
-    let mut bases = part_at_start(alloc, &setup, 1)?.bases;
-    assert!(rt; base_place(bases.as_slice(), MALLOC) == Some(0));
-    assert!(rt; find_base(bases.as_slice(), NULL).is_none());
+    let mut bases = part_at_start(alloc, &setup, 0)?.bases;
     let fill = Fill {
         seed: 5,
         flip: true,
@@ -148,7 +122,5 @@ fn a_write_is_read_back(rt: HostRuntime) -> Result<(), Fail> {
     let read = bytes_of(alloc, &mut bases, &setup, Op::Read, all)?;
     assert!(rt; has_read(&read, &WRITTEN));
     assert!(rt; digest_due(&setup, bases.as_slice(), MALLOC) == Some(Some(DIGEST)));
-    assert!(rt; is_digest_due(&setup, bases.as_slice(), MALLOC, &Some(DIGEST)));
-    assert!(rt; is_digest_due(&setup, bases.as_slice(), NULL, &None));
     Ok(())
 }

@@ -1,6 +1,5 @@
-//! Tests of crates whose own proof takes minutes, through their public functions. They stand apart
-//! because a crate with tests is proved a second time together with them, and this one has nothing
-//! else to be proved.
+//! Tests of other crates, through their public functions. They stand apart because a crate with
+//! tests is proved a second time together with them, and this one has nothing else to be proved.
 #![tactic(auto)]
 
 #[cfg(test)]
@@ -8,11 +7,15 @@ mod base;
 #[cfg(test)]
 mod blocks;
 #[cfg(test)]
-mod changes;
-#[cfg(test)]
 mod config;
 #[cfg(test)]
-mod home;
+mod cut;
+#[cfg(test)]
+mod delay;
+#[cfg(test)]
+mod error;
+#[cfg(test)]
+mod iodev;
 #[cfg(test)]
 mod jobs;
 #[cfg(test)]
@@ -20,8 +23,12 @@ mod msg;
 #[cfg(test)]
 mod outside;
 #[cfg(test)]
+mod poller;
+#[cfg(test)]
+mod qos;
+#[cfg(test)]
 mod report;
 #[cfg(test)]
-mod rules;
-#[cfg(test)]
 mod stack;
+#[cfg(test)]
+mod user;
