@@ -6,3 +6,6 @@ pub mod Spliced
 pub mod FirstByte
 pub mod Joined
 pub mod Places
+pub mod Runs
+pub mod Bits
+pub mod Written

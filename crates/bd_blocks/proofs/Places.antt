@@ -5,7 +5,7 @@ use Rattle.bd_machine.specs.Table.{change_first}
 
 module _ {X : Type 0} (is : X → Bool) where
   -- how many items stand before the first that passes
-  abbrev before : List X → ℕ
+  abbrev pub before : List X → ℕ
   before [] = 0
   before (x ∷ xs) = cond (not (is x)) (suc (before xs)) 0
 
@@ -50,6 +50,12 @@ module _ {X : Type 0} (is : X → Bool) where
       go true h q ih = ap Some (sym q)
       go false h q ih = ih (low (before ys) (length ys) h) q
 
+  pub found_place : (xs : List X) (i : ℕ) → position is xs ≡ Some i → before xs ≡ i
+  found_place xs i e = (placed xs i e).0
+
+  pub is_before : (xs : List X) (i : ℕ) → position is xs ≡ Some i → before xs < length xs
+  is_before xs i e = (placed xs i e).1
+
   -- what stands at the place is the first that passes
   pub found_at : (xs : List X) (i : ℕ) (x : X) → position is xs ≡ Some i → x ≡ get_or xs i x → find is xs ≡ Some x
   found_at xs i x e q =
@@ -64,13 +70,16 @@ module _ {X : Type 0} (is : X → Bool) where
       go true l ih = absurd (none (length ys) l)
       go false l ih = ih (low_le (length ys) (before ys) l)
 
+  pub is_past : (xs : List X) → position is xs ≡ None → length xs ≤ before xs
+  is_past xs e = go (nat_lt (position_or_len is xs) (length xs)) refl e
+    where
+      go : (b : Bool) → nat_lt (position_or_len is xs) (length xs) ≡ b → cond b (Some (position_or_len is xs)) None ≡ None → length xs ≤ before xs
+      go true q e = cc
+      go false q e = subst (λ (n : ℕ). length xs ≤ n) (sym (before_is xs)) (ltb-false (position_or_len is xs) (length xs) q)
+
   -- where there is no place none passes
   pub missed : (xs : List X) → position is xs ≡ None → find is xs ≡ None
-  missed xs e = go (nat_lt (position_or_len is xs) (length xs)) refl e
-    where
-      go : (b : Bool) → nat_lt (position_or_len is xs) (length xs) ≡ b → cond b (Some (position_or_len is xs)) None ≡ None → find is xs ≡ None
-      go true q e = cc
-      go false q e = missed_before xs (subst (λ (n : ℕ). length xs ≤ n) (sym (before_is xs)) (ltb-false (position_or_len is xs) (length xs) q))
+  missed xs e = missed_before xs (is_past xs e)
 
   set_before : (f : X → X) (xs : List X) (y d : X) → before xs < length xs → y ≡ f (get_or xs (before xs) d) → set xs (before xs) y ≡ change_first is f xs
   set_before f [] y d h q = absurd (omega arith)
@@ -98,8 +107,4 @@ module _ {X : Type 0} (is : X → Bool) where
 
   -- where there is no place none is changed
   pub not_found : (f : X → X) (xs : List X) → position is xs ≡ None → xs ≡ change_first is f xs
-  not_found f xs e = go (nat_lt (position_or_len is xs) (length xs)) refl e
-    where
-      go : (b : Bool) → nat_lt (position_or_len is xs) (length xs) ≡ b → cond b (Some (position_or_len is xs)) None ≡ None → xs ≡ change_first is f xs
-      go true q e = cc
-      go false q e = kept_before f xs (subst (λ (n : ℕ). length xs ≤ n) (sym (before_is xs)) (ltb-false (position_or_len is xs) (length xs) q))
+  not_found f xs e = kept_before f xs (is_past xs e)

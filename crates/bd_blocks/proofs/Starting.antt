@@ -1,7 +1,13 @@
 -- Bases found one after another, and many of the same.
-use Rattle.std.proofs.Common.{◌≡◌, ℕ, suc, ◌+◌, ◌-◌, ◌<◌, List, ◌∷◌, ◌++◌, Option, Some, None, replicate, refl, ap, arith}
+use Rattle.std.proofs.Common.{◌≡◌, ℕ, suc, ◌+◌, ◌-◌, ◌<◌, Bool, true, false, cond, List, ◌∷◌, ◌++◌, Option, Some, None, filter, map, replicate, refl, sym, ◌∙◌, ap, arith}
 use Rattle.std.specs.List.{cons_option}
 use Rattle.std.specs.Prelude.{option_to_list}
+use Rattle.bd_base.specs.declared.id.DevId.{DevId}
+use Rattle.bd_base.specs.declared.setup.Setup.{Setup}
+use Rattle.bd_machine.specs.declared.state.Registry.{Registry}
+use Rattle.bd_machine.specs.Limits.{is_limited}
+use Rattle.bd_machine.specs.Start.{with_channel, with_channels}
+use Rattle.bd_machine.specs.Users.{dev_of}
 
 pub next_base : {X : Type 0} (o : Option X) (xs : List X) → cons_option o xs ≡ option_to_list o ++ xs
 next_base None xs = refl
@@ -9,3 +15,22 @@ next_base (Some x) xs = refl
 
 pub zeros_next : {X : Type 0} (i n : ℕ) (x : X) → i < n → replicate (n - i) x ≡ x ∷ replicate (n - (i + 1)) x
 zeros_next i n x h = let e : n - i ≡ suc (n - (i + 1)) = omega arith in ap (λ (k : ℕ). replicate k x) e
+
+-- ---- channels of limited devices
+
+module _ (setup : Setup) (n : ℕ) (left bs : List ℕ) (was now total : Registry) where
+  pub channel_taken : left ≡ n ∷ bs → is_limited setup (dev_of n) ≡ true → now ≡ with_channel setup (dev_of n) was
+      → with_channels setup (filter (is_limited setup) (map dev_of left)) was ≡ total → with_channels setup (filter (is_limited setup) (map dev_of bs)) now ≡ total
+  channel_taken e is grown all =
+      ap (with_channels setup (filter (is_limited setup) (map dev_of bs))) grown
+      ∙ sym (ap (λ (xs : List ℕ). with_channels setup (filter (is_limited setup) (map dev_of xs)) was) e
+      ∙ ap (λ (b : Bool). with_channels setup (cond b (dev_of n ∷ filter (is_limited setup) (map dev_of bs)) (filter (is_limited setup) (map dev_of bs))) was) is)
+      ∙ all
+
+  pub channel_left : left ≡ n ∷ bs → is_limited setup (dev_of n) ≡ false → now ≡ was
+      → with_channels setup (filter (is_limited setup) (map dev_of left)) was ≡ total → with_channels setup (filter (is_limited setup) (map dev_of bs)) now ≡ total
+  channel_left e is same all =
+      ap (with_channels setup (filter (is_limited setup) (map dev_of bs))) same
+      ∙ sym (ap (λ (xs : List ℕ). with_channels setup (filter (is_limited setup) (map dev_of xs)) was) e
+      ∙ ap (λ (b : Bool). with_channels setup (cond b (dev_of n ∷ filter (is_limited setup) (map dev_of bs)) (filter (is_limited setup) (map dev_of bs))) was) is)
+      ∙ all

@@ -1,1 +1,3 @@
+pub mod Counts
+pub mod Cuts
 pub mod Digests

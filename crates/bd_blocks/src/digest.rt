@@ -7,9 +7,9 @@ ghost use Rattle.bd_machine.specs.Homes.{is_base, is_digest_at, is_digest_of};
 ghost use Rattle.bd_blocks.specs.Digests.{digest_at, digest_due};
 
 use crate::bases::find_base;
-use crate::devices::is_malloc;
 use bd_base::{Bytes, DevId, Setup};
 use bd_machine::{Base, Content};
+use bd_stack::is_malloc;
 use sha2::{Digest, Sha256};
 
 /// The SHA-256 of all blocks in order.

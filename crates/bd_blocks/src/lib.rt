@@ -1,20 +1,29 @@
-//! Devices and their blocks: the row and the home of a device, where a request is cut, what a piece
-//! does to blocks and reads of them, and what a thread has before any entry.
+//! Blocks of devices: limits, channels, where a request is cut, what a piece does to blocks and reads of
+//! them, and what there is before any entry. What lies below a device is bd_stack's, and named here too.
 #![tactic(auto)]
 
 mod bases;
-mod devices;
+mod channels;
 mod digest;
+mod limits;
 mod pieces;
+mod registry;
 mod serving;
 mod start;
 mod store;
+mod threads;
 
 pub use bases::{base_place, find_base};
-pub use devices::{
-    blocks_of, boundary_of, device_named, home, is_aio, is_home, is_malloc, row_of, size_of,
+pub use bd_stack::{
+    at, base_handle, base_of, below, blocks_of, boundary_of, depth_of, device_named, firsts, home,
+    is_aio, is_base_handle, is_delay, is_error, is_home, is_malloc, row_of, size_of, stands_on,
+    users,
 };
+pub use channels::{get_channel, references, set_count};
 pub use digest::{digest_blocks, digest_due, is_digest_due};
+pub use limits::{counts_way, is_limited, rates_of};
 pub use pieces::{copy_of_piece, extents, new_piece};
+pub use registry::registry_at_start;
 pub use serving::serve;
 pub use start::part_at_start;
+pub use threads::{first_of, has, is_nobody, with_thread, without};

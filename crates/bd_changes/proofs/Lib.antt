@@ -1,4 +1,7 @@
+pub mod Dues
+pub mod Each
 pub mod Firsts
 pub mod Left
 pub mod Moving
+pub mod Places
 pub mod Written

@@ -3,6 +3,6 @@ use Rattle.std.specs.Prelude.{[], None}
 use Rattle.bd_machine.specs.declared.state.Part.{Part}
 use Rattle.bd_machine.specs.View.{View}
 
--- a view of this part, without tokens and handles
+-- a view of this part, without tokens, handles and channels
 abbrev pub lone : Part → View
-lone part = record { part = part; here = λ id. None; handles = [] }
+lone part = record { part = part; here = λ id. None; handles = []; channels = λ dev. None }

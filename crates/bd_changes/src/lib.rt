@@ -1,13 +1,28 @@
-//! What an act makes of a thread's part, of a progress and of the registry.
+//! What an act makes of a thread's part and of the registry.
 #![tactic(auto)]
 
 mod counts;
+mod devices;
+mod events;
+mod homes;
+mod kept;
 mod lines;
 mod messages;
+mod noted;
+mod notices;
 mod registry;
 mod requests;
+mod resets;
+mod walks;
 
+pub use events::{closed, decide, destruct_of, device_due, make_due, owe, pay};
+pub use homes::destructed;
+pub use kept::{news_of, progress_put, progress_took, sent, stays, taken, trip_put};
 pub use lines::{decision_of, line_done};
-pub use messages::{progress_put, progress_took, put, took};
+pub use messages::{arrived, put, took};
+pub use noted::note_taken;
+pub use notices::take_notice;
 pub use registry::register;
-pub use requests::{accepted, remove_open};
+pub use requests::{accepted, completed, remove_open};
+pub use resets::{advance, freeze, stage};
+pub use walks::{Plan, begin_walk, end_walk, walk_on};

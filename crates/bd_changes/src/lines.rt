@@ -1,9 +1,8 @@
 //! A line of a script is decided, or done.
-ghost use Rattle.std.specs.Prelude.{◌≡◌, ◌++◌, filter, map, not, option_copied, IfOk, OnOk};
+ghost use Rattle.std.specs.Prelude.{◌≡◌, ◌++◌, map, option_copied, IfOk, OnOk};
 ghost use Rattle.std.specs.List.{range_with_len};
-ghost use Rattle.bd_base.specs.Name.{same_name};
 ghost use Rattle.bd_machine.specs.Events.{decision_of};
-ghost use Rattle.bd_machine.specs.Scripts.{bound_after, change_job, mark_to, posted};
+ghost use Rattle.bd_machine.specs.Scripts.{bound_after, change_job, mark_to, posted, unbound};
 ghost use Rattle.bd_changes.specs.Lone.{lone};
 
 use bd_base::{Answer, Job, Name, OutOfMemory, Rows, Setup};
@@ -18,6 +17,8 @@ pub fn decision_of(answer: &Answer) -> Option<Decided>
     match answer {
         Answer::Opened { handle, .. } => Some(Decided::Opened(*handle)),
         Answer::Closed { .. } => Some(Decided::Closed),
+        Answer::Claimed => Some(Decided::Done),
+        Answer::Removing { .. } => Some(Decided::Done),
         Answer::Refused(errno) => Some(Decided::Refused(*errno)),
         _ => None,
     }
@@ -25,14 +26,14 @@ pub fn decision_of(answer: &Answer) -> Option<Decided>
 
 // The names without one.
 fn unbind(alloc: Global, bound: &mut Rows<Binding>, name: &Name)
-    ensures { bound.new ≡ filter (λ b. not (same_name b.name name.now)) bound.old }
+    ensures { bound.new ≡ unbound name.now bound.old }
 {
     let mut names = replace(bound, Rows::new(alloc)).into_vec();
     names.retain(|b| !b.name.is(name));
     *bound = Rows::from_vec(names);
 }
 
-// An open that was granted binds its name, and a close frees it.
+// An open that was granted binds its name anew, and a close frees it.
 fn rebind(
     alloc: Global,
     bound: &mut Rows<Binding>,
@@ -44,6 +45,7 @@ fn rebind(
     match (job, decided) {
         (Some(Job::Open { handle, .. }), Some(Decided::Opened(id))) => {
             let name = handle.copy()?;
+            unbind(alloc, bound, handle);
             bound.push(Binding { name, handle: id })
         }
         (Some(Job::Close { handle }), Some(Decided::Closed)) => {
@@ -77,8 +79,8 @@ fn post(due: &mut Rows<Due>, threads: u32, mark: &Name) -> Result<(), OutOfMemor
     Ok(())
 }
 
-// A post owes its mark to every thread.
-fn owe(due: &mut Rows<Due>, setup: &Setup, job: Option<&Job>) -> Result<(), OutOfMemory>
+// A post's mark is due to every thread.
+fn post_if_asked(due: &mut Rows<Due>, setup: &Setup, job: Option<&Job>) -> Result<(), OutOfMemory>
     ensures { OnOk result (due.new ≡ due.old ++ posted setup.now (option_copied job.entry)) }
 {
     match job {
@@ -88,8 +90,8 @@ fn owe(due: &mut Rows<Due>, setup: &Setup, job: Option<&Job>) -> Result<(), OutO
 }
 
 /// The line with this job is done: the next one is to come, undecided; an open that was granted binds
-/// its name, a close frees it, and a post owes its mark to every thread. Out of memory leaves the part
-/// unspecified.
+/// its name anew, a close frees it, and a post's mark is due to every thread. Out of memory leaves the
+/// part unspecified.
 pub fn line_done(
     alloc: Global,
     part: &mut Part,
@@ -102,7 +104,7 @@ pub fn line_done(
         return Err(OutOfMemory);
     };
     rebind(alloc, &mut part.bound, part.decided, job)?;
-    owe(&mut part.due, setup, job)?;
+    post_if_asked(&mut part.due, setup, job)?;
     part.next = next;
     part.decided = None;
     Ok(())

@@ -1,61 +1,197 @@
 //! The registry after an event and its answer.
-ghost use Rattle.std.specs.Prelude.{◌≡◌, ◌++◌, ◌∷◌, ◌+◌, [], Some, filter, not, OnOk};
-ghost use Rattle.bd_machine.specs.Registry.{is_own, registry_after};
+ghost use Rattle.std.specs.Prelude.{◌≡◌, ◌++◌, ◌∷◌, [], None, Some, filter, map, not, cond, IfOk, OnOk};
+ghost use Rattle.bd_machine.specs.BlockMap.{stands_on};
+ghost use Rattle.bd_machine.specs.Changes.{base_put, between_after, counts_after, counts_set, handles_after, next_after, one_less, registry_after, with_claim};
+ghost use Rattle.bd_machine.specs.Claims.{makes_writing};
+ghost use Rattle.bd_machine.specs.Registry.{is_own, references};
 
-use bd_base::{Answer, DevId, HandleId, OutOfMemory, RegEvent, Rows, ThreadId};
-use bd_machine::{Handle, Registry};
+use crate::devices::change_devices;
+use bd_base::{
+    Answer, ClaimKind, DevId, Dropped, HandleId, OutOfMemory, RegEvent, Rows, Setup, ThreadId,
+};
+use bd_blocks::{get_channel, references, set_count, stands_on};
+use bd_machine::{Between, Handle, Registry};
 use std::alloc::Global;
 use std::mem::replace;
 
-// The handle of a thread is open no more.
-fn release(alloc: Global, registry: &mut Registry, thread: u32, id: HandleId)
-    ensures { registry.new ≡ record registry.old { handles = filter (λ h. not (is_own thread id h)) registry.old.handles } }
+// ---- handles
+
+fn is_own(thread: u32, id: HandleId, h: &Handle) -> bool
+    ensures { result ≡ is_own thread id h.now }
 {
-    let mut handles = replace(&mut registry.handles, Rows::new(alloc)).into_vec();
-    handles.retain(|h| !(h.id.0 == id.0 && h.thread.0 == thread));
-    registry.handles = Rows::from_vec(handles);
+    h.id.0 == id.0 && h.thread.0 == thread
 }
 
-// The next number goes on.
-fn next_number(registry: &mut Registry) -> Result<(), OutOfMemory>
-    ensures { OnOk result (registry.new ≡ record registry.old { next = registry.old.next + 1 }) }
+// The handle of a thread is open no more.
+fn release(alloc: Global, handles: &mut Rows<Handle>, thread: u32, id: HandleId)
+    ensures { handles.new ≡ filter (λ h. not (is_own thread id h)) handles.old }
 {
-    match registry.next.checked_add(1) {
-        Some(next) => {
-            registry.next = next;
-            Ok(())
-        }
-        None => Err(OutOfMemory),
+    let mut left = replace(handles, Rows::new(alloc)).into_vec();
+    left.retain(|h| !is_own(thread, id, h));
+    *handles = Rows::from_vec(left);
+}
+
+fn makes_writing(kind: ClaimKind) -> bool
+    ensures { result ≡ makes_writing kind }
+{
+    !matches!(kind, ClaimKind::WriteNone)
+}
+
+fn claim_one(h: &mut Handle, thread: u32, id: HandleId, kind: ClaimKind)
+    ensures { h.new ≡ cond (is_own thread id h.old) (with_claim kind h.old) h.old }
+{
+    if is_own(thread, id, h) {
+        h.write = h.write || makes_writing(kind);
+        h.claim = Some(kind);
     }
 }
 
-/// The registry after an event of a thread and its answer: an open that was granted adds its handle,
-/// a close takes it out. A number past 128 bits counts as out of memory: it takes more entries than
-/// there are stamps. Out of memory leaves the registry unspecified.
-pub fn register(
+// The handle of a thread holds a claim of this kind.
+#[tactic(auto, using(crate::proofs::Each::each_next, crate::proofs::Each::each_end, crate::proofs::Each::each_length))]
+fn claim(handles: &mut Rows<Handle>, thread: u32, id: HandleId, kind: ClaimKind)
+    ensures { handles.new ≡ map (λ h. cond (is_own thread id h) (with_claim kind h) h) handles.old }
+{
+    for i in 0..handles.len() {
+        claim_one(handles.at_mut(i), thread, id, kind);
+    }
+}
+
+fn change_handles(
     alloc: Global,
+    handles: &mut Rows<Handle>,
+    thread: u32,
+    event: &RegEvent,
+    answer: &Answer,
+) -> Result<(), OutOfMemory>
+    ensures { OnOk result (handles.new ≡ handles_after thread handles.old event.now answer.now) }
+{
+    match (event, answer) {
+        (RegEvent::Open { write, .. }, Answer::Opened { handle, dev }) => handles.push(Handle {
+            id: *handle,
+            dev: *dev,
+            thread: ThreadId(thread),
+            write: *write,
+            claim: None,
+        }),
+        (RegEvent::Close { handle }, Answer::Closed { .. }) => {
+            release(alloc, handles, thread, *handle);
+            Ok(())
+        }
+        (RegEvent::Claim { handle, kind }, Answer::Claimed) => {
+            claim(handles, thread, *handle, *kind);
+            Ok(())
+        }
+        _ => Ok(()),
+    }
+}
+
+// The number of the next handle; it goes on with each open that was granted.
+fn next_after(next: u128, answer: &Answer) -> Result<u128, OutOfMemory>
+    ensures { IfOk result (λ n. n ≡ next_after next answer.now) }
+{
+    match answer {
+        Answer::Opened { .. } => next.checked_add(1).ok_or(OutOfMemory),
+        _ => Ok(next),
+    }
+}
+
+// ---- channels
+
+fn one_less(count: Option<u128>) -> Option<u128>
+    ensures { result ≡ one_less count }
+{
+    match count {
+        Some(n) => Some(n.saturating_sub(1)),
+        None => None,
+    }
+}
+
+// A thread's channel of a device is gone, and the device below has one reference less.
+fn drop_channel(
+    registry: &mut Registry,
+    setup: &Setup,
+    thread: u32,
+    dev: DevId,
+) -> Result<(), OutOfMemory>
+    ensures { OnOk result (registry.new ≡ record registry.old {
+      channels = counts_set thread
+          (base_put (references registry.old thread) (stands_on setup.now dev) ++ record { dev = dev; count = None } ∷ [])
+          registry.old.channels;
+    }) }
+{
+    if let Some(base) = stands_on(setup, dev) {
+        let left = one_less(references(registry, thread, base));
+        set_count(&mut registry.channels, thread, base, left)?;
+    }
+    set_count(&mut registry.channels, thread, dev, None)
+}
+
+fn change_channels(
+    alloc: Global,
+    setup: &Setup,
     registry: &mut Registry,
     thread: u32,
     event: &RegEvent,
     answer: &Answer,
 ) -> Result<(), OutOfMemory>
-    ensures { OnOk result (registry.new ≡ registry_after registry.old thread (Some (record { event = event.now; answer = answer.now }))) }
+    ensures { OnOk result (registry.new ≡ record registry.old {
+      channels = counts_set thread (counts_after setup.now (references registry.old thread) event.now answer.now) registry.old.channels;
+    }) }
 {
     match (event, answer) {
-        (RegEvent::Open { write, .. }, Answer::Opened { handle, dev }) => {
-            next_number(registry)?;
-            registry.handles.push(Handle {
-                id: *handle,
-                dev: *dev,
-                thread: ThreadId(thread),
-                write: *write,
-            })
+        (RegEvent::GetChannel { dev }, Answer::Got { .. }) => {
+            get_channel(alloc, setup, thread, *dev, registry)
         }
-        (RegEvent::Close { handle }, Answer::Closed { .. }) => {
-            release(alloc, registry, thread, *handle);
-            Ok(())
+        (RegEvent::PutChannel { dev, .. }, Answer::PutDown { left }) => {
+            set_count(&mut registry.channels, thread, *dev, Some(*left))
         }
-        (_, Answer::Opened { .. }) => next_number(registry),
+        (
+            RegEvent::DropChannel { .. },
+            Answer::Dropped {
+                what: Dropped::Kept,
+                ..
+            },
+        ) => Ok(()),
+        (RegEvent::DropChannel { dev }, Answer::Dropped { .. }) => {
+            drop_channel(registry, setup, thread, *dev)
+        }
         _ => Ok(()),
     }
+}
+
+// ---- what has to follow
+
+fn between_after(thread: u32, event: &RegEvent, answer: &Answer) -> Option<Between>
+    ensures { result ≡ between_after thread event.now answer.now }
+{
+    match (event, answer) {
+        (RegEvent::Open { .. }, Answer::Opened { dev, .. }) => {
+            Some(Between::Opening { thread, dev: *dev })
+        }
+        (RegEvent::PutChannel { dev, closing: true }, Answer::PutDown { .. }) => {
+            Some(Between::Closing { thread, dev: *dev })
+        }
+        _ => None,
+    }
+}
+
+/// The registry after an event of a thread and its answer: handles, channels, devices, and what has to
+/// follow. A number past its type's range counts as out of memory: it takes more entries than there are
+/// stamps. Out of memory leaves the registry unspecified.
+pub fn register(
+    alloc: Global,
+    setup: &Setup,
+    registry: &mut Registry,
+    thread: u32,
+    event: &RegEvent,
+    answer: &Answer,
+) -> Result<(), OutOfMemory>
+    ensures { OnOk result (registry.new ≡ registry_after setup.now registry.old thread (Some (record { event = event.now; answer = answer.now }))) }
+{
+    change_channels(alloc, setup, registry, thread, event, answer)?;
+    change_handles(alloc, &mut registry.handles, thread, event, answer)?;
+    change_devices(&mut registry.devices, event, answer)?;
+    registry.next = next_after(registry.next, answer)?;
+    registry.between = between_after(thread, event, answer);
+    Ok(())
 }

@@ -1,37 +1,49 @@
 //! A request is accepted, or completes.
-ghost use Rattle.std.specs.Prelude.{◌≡◌, filter, not, OnOk};
-ghost use Rattle.bd_machine.specs.Requests.{change_accept};
+ghost use Rattle.std.specs.Prelude.{◌≡◌, ◌++◌, filter, not, option_copied, OnOk};
+ghost use Rattle.bd_machine.specs.Requests.{change_complete, submitted_at};
 ghost use Rattle.bd_machine.specs.Same.{same_request};
+ghost use Rattle.bd_machine.specs.Walks.{is_reset_of};
+ghost use Rattle.bd_changes.specs.Accepted.{accepted};
 ghost use Rattle.bd_changes.specs.Lone.{lone};
 
-use bd_base::{DevId, HandleId, OutOfMemory, ReqId, Rows};
-use bd_machine::{Decided, Open, Part};
-use bd_rules::{Submission, same_request};
+use bd_base::{HandleId, Line, OutOfMemory, ReqId, Rows};
+use bd_machine::{Decided, Open, Part, Resetting, Submitted};
+use bd_rules::is_reset_of;
+use bd_view::same_request;
 use std::alloc::Global;
 use std::mem::replace;
 
-/// A request of this part was accepted: it is open, it decided the line, and the next request gets a
-/// greater number. A number past 64 bits counts as out of memory: no request has the greatest. Out of
-/// memory leaves the part unspecified.
-pub fn accepted(
-    part: &mut Part,
+// The line that an accepted request came from is kept with it.
+fn note_line(
+    submitted: &mut Rows<Submitted>,
     req: ReqId,
-    dev: DevId,
     handle: HandleId,
-    what: Submission,
+    line: Option<&Line>,
 ) -> Result<(), OutOfMemory>
-    ensures { OnOk result (part.new ≡ (change_accept (lone part.old) req dev handle what.op what.lba what.count).part) }
+    ensures { OnOk result (submitted.new ≡ submitted.old ++ submitted_at req handle (option_copied line.entry)) }
 {
-    let Some(next_request) = req.seq.checked_add(1) else {
+    match line {
+        Some(l) => submitted.push(Submitted {
+            line: l.number,
+            seq: req.seq,
+            handle,
+        }),
+        None => Ok(()),
+    }
+}
+
+/// A request was accepted, as this line of the script asked: it is open, it decided the line, the line
+/// is kept with it, and the next request gets a greater number. A number past 64 bits counts as out of
+/// memory: no request has the greatest. Out of memory leaves the part unspecified.
+pub fn accepted(part: &mut Part, line: Option<&Line>, request: Open) -> Result<(), OutOfMemory>
+    ensures { OnOk result (part.new ≡ accepted (option_copied line.entry) request part.old) }
+{
+    let Some(next_request) = request.id.seq.checked_add(1) else {
         return Err(OutOfMemory);
     };
-    part.requests.push(Open {
-        id: req,
-        handle,
-        dev,
-        op: what.op,
-    })?;
-    part.decided = Some(Decided::Accepted(req));
+    note_line(&mut part.submitted, request.id, request.handle, line)?;
+    part.requests.push(request)?;
+    part.decided = Some(Decided::Accepted(request.id));
     part.next_request = next_request;
     Ok(())
 }
@@ -43,4 +55,21 @@ pub fn remove_open(alloc: Global, requests: &mut Rows<Open>, req: ReqId)
     let mut left = replace(requests, Rows::new(alloc)).into_vec();
     left.retain(|r| !same_request(r.id, req));
     *requests = Rows::from_vec(left);
+}
+
+// Takes the reset of a request out of the thread's.
+fn remove_reset(alloc: Global, resets: &mut Rows<Resetting>, req: ReqId)
+    ensures { resets.new ≡ filter (λ r. not (is_reset_of req r)) resets.old }
+{
+    let mut left = replace(resets, Rows::new(alloc)).into_vec();
+    left.retain(|r| !is_reset_of(req, r));
+    *resets = Rows::from_vec(left);
+}
+
+/// A request completed: it is open no more, and neither is its reset.
+pub fn completed(alloc: Global, part: &mut Part, req: ReqId)
+    ensures { part.new ≡ (change_complete (lone part.old) req).part }
+{
+    remove_open(alloc, &mut part.requests, req);
+    remove_reset(alloc, &mut part.resets, req);
 }

@@ -1,6 +1,7 @@
 //! The injections of one error device.
 ghost use Rattle.std.specs.Prelude.{◌≡◌};
-ghost use Rattle.bd_error.specs.Injected.{replaced, set_on, decision_for, left_after, taken, while_left, with_data, without_data};
+ghost use Rattle.bd_error.specs.Injected.{replaced, set_on};
+ghost use Rattle.bd_machine.specs.Injecting.{decision_for, left_after, taken, while_left, with_data, without_data};
 
 use bd_base::{Decision, ErrKind, Injection, Injections, IoSet, Op};
 

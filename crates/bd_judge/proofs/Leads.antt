@@ -1,4 +1,4 @@
--- A front of a history that is a run, and the state that it leads to.
+-- A prefix of a history that is a run, and the state that it leads to.
 use Rattle.std.proofs.Common.{◌≡◌, ℕ, ◌+◌, ◌<◌, List, [], ◌∷◌, ◌++◌, Some, length, take, drop, get_or, refl, sym, ◌∙◌, ap, subst, append_assoc}
 use Rattle.std.proofs.lemmas.List.{take_more, take-append-drop}
 use Rattle.bd_base.specs.declared.act.Entry.{Entry}
@@ -45,7 +45,7 @@ step_on setup xs i e m m' h is at step same = (
       (leads_with setup (take i xs) e m.state m'.state at.1 (subst (λ (x : Setup). IsStep x m.state e m'.state) at.0 step)),
 )
 
--- the whole list is a front, an item, and the rest
+-- the whole list is a prefix, an item, and the rest
 split_at : (xs : List Entry) (i : ℕ) (e : Entry) → i < length xs → e ≡ get_or xs i e → xs ≡ take i xs ++ e ∷ drop (i + 1) xs
 split_at xs i e h is =
     sym (take-append-drop (i + 1) xs)

@@ -1,7 +1,6 @@
 -- The laws of whole runs.
-use Rattle.std.proofs.Common.{◌≡◌, ℕ, ◌+◌, ◌<◌, ◌≤◌, true, not, ◌||◌, ◌⊎◌, inl, inr, List, [], ◌∷◌, ◌++◌, length, Option, Some, None, refl, sym, ◌∙◌, ap, subst, arith}
+use Rattle.std.proofs.Common.{◌≡◌, ℕ, ◌+◌, ◌<◌, ◌≤◌, not, ◌⊎◌, inl, inr, List, [], ◌∷◌, ◌++◌, Option, Some, None, refl, sym, ◌∙◌, ap, subst, arith}
 use Rattle.std.proofs.lemmas.Bool.{cases_eq}
-use Rattle.std.proofs.lemmas.List.{length-set}
 use Rattle.bd_base.specs.declared.id.ReqId.{ReqId}
 use Rattle.bd_base.specs.declared.act.Entry.{Entry}
 use Rattle.bd_base.specs.declared.setup.Setup.{Setup}
@@ -18,16 +17,15 @@ use Rattle.bd_machine.specs.Rest.{is_nowhere}
 use Rattle.bd_machine.specs.Run.{IsRun, IsRunFrom, after_all, state_after}
 use Rattle.bd_machine.specs.Same.{same_id}
 use Rattle.bd_machine.specs.Start.{start}
-use Rattle.bd_machine.specs.Step.{after, change_in, is_shutdown}
+use Rattle.bd_machine.specs.Step.{IsAllowed, after, change_in}
 use Rattle.bd_machine.specs.Table.{look_up}
 use Rattle.bd_machine.specs.View.{Change, view, came_for}
 use Rattle.bd_machine.proofs.Acts.{IsFresh}
 use Rattle.bd_machine.proofs.Complete.{fresh_start, balance, accepts_once, completed_as_accepted, accepted_on_own, completed_on_own, destructed_once}
 use Rattle.bd_machine.proofs.Laws.{part-own, part-other, view-own}
-use Rattle.bd_machine.proofs.Meaning.{content_stays, open_if, open_now}
+use Rattle.bd_machine.proofs.Acts.{open_if, open_now}
+use Rattle.bd_machine.proofs.Meaning.{content_stays}
 use Rattle.bd_machine.proofs.Steps.{allowed_thread, fresh_after, frame}
-
--- ---- entries, and those after them
 
 prefix_from : (setup : Setup) (s : State) (es fs : List Entry) → IsRunFrom setup s (es ++ fs) → IsRunFrom setup s es
 prefix_from setup s [] fs run = tt
@@ -35,32 +33,6 @@ prefix_from setup s (e ∷ es) fs run = (run.0, prefix_from setup (after setup s
 
 pub prefix_is_run : PrefixIsRun
 prefix_is_run setup told es fs run = prefix_from setup (start setup told) es fs run
-
--- the rest of a run is a run from where its prefix led
-pub run_after : (setup : Setup) (s : State) (es fs : List Entry) → IsRunFrom setup s (es ++ fs) → IsRunFrom setup (after_all setup s es) fs
-run_after setup s [] fs run = run
-run_after setup s (e ∷ es) fs run = run_after setup (after setup s e) es fs run.1
-
--- and where a run goes on from there, both together are one
-pub run_on : (setup : Setup) (s : State) (es fs : List Entry) → IsRunFrom setup s es → IsRunFrom setup (after_all setup s es) fs → IsRunFrom setup s (es ++ fs)
-run_on setup s [] fs run rest = rest
-run_on setup s (e ∷ es) fs run rest = (run.0, run_on setup (after setup s e) es fs run.1 rest)
-
-pub after_on : (setup : Setup) (s : State) (es fs : List Entry) → after_all setup s (es ++ fs) ≡ after_all setup (after_all setup s es) fs
-after_on setup s [] fs = refl
-after_on setup s (e ∷ es) fs = after_on setup (after setup s e) es fs
-
--- ---- what every entry leaves
-
-pub threads_stay : (setup : Setup) (s : State) (e : Entry) → length (after setup s e).parts ≡ length s.parts
-unfolding after
-threads_stay setup s e = length-set s.parts e.thread (change_in setup s e.thread e.act).part
-
-pub shut_after : (setup : Setup) (s : State) (e : Entry) → s.shut ≡ true → (after setup s e).shut ≡ true
-unfolding after
-shut_after setup s e h = ap (λ b. b || is_shutdown e.act) h
-
--- ---- the laws of an entry, and of a request
 
 pub step_is_determined : StepIsDetermined
 step_is_determined setup s e s1 s2 a b = a.1 ∙ sym b.1
@@ -73,12 +45,12 @@ content_changes_by_apply setup s e allowed still t = go (cases_eq e.thread t)
     change_of = change_in setup s e.thread e.act
 
     own : stored_at (after setup s e) e.thread ≡ stored_at s e.thread
-    own = ap (λ (p : Part). stored p.bases) (part-own s e (change_in setup s e.thread e.act) (allowed_thread setup s e allowed))
+    own = ap (λ (p : Part). stored p.bases) (part-own setup s e (change_in setup s e.thread e.act) (allowed_thread setup s e allowed))
         ∙ content_stays setup e.thread (view s e.thread) e.act (came_for setup s e.thread e.act) still
 
     go : (e.thread ≡ t) ⊎ (e.thread ≡ t → ⊥) → stored_at (after setup s e) t ≡ stored_at s t
     go (inl same) = subst (λ (u : ℕ). stored_at (after setup s e) u ≡ stored_at s u) same own
-    go (inr ne) = ap (λ (p : Part). stored p.bases) (part-other s e (change_in setup s e.thread e.act) t ne)
+    go (inr ne) = ap (λ (p : Part). stored p.bases) (part-other setup s e (change_in setup s e.thread e.act) t ne)
 
 closed_if : (o : Option Tracked) → open_if o ≡ 0 → place_of o ≡ Nowhere
 closed_if None h = refl
@@ -118,7 +90,7 @@ each_is_destructed_once setup told es run n h = destructed_once setup told es ru
 
 pub own_view_follows : OwnViewFollows
 unfolding after
-own_view_follows setup s e allowed = view-own s e (change_in setup s e.thread e.act) (allowed_thread setup s e allowed)
+own_view_follows setup s e allowed = view-own setup s e (change_in setup s e.thread e.act) (allowed_thread setup s e allowed)
 
 -- ---- the last entry of a run
 
@@ -130,7 +102,15 @@ fresh_by setup s (e ∷ es) fresh run = fresh_by setup (after setup s e) es (fre
 pub fresh_run : (setup : Setup) (told : Told) (es : List Entry) → IsRun setup told es → IsFresh (state_after setup told es)
 fresh_run setup told es run = fresh_by setup (start setup told) es (fresh_start setup told) run
 
+pub last_allowed : (setup : Setup) (s : State) (es : List Entry) (e : Entry) → IsRunFrom setup s (es ++ e ∷ []) → IsAllowed setup (after_all setup s es) e
+last_allowed setup s [] e run = run.0
+last_allowed setup s (x ∷ es) e run = last_allowed setup (after setup s x) es e run.1
+
+after_last : (setup : Setup) (s : State) (es : List Entry) (e : Entry) → after_all setup s (es ++ e ∷ []) ≡ after setup (after_all setup s es) e
+after_last setup s [] e = refl
+after_last setup s (x ∷ es) e = after_last setup (after setup s x) es e
+
 pub other_views_stay : OtherViewsStay
 other_views_stay setup told es e run t ne =
-    ap (λ (s : State). view s t) (after_on setup (start setup told) es (e ∷ []))
-    ∙ frame setup (state_after setup told es) e (fresh_run setup told es (prefix_is_run setup told es (e ∷ []) run)) (run_after setup (start setup told) es (e ∷ []) run).0 t ne
+    ap (λ (s : State). view s t) (after_last setup (start setup told) es e)
+    ∙ frame setup (state_after setup told es) e (fresh_run setup told es (prefix_is_run setup told es (e ∷ []) run)) (last_allowed setup (start setup told) es e run) t ne

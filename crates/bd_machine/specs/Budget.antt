@@ -4,6 +4,8 @@ use Rattle.std.specs.Int.{int_min}
 use Rattle.bd_base.specs.declared.device.Rates.{Rates}
 use Rattle.bd_base.specs.declared.request.Way.{Way}
 use Rattle.bd_base.specs.declared.request.Way.TheVariants.{Read, Write}
+use Rattle.bd_machine.specs.declared.state.Left.{Left}
+use Rattle.bd_machine.specs.declared.state.Starts.{Starts}
 
 -- the requests that a limit per second lets through in a timeslice, rounded up
 abbrev pub requests_in_slice : ℕ → ℕ
@@ -27,13 +29,6 @@ quotas_of r = record {
   r_bytes = bytes_in_slice r.r_mbytes_per_sec;
   w_bytes = bytes_in_slice r.w_mbytes_per_sec;
 }
-
--- what is left of each limit; below zero after an overrun
-pub record Left : Type 0 where
-  pub rw_requests : ℤ
-  pub rw_bytes : ℤ
-  pub r_bytes : ℤ
-  pub w_bytes : ℤ
 
 -- at first each limit has one quota left
 abbrev pub one_quota : Quotas → Left
@@ -91,11 +86,6 @@ renewed q slices l = record {
 abbrev pub slices_passed : ℕ → ℕ → ℕ
 slices_passed start now = (now - start) / 1000
 
--- the moments at which a device's first timeslice may have begun, as far as a history tells
-pub record Starts : Type 0 where
-  pub earliest : ℕ
-  pub latest : ℕ
-
 -- the starts from which exactly this number of timeslices passed up to a moment
 abbrev pub starts_before : ℕ → ℕ → Starts → Starts
 starts_before now slices s = record {
@@ -103,7 +93,7 @@ starts_before now slices s = record {
   latest = min s.latest (now - slices * 1000);
 }
 
--- this number of timeslices, with this one included, may have passed at a moment: some start is left
+-- this number of timeslices may have passed at a moment: some start is left
 abbrev pub may_have_passed : ℕ → ℕ → Starts → Bool
 may_have_passed now slices s =
     nat_le (slices * 1000) now && nat_le (starts_before now slices s).earliest (starts_before now slices s).latest

@@ -1,21 +1,29 @@
 -- The guards of each act, and what it changes, over what its thread sees and what came to it.
-use Rattle.std.specs.Prelude.{ℕ, Bool, true, false, List, []}
+use Rattle.std.specs.Prelude.{ℕ, Bool, true, false, not, ◌||◌, List, [], Option, Some, None}
 use Rattle.bd_base.specs.declared.act.Act.{Act}
 use Rattle.bd_base.specs.declared.act.Act.TheVariants as acts
+use Rattle.bd_base.specs.declared.event.Answer.TheVariants as answers
 use Rattle.bd_base.specs.declared.act.Token.{Token}
 use Rattle.bd_base.specs.declared.act.Token.TheVariants as tokens
 use Rattle.bd_base.specs.declared.event.RegEvent.{RegEvent}
 use Rattle.bd_base.specs.declared.event.RegEvent.TheVariants as events
 use Rattle.bd_base.specs.declared.setup.Setup.{Setup}
+use Rattle.bd_machine.specs.declared.state.TakenInjection.{TakenInjection}
+use Rattle.bd_machine.specs.Aborts.{guards_abort, change_abort}
 use Rattle.bd_machine.specs.Admission.{has_range}
+use Rattle.bd_machine.specs.AsYet.{as_yet}
+use Rattle.bd_machine.specs.Delays.{guards_hold, change_hold, guards_release, change_release}
 use Rattle.bd_machine.specs.Events.{guards_reg, change_reg}
-use Rattle.bd_machine.specs.Homes.{guards_apply, change_apply, guards_destruct, change_destruct}
+use Rattle.bd_machine.specs.Homes.{guards_apply, change_apply, guards_no_mem, change_no_mem, guards_destruct, change_destruct}
+use Rattle.bd_machine.specs.Injections.{guards_inject, change_inject, guards_pend, change_pend}
+use Rattle.bd_machine.specs.Limits.{guards_let, change_let, guards_tick, change_tick}
 use Rattle.bd_machine.specs.Messages.{guards_put, change_put, guards_took, change_took}
 use Rattle.bd_machine.specs.Requests.{guards_accept, change_accept, guards_refuse, change_refuse, guards_cut, change_cut, guards_complete, change_complete}
 use Rattle.bd_machine.specs.Scripts.{guards_script, change_script}
+use Rattle.bd_machine.specs.Walks.{guards_visit, change_visit}
 use Rattle.bd_machine.specs.View.{View, Came, Change}
 
--- ---- what is built: messages are pieces and marks, events are Open and Close, and no request is a reset or an abort
+-- ---- what is built as yet: messages are pieces and marks, events are Open and Close, and no request is a reset or an abort
 
 abbrev pub is_built_token : Token → Bool
 is_built_token (tokens.Piece req k) = true
@@ -27,19 +35,22 @@ is_built_event (events.Open name write) = true
 is_built_event (events.Close handle) = true
 is_built_event _ = false
 
+abbrev pub is_built_as_yet : Act → Bool
+is_built_as_yet (acts.Put to number what) = is_built_token what
+is_built_as_yet (acts.Took source number what) = is_built_token what
+is_built_as_yet (acts.Reg event answer) = is_built_event event
+is_built_as_yet (acts.Accept req dev handle op lba count) = has_range op
+is_built_as_yet (acts.Refuse handle op lba count errno) = has_range op
+is_built_as_yet (acts.Cut req pieces) = true
+is_built_as_yet (acts.Apply req k dev end) = true
+is_built_as_yet (acts.Complete req status shown) = true
+is_built_as_yet (acts.Destruct dev digest) = true
+is_built_as_yet (acts.Script line outcome) = true
+is_built_as_yet acts.Shutdown = true
+is_built_as_yet _ = false
+
 abbrev pub is_built : Act → Bool
-is_built (acts.Put to number what) = is_built_token what
-is_built (acts.Took source number what) = is_built_token what
-is_built (acts.Reg event answer) = is_built_event event
-is_built (acts.Accept req dev handle op lba count) = has_range op
-is_built (acts.Refuse handle op lba count errno) = has_range op
-is_built (acts.Cut req pieces) = true
-is_built (acts.Apply req k dev end) = true
-is_built (acts.Complete req status shown) = true
-is_built (acts.Destruct dev digest) = true
-is_built (acts.Script line outcome) = true
-is_built acts.Shutdown = true
-is_built _ = false
+is_built act = not as_yet || is_built_as_yet act
 
 -- ---- one table of acts
 
@@ -50,23 +61,53 @@ guards setup t v (acts.Took source number what) came = guards_took v came source
 guards setup t v (acts.Reg event answer) came = guards_reg setup t v came event answer
 guards setup t v (acts.Accept req dev handle op lba count) came = guards_accept setup t v came req dev handle op lba count
 guards setup t v (acts.Refuse handle op lba count errno) came = guards_refuse setup t v came handle op lba count errno
+guards setup t v (acts.Inject req dev decision) came = guards_inject v req dev decision
+guards setup t v (acts.Pend req) came = guards_pend t v req
+guards setup t v (acts.Let req dev now) came = guards_let setup t v req dev now
 guards setup t v (acts.Cut req pieces) came = guards_cut setup t v req pieces
 guards setup t v (acts.Apply req k dev end) came = guards_apply setup t v req k dev end
-guards setup t v (acts.Complete req status shown) came = guards_complete t v req status shown
+guards setup t v (acts.NoMem req k dev) came = guards_no_mem setup t v req k dev
+guards setup t v (acts.Hold req until) came = guards_hold setup t v req until
+guards setup t v (acts.Release req now) came = guards_release setup t v req now
+guards setup t v (acts.Abort req cause) came = guards_abort setup t v req cause
+guards setup t v (acts.Complete req status shown) came = guards_complete setup t v req status shown
+guards setup t v (acts.Visit walk dev kind) came = guards_visit setup t v walk dev kind
+guards setup t v (acts.Tick dev now slices) came = guards_tick setup t v dev now slices
 guards setup t v (acts.Destruct dev digest) came = guards_destruct setup t v came dev digest
 guards setup t v (acts.Script line outcome) came = guards_script setup t v came line outcome
-guards setup t v _ came = []
+guards setup t v acts.Shutdown came = []
+
+-- what an act changes, apart from what is noted for the next act
+abbrev pub change_by : Setup → ℕ → View → Act → Came → Change
+change_by setup t v (acts.Put to number what) came = change_put setup t v to number what
+change_by setup t v (acts.Took source number what) came = change_took setup t v came source number what
+change_by setup t v (acts.Reg event answer) came = change_reg setup t v came event answer
+change_by setup t v (acts.Accept req dev handle op lba count) came = change_accept setup t v req dev handle op lba count
+change_by setup t v (acts.Refuse handle op lba count errno) came = change_refuse v errno
+change_by setup t v (acts.Inject req dev decision) came = change_inject v req decision
+change_by setup t v (acts.Pend req) came = change_pend v req
+change_by setup t v (acts.Let req dev now) came = change_let setup v req dev now
+change_by setup t v (acts.Cut req pieces) came = change_cut setup v req pieces
+change_by setup t v (acts.Apply req k dev end) came = change_apply setup v req k dev end
+change_by setup t v (acts.NoMem req k dev) came = change_no_mem v req k dev
+change_by setup t v (acts.Hold req until) came = change_hold setup v req until
+change_by setup t v (acts.Release req now) came = change_release v req now
+change_by setup t v (acts.Abort req cause) came = change_abort setup v req cause
+change_by setup t v (acts.Complete req status shown) came = change_complete v req
+change_by setup t v (acts.Visit walk dev kind) came = change_visit setup t v walk dev kind
+change_by setup t v (acts.Tick dev now slices) came = change_tick setup v dev now slices
+change_by setup t v (acts.Destruct dev digest) came = change_destruct v dev
+change_by setup t v (acts.Script line outcome) came = change_script setup t v
+change_by setup t v acts.Shutdown came = record { part = v.part; moves = [] }
+
+-- what an act took of an error device, for the Inject that follows
+abbrev pub taken_injection : Act → Option TakenInjection
+taken_injection (acts.Reg (events.TakeInjection dev req op) (answers.Injected decision)) = Some (record { req = req; dev = dev; decision = decision })
+taken_injection _ = None
+
+abbrev pub noted : Option TakenInjection → Change → Change
+noted taken c = record { part = record c.part { injection = taken }; moves = c.moves }
 
 -- what an act changes
 abbrev pub change : Setup → ℕ → View → Act → Came → Change
-change setup t v (acts.Put to number what) came = change_put setup t v to number what
-change setup t v (acts.Took source number what) came = change_took t v came source number what
-change setup t v (acts.Reg event answer) came = change_reg v came answer
-change setup t v (acts.Accept req dev handle op lba count) came = change_accept v req dev handle op lba count
-change setup t v (acts.Refuse handle op lba count errno) came = change_refuse v errno
-change setup t v (acts.Cut req pieces) came = change_cut setup v req pieces
-change setup t v (acts.Apply req k dev end) came = change_apply setup v req k dev end
-change setup t v (acts.Complete req status shown) came = change_complete v req
-change setup t v (acts.Destruct dev digest) came = change_destruct v dev
-change setup t v (acts.Script line outcome) came = change_script setup t v
-change setup t v _ came = record { part = v.part; moves = [] }
+change setup t v act came = noted (taken_injection act) (change_by setup t v act came)

@@ -17,7 +17,7 @@ use Rattle.bd_machine.specs.Content.{Told}
 use Rattle.bd_machine.specs.Placement.{place}
 use Rattle.bd_machine.specs.Run.{IsRun, IsCompleteRun, state_after}
 use Rattle.bd_machine.specs.Same.{same_request, same_dev}
-use Rattle.bd_machine.specs.Start.{dev_of}
+use Rattle.bd_machine.specs.Users.{dev_of}
 use Rattle.bd_machine.specs.Step.{IsAllowed, IsStep, after, change_in}
 use Rattle.bd_machine.specs.View.{view, part_of, asked}
 
@@ -102,7 +102,7 @@ EachIsDestructedOnce = (setup : Setup) (told : Told) (es : List Entry) → IsCom
 
 -- what a thread sees after an entry of its own follows from what it saw
 abbrev pub OwnViewFollows : Type 0
-OwnViewFollows = (setup : Setup) (s : State) (e : Entry) → IsAllowed setup s e → view (after setup s e) e.thread ≡ view_by e.thread (view s e.thread) (change_in setup s e.thread e.act) (asked e.act)
+OwnViewFollows = (setup : Setup) (s : State) (e : Entry) → IsAllowed setup s e → view (after setup s e) e.thread ≡ view_by setup e.thread (view s e.thread) (change_in setup s e.thread e.act) (asked e.act)
 
 -- in a run, an entry of another thread leaves what a thread sees
 abbrev pub OtherViewsStay : Type 0

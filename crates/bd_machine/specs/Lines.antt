@@ -10,7 +10,7 @@ use Rattle.bd_machine.specs.Content.{Told}
 use Rattle.bd_machine.specs.Laws.{count_of}
 use Rattle.bd_machine.specs.Run.{IsRun, IsCompleteRun, state_after}
 use Rattle.bd_machine.specs.Step.{is_shutdown}
-use Rattle.bd_machine.specs.View.{part_of}
+use Rattle.bd_machine.specs.View.{part_of, view}
 
 abbrev pub line_of_act : Act → Option ℕ
 line_of_act (acts.Script line outcome) = Some line
@@ -45,7 +45,7 @@ pub record GoesAsFar (setup : Setup) (told : Told) (es : List Entry) (t : ℕ) :
   pub rest : List Entry
   pub entries : es ≡ before ++ shutdown_at stamp ∷ rest
   pub one_shutdown : count_of is_shutdown es ≡ 1
-  pub blocked : is_script_blocked setup t (part_of (state_after setup told before) t) ≡ true
+  pub blocked : is_script_blocked setup t (view (state_after setup told before) t) ≡ true
   pub done : lines_done t es ≡ map number_of (take (part_of (state_after setup told before) t).next (lines_of setup t))
   pub none_after : lines_done t rest ≡ []
 

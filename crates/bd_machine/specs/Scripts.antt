@@ -24,12 +24,15 @@ is_line number (Some line) = line.number == number
 abbrev pub guards_script : Setup → ℕ → View → Came → ℕ → Outcome → List (ℕ × Bool)
 guards_script setup t v came line outcome =
     (NEXT_LINE, is_line line (next_line setup t v.part) && not came.shut) ∷
-    (OUTCOME_DUE, is_the same_outcome outcome (outcome_due setup t v.part)) ∷ []
+    (OUTCOME_DUE, is_the same_outcome outcome (outcome_due setup t v)) ∷ []
 
--- an open that was accepted binds its name, a close that was accepted frees it
+abbrev pub unbound : List ℕ → List Binding → List Binding
+unbound name bound = filter (λ b. not (same_name b.name name)) bound
+
+-- an open that was accepted binds its name anew, a close that was accepted frees it
 abbrev pub bound_after : Option Job → Option Decided → List Binding → List Binding
-bound_after (Some (jobs.Open handle dev write)) (Some (decisions.Opened id)) bound = bound ++ record { name = handle; handle = id } ∷ []
-bound_after (Some (jobs.Close handle)) (Some decisions.Closed) bound = filter (λ b. not (same_name b.name handle)) bound
+bound_after (Some (jobs.Open handle dev write)) (Some (decisions.Opened id)) bound = unbound handle bound ++ record { name = handle; handle = id } ∷ []
+bound_after (Some (jobs.Close handle)) (Some decisions.Closed) bound = unbound handle bound
 bound_after _ _ bound = bound
 
 abbrev pub mark_to : List ℕ → ℕ → Due

@@ -11,7 +11,7 @@ use Rattle.bd_machine.specs.declared.state.Place.TheVariants.{At, Ring, Nowhere}
 use Rattle.bd_machine.specs.declared.state.State.{State}
 use Rattle.bd_machine.specs.declared.state.Tracked.{Tracked}
 use Rattle.bd_machine.specs.Guards.{guards, change, is_built}
-use Rattle.bd_machine.specs.Registry.{registry_after}
+use Rattle.bd_machine.specs.Changes.{registry_after}
 use Rattle.bd_machine.specs.Rest.{is_at_rest, are_scripts_blocked}
 use Rattle.bd_machine.specs.Same.{same_id}
 use Rattle.bd_machine.specs.Table.{write}
@@ -30,7 +30,7 @@ is_shutdown _ = false
 
 -- the guards of a Shutdown
 abbrev pub guards_shutdown : Setup → State → ℕ → Act → List (ℕ × Bool)
-guards_shutdown setup s t acts.Shutdown = (AT_REST, is_at_rest s t) ∷ (SCRIPTS_BLOCKED, are_scripts_blocked setup s) ∷ []
+guards_shutdown setup s t acts.Shutdown = (AT_REST, is_at_rest setup s t) ∷ (SCRIPTS_BLOCKED, are_scripts_blocked setup s) ∷ []
 guards_shutdown setup s t _ = []
 
 -- the number of the first guard that fails
@@ -41,6 +41,10 @@ first_failing (g ∷ gs) = cond g.1 (first_failing gs) (Some g.0)
 -- the guards of an act, in the view that the state gives
 abbrev pub guards_in : Setup → State → ℕ → Act → List (ℕ × Bool)
 guards_in setup s t act = guards setup t (view s t) act (came_for setup s t act)
+
+-- the first guard that an entry fails, whether its act is built or not
+abbrev pub rule_broken : Setup → State → Entry → Option ℕ
+rule_broken setup s e = first_failing ((IN_ORDER, is_in_order s e) ∷ guards_shutdown setup s e.thread e.act ++ guards_in setup s e.thread e.act)
 
 -- why an entry isn't allowed: the number of the first guard that fails
 abbrev pub refusal : Setup → State → Entry → Option ℕ
@@ -62,12 +66,12 @@ moved t [] tokens = tokens
 moved t (m ∷ ms) tokens = moved t ms (write same_id tokens m.id (record { place = place_after t m.going; kept = m.kept }))
 
 -- the state with an entry's change: its thread's part, the tokens that it moved, and what it asked of the registry
-abbrev pub carried_out : State → Entry → Change → State
-carried_out s e c = record {
+abbrev pub carried_out : Setup → State → Entry → Change → State
+carried_out setup s e c = record {
   stamp = e.stamp;
   thread = e.thread;
   shut = s.shut || is_shutdown e.act;
-  registry = registry_after s.registry e.thread (asked e.act);
+  registry = registry_after setup s.registry e.thread (asked e.act);
   parts = set s.parts e.thread c.part;
   tokens = moved e.thread c.moves s.tokens;
 }
@@ -78,7 +82,7 @@ change_in setup s t act = change setup t (view s t) act (came_for setup s t act)
 
 -- the state after an entry
 unfoldable pub after : Setup → State → Entry → State
-after setup s e = carried_out s e (change_in setup s e.thread e.act)
+after setup s e = carried_out setup s e (change_in setup s e.thread e.act)
 
 -- an entry leads from one state to another
 abbrev pub IsStep : Setup → State → Entry → State → Type 0

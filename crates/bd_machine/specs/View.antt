@@ -1,5 +1,5 @@
 -- What one thread sees of the state, what came to it from outside, and what an act changes.
-use Rattle.std.specs.Prelude.{ℕ, Bool, false, cond, ◌&&◌, ◌==◌, List, [], get_or, filter, Option, Some, None, option_and_then}
+use Rattle.std.specs.Prelude.{ℕ, Bool, false, cond, ◌&&◌, ◌==◌, List, [], get_or, filter, Option, Some, None, option_and_then, option_map}
 use Rattle.bd_base.specs.declared.id.DevId.{DevId}
 use Rattle.bd_base.specs.declared.act.Act.{Act}
 use Rattle.bd_base.specs.declared.act.Act.TheVariants as acts
@@ -8,29 +8,36 @@ use Rattle.bd_base.specs.declared.act.Token.{Token}
 use Rattle.bd_base.specs.declared.act.Token.TheVariants as tokens
 use Rattle.bd_base.specs.declared.setup.Setup.{Setup}
 use Rattle.bd_machine.specs.declared.state.Id.{Id}
-use Rattle.bd_machine.specs.declared.state.Id.TheVariants.{Request, Piece, Notice}
+use Rattle.bd_machine.specs.declared.state.Id.TheVariants.{Request, Piece, Walk, Notice}
 use Rattle.bd_machine.specs.declared.state.Place.{Place}
 use Rattle.bd_machine.specs.declared.state.Place.TheVariants.{At, Ring}
 use Rattle.bd_machine.specs.declared.state.Kept.{Kept}
 use Rattle.bd_machine.specs.declared.state.Tracked.{Tracked}
+use Rattle.bd_machine.specs.declared.state.Between.{Between}
 use Rattle.bd_machine.specs.declared.state.Handle.{Handle}
 use Rattle.bd_machine.specs.declared.state.Part.{Part}
-use Rattle.bd_machine.specs.declared.state.Registry.{Registry}
 use Rattle.bd_machine.specs.declared.state.State.{State}
-use Rattle.bd_machine.specs.Registry.{Question, answer_to, is_unused}
+use Rattle.bd_machine.specs.Registry.{Question, answer_to, is_free, is_unused, references}
 use Rattle.bd_machine.specs.Same.{same_id}
 use Rattle.bd_machine.specs.Table.{look_up}
 
--- part: what is the thread's alone; here: what is kept of a token that is on it; handles: those that it opened
+-- part: what is the thread's alone; here: what is kept of a token that is on it
+-- handles: those that it opened; channels: its references to each device
 pub record View : Type 0 where
   pub part : Part
   pub here : Id → Option Kept
   pub handles : List Handle
+  pub channels : DevId → Option ℕ
 
--- message: what is kept of the token of the message taken; answer: the registry's to the event; unused: the registry knows no handle of the device; shut: the Shutdown came
+-- message: what is kept of the token of the message taken
+-- answer: the registry's to the event; between: where the act asks the registry, what has to follow there
+-- free: the device that the act destructs is being removed, with neither handle nor channel; unused: no handle of it is open but base handles
+-- shut: Shutdown came
 pub record Came : Type 0 where
   pub message : Option Kept
   pub answer : Option Answer
+  pub between : Option Between
+  pub free : Bool
   pub unused : Bool
   pub shut : Bool
 
@@ -75,6 +82,7 @@ destructed_by _ = None
 abbrev pub id_of : ℕ → ℕ → ℕ → Token → Id
 id_of sender receiver number (tokens.Request r) = Request r
 id_of sender receiver number (tokens.Piece r k) = Piece r k
+id_of sender receiver number (tokens.Walk w) = Walk w
 id_of sender receiver number _ = Notice sender receiver number
 
 -- ---- the view of a state
@@ -93,13 +101,23 @@ blank_part = record {
   decided = None;
   bound = [];
   marks = [];
+  gone = [];
+  submitted = [];
   put = [];
   taken = [];
   next_request = 0;
+  next_walk = 0;
   due = [];
+  owed = [];
   requests = [];
+  marked = [];
+  resets = [];
+  moments = record { first = None; last = 0 };
+  injection = None;
   bases = [];
+  limited = [];
   destructed = [];
+  delayed = [];
 }
 
 abbrev pub part_of : State → ℕ → Part
@@ -113,6 +131,7 @@ view s t = record {
   part = part_of s t;
   here = λ id. here_of t (look_up same_id s.tokens id);
   handles = filter (is_of t) s.registry.handles;
+  channels = references s.registry t;
 }
 
 -- ---- what comes from outside
@@ -129,14 +148,23 @@ message_of s r n (Some token) = kept_in s r n token.place token.kept
 abbrev pub message_for : State → ℕ → Taking → Option Kept
 message_for s t m = message_of m.source t m.number (look_up same_id s.tokens (id_of m.source t m.number m.what))
 
-abbrev pub is_unused_if_any : Registry → Option DevId → Bool
-is_unused_if_any registry None = false
-is_unused_if_any registry (Some dev) = is_unused registry dev
+abbrev pub is_free_if_any : Setup → State → Option DevId → Bool
+is_free_if_any setup s None = false
+is_free_if_any setup s (Some dev) = is_free setup s.registry dev
+
+abbrev pub is_unused_if_any : Setup → State → Option DevId → Bool
+is_unused_if_any setup s None = false
+is_unused_if_any setup s (Some dev) = is_unused setup s.registry dev
+
+abbrev pub answer_for : Setup → State → ℕ → Question → Answer
+answer_for setup s t q = answer_to setup s.registry t q.event
 
 abbrev pub came_for : Setup → State → ℕ → Act → Came
 came_for setup s t act = record {
   message = option_and_then (message_for s t) (took act);
-  answer = option_and_then (λ q. answer_to setup s.registry t q.event) (asked act);
-  unused = is_unused_if_any s.registry (destructed_by act);
+  answer = option_map (answer_for setup s t) (asked act);
+  between = option_and_then (λ q. s.registry.between) (asked act);
+  free = is_free_if_any setup s (destructed_by act);
+  unused = is_unused_if_any setup s (destructed_by act);
   shut = s.shut;
 }

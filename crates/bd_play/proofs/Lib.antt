@@ -1,4 +1,5 @@
-pub mod Asking
-pub mod Beyond
+pub mod Arriving
 pub mod Closing
+pub mod Moving
+pub mod Noting
 pub mod Unfound

@@ -1,18 +1,23 @@
-//! Apply and Destruct.
+//! Apply, NoMem and Destruct.
 ghost use Rattle.std.specs.Prelude.{◌≡◌, IfOk};
 ghost use Rattle.bd_base.specs.declared.act.Act.TheVariants as acts;
-ghost use Rattle.bd_machine.specs.Homes.{change_destruct};
-ghost use Rattle.bd_play.specs.Words.{change_of, changed, refused, seen};
+ghost use Rattle.bd_machine.specs.Homes.{change_destruct, change_no_mem, is_base, without_last};
+ghost use Rattle.bd_machine.specs.Table.{change_first};
+ghost use Rattle.bd_play.specs.Words.{changed, made_by, refused, seen};
 
-use crate::duplicate::Duplicate;
 use crate::side::Side;
-use crate::tokens::put_in;
-use bd_base::{ApplyEnd, DevId, OutOfMemory};
-use bd_blocks::{serve, size_of};
-use bd_machine::guard::{CONTENT_DIGEST, END_ALLOWED, HEAD_OF_QUEUE, MAY_DESTRUCT};
-use bd_machine::{Id, Kept, Place, State, Tracked};
-use bd_rules::{PieceId, is_digest_due, is_unused, may_apply, may_destruct, may_end, piece_here};
+use bd_answers::is_free;
+use bd_base::{ApplyEnd, DevId, OutOfMemory, Rows};
+use bd_blocks::{base_place, copy_of_piece, serve, size_of};
+use bd_changes::destructed;
+use bd_copies::Duplicate;
+use bd_machine::guard::{CONTENT_DIGEST, END_ALLOWED, HEAD_OF_QUEUE, MAY_DESTRUCT, QUEUE_FULL};
+use bd_machine::{Base, Id, Kept, Place, Progress, State, Tracked};
+use bd_rules::{Release, is_digest_due, may_apply, may_destruct, may_end, may_refuse, piece_here};
+use bd_state::put_in;
+use bd_view::{PieceId, is_unused};
 use std::alloc::Global;
+use std::mem::replace;
 
 // ---- Apply
 
@@ -39,7 +44,7 @@ pub fn apply(
     dev: DevId,
     end: ApplyEnd,
 ) -> Result<State, OutOfMemory>
-    ensures { IfOk result (λ s. s ≡ changed side.now (change_of side.now (acts.Apply piece.req piece.k dev end))) }
+    ensures { IfOk result (λ s. s ≡ changed side.now (made_by side.now (acts.Apply piece.req piece.k dev end))) }
 {
     let mut next = side.state.duplicate(alloc)?;
     let Some(p) = piece_here(side, piece) else {
@@ -59,14 +64,76 @@ pub fn apply(
     Ok(next)
 }
 
+// ---- NoMem
+
+/// Why a NoMem isn't allowed.
+pub fn refused_no_mem(side: &Side, piece: PieceId, dev: DevId) -> Option<u32>
+    ensures { result ≡ refused side.now (acts.NoMem piece.req piece.k dev) }
+{
+    if may_refuse(side, side.setup, side.thread, piece, dev) {
+        None
+    } else {
+        Some(QUEUE_FULL)
+    }
+}
+
+// A base's queue loses its last piece.
+fn drop_last(alloc: Global, base: &mut Base)
+    ensures { base.new ≡ without_last base.old }
+{
+    let mut queue = replace(&mut base.queue, Rows::new(alloc)).into_vec();
+    let _ = queue.pop();
+    base.queue = Rows::from_vec(queue);
+}
+
+// The queue of a base device loses its last piece.
+fn drop_last_at(alloc: Global, bases: &mut Rows<Base>, dev: DevId)
+    ensures { bases.new ≡ change_first (is_base dev) without_last bases.old }
+{
+    if let Some(place) = base_place(bases.as_slice(), dev) {
+        drop_last(alloc, bases.at_mut(place));
+    }
+}
+
+/// The state with what a NoMem changes: the piece goes back without an end.
+pub fn refuse_piece(
+    alloc: Global,
+    side: &Side,
+    piece: PieceId,
+    dev: DevId,
+) -> Result<State, OutOfMemory>
+    ensures { IfOk result (λ s. s ≡ changed side.now (change_no_mem (seen side.now) piece.req piece.k dev)) }
+{
+    let mut next = side.state.duplicate(alloc)?;
+    drop_last_at(
+        alloc,
+        &mut next.parts.at_mut(side.thread as usize).bases,
+        dev,
+    );
+    if let Some(p) = piece_here(side, piece) {
+        let mut refused = copy_of_piece(p)?;
+        refused.progress = Progress::Served;
+        let place = Place::At(side.thread);
+        let kept = Kept::Piece(refused);
+        let id = Id::Piece(piece.req, piece.k);
+        put_in(&mut next.tokens, id, Tracked { place, kept })?;
+    }
+    Ok(next)
+}
+
 // ---- Destruct
 
 /// Why a Destruct isn't allowed.
 pub fn refused_destruct(side: &Side, dev: DevId, digest: &Option<[u8; 32]>) -> Option<u32>
     ensures { result ≡ refused side.now (acts.Destruct dev digest.now) }
 {
-    let unused = is_unused(&side.state.registry, dev);
-    if !may_destruct(side, side.setup, side.thread, unused, side.state.shut, dev) {
+    let registry = &side.state.registry;
+    let came = Release {
+        free: is_free(side.setup, registry, dev),
+        unused: is_unused(side.setup, registry, dev),
+        shut: side.state.shut,
+    };
+    if !may_destruct(side, side.setup, side.thread, came, dev) {
         return Some(MAY_DESTRUCT);
     }
     if is_digest_due(side, side.setup, dev, digest) {
@@ -81,9 +148,6 @@ pub fn destruct(alloc: Global, side: &Side, dev: DevId) -> Result<State, OutOfMe
     ensures { IfOk result (λ s. s ≡ changed side.now (change_destruct (seen side.now) dev)) }
 {
     let mut next = side.state.duplicate(alloc)?;
-    next.parts
-        .at_mut(side.thread as usize)
-        .destructed
-        .push(dev)?;
+    destructed(next.parts.at_mut(side.thread as usize), dev)?;
     Ok(next)
 }

@@ -3,18 +3,15 @@
 //! state, so that running out of memory leaves the state as it was.
 #![tactic(auto)]
 
-mod duplicate;
+mod course;
 mod events;
-mod finished;
 mod homes;
 mod machine;
 mod messages;
 mod requests;
-mod rest;
 mod scripts;
 mod side;
-mod start;
 mod step;
-mod tokens;
+mod walks;
 
 pub use machine::{Machine, StepNo};

@@ -5,12 +5,11 @@ ghost use Rattle.bd_machine.specs.Start.{start};
 ghost use Rattle.bd_machine.specs.Step.{IsStep};
 ghost use Rattle.bd_play.specs.Refusals.{Refuses};
 
-use crate::duplicate::Duplicate;
-use crate::finished::is_finished;
-use crate::start::state_at_start;
 use crate::step::{after, refusal};
 use bd_base::{Entry, OutOfMemory, Setup};
+use bd_copies::Duplicate;
 use bd_machine::State;
+use bd_state::{is_finished, state_at_start};
 use std::alloc::Global;
 use std::error::Error;
 use std::fmt;
@@ -43,11 +42,6 @@ impl fmt::Display for StepNo {
 impl Error for StepNo {}
 
 impl From<OutOfMemory> for StepNo {
-    ghost use Rattle.std.specs.Prelude.{◌≡◌};
-    ghost use Rattle.bd_play.specs.declared.machine.StepNo.TheVariants as nos;
-
-    ghost from_gives = { λ _ no. no ≡ nos.OutOfMemory };
-
     fn from(_e: OutOfMemory) -> StepNo {
         StepNo::OutOfMemory
     }
@@ -93,7 +87,7 @@ impl Machine {
     }
 
     /// Whether the entries so far are a complete run: the Shutdown came, every device is destructed,
-    /// no request is open, and every message was taken.
+    /// no request is open, every message was taken, every walk ended, and nothing is left to do.
     pub fn is_complete(&self) -> Result<bool, OutOfMemory>
         ensures { IfOk result (λ b. b ≡ is_finished self.now.setup self.now.state) }
     {

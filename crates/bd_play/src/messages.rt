@@ -1,24 +1,22 @@
 //! Put and Took.
-ghost use Rattle.std.specs.Prelude.{◌≡◌, option_copied, IfOk, OnOk};
+ghost use Rattle.std.specs.Prelude.{◌≡◌, cond, option_copied, IfOk, OnOk};
 ghost use Rattle.bd_base.specs.declared.act.Act.TheVariants as acts;
-ghost use Rattle.bd_base.specs.declared.act.Token.TheVariants as whats;
-ghost use Rattle.bd_machine.specs.Messages.{moves_took};
+ghost use Rattle.bd_changes.specs.Begun.{stays};
+ghost use Rattle.bd_machine.specs.Messages.{news_of, news_put, token_put};
 ghost use Rattle.bd_machine.specs.Step.{moved, place_after};
-ghost use Rattle.bd_machine.specs.View.{To, message_of};
-ghost use Rattle.bd_machine.specs.declared.state.Kept.TheVariants as keeps;
-ghost use Rattle.bd_play.specs.Words.{brought, change_of, changed, moves_of, refused};
+ghost use Rattle.bd_machine.specs.View.{Closed, Here, To, message_of};
+ghost use Rattle.bd_machine.specs.declared.state.Id.TheVariants as ids;
+ghost use Rattle.bd_play.specs.Words.{brought, changed, is_of_kind, made_by, moves_of, moves_taken, refused, seen};
 
-use crate::duplicate::Duplicate;
 use crate::side::Side;
-use crate::tokens::put_in;
-use bd_base::{Name, OutOfMemory, Rows, Token};
-use bd_blocks::copy_of_piece;
-use bd_changes::{progress_put, progress_took};
+use bd_base::{OutOfMemory, Rows, Token};
+use bd_changes::{arrived, news_of, sent, stays, taken, took};
+use bd_copies::Duplicate;
 use bd_machine::guard::{MAY_GO, NEXT_MESSAGE, NEXT_PUT, TOKEN_HERE};
-use bd_machine::{Id, Kept, News, OpenPiece, Place, Progress, State, Tracked};
-use bd_rules::{
-    PieceId, Sees, brings, count_at, id_of, is_token_here, look_up, may_go, piece_here,
-};
+use bd_machine::{Id, Kept, Place, State, Tracked};
+use bd_rules::{brings, count_at, id_of, is_token_here, may_go};
+use bd_state::{begin, put_in};
+use bd_view::{Sees, look_up};
 use std::alloc::Global;
 
 /// A message, by the thread at its other end (who gets a put one, who sent a taken one) and its number
@@ -27,15 +25,6 @@ use std::alloc::Global;
 pub struct Message {
     pub peer: u32,
     pub number: u128,
-}
-
-// A copy of a piece that is this far.
-fn with_progress(p: &OpenPiece, progress: Progress) -> Result<Kept, OutOfMemory>
-    ensures { IfOk result (λ kept. kept ≡ keeps.Piece (record p.now { progress = progress })) }
-{
-    let mut copied = copy_of_piece(p)?;
-    copied.progress = progress;
-    Ok(Kept::Piece(copied))
 }
 
 // ---- Put
@@ -68,49 +57,49 @@ fn ring_to(thread: u32, message: Message) -> Place
     }
 }
 
-// A piece that is on the thread goes into a ring.
-fn send_piece(
+// A token that is on the thread goes into a ring.
+fn send_token(
+    alloc: Global,
     tokens: &mut Rows<(Id, Tracked)>,
     side: &Side,
     message: Message,
-    piece: PieceId,
+    id: Id,
 ) -> Result<(), OutOfMemory>
-    ensures { OnOk result (tokens.new ≡ moved side.now.thread (moves_of side.now message (whats.Piece piece.req piece.k)) tokens.old) }
+    ensures { OnOk result (tokens.new ≡ moved side.now.thread (token_put message.peer message.number id ((seen side.now).here id)) tokens.old) }
 {
-    let Some(p) = piece_here(side, piece) else {
+    let Some(kept) = side.kept(id) else {
         return Ok(());
     };
-    let kept = with_progress(p, progress_put(p.progress))?;
+    let kept = sent(kept.duplicate(alloc)?);
     let place = ring_to(side.thread, message);
-    put_in(
-        tokens,
-        Id::Piece(piece.req, piece.k),
-        Tracked { place, kept },
-    )
+    put_in(tokens, id, Tracked { place, kept })
 }
 
-// A mark goes into a ring.
-fn send_mark(
+// A notice is made in the ring.
+fn send_news(
     tokens: &mut Rows<(Id, Tracked)>,
     side: &Side,
     message: Message,
-    mark: &Name,
+    what: &Token,
 ) -> Result<(), OutOfMemory>
-    ensures { OnOk result (tokens.new ≡ moved side.now.thread (moves_of side.now message (whats.Mark mark.now)) tokens.old) }
+    ensures { OnOk result (tokens.new ≡ moved side.now.thread (news_put message.peer message.number (ids.Notice side.now.thread message.peer message.number) (news_of what.now)) tokens.old) }
 {
-    let name = mark.copy()?;
-    let kept = Kept::Notice(News::Mark(name));
-    let place = ring_to(side.thread, message);
+    let Some(news) = news_of(what)? else {
+        return Ok(());
+    };
     let id = Id::Notice {
         sender: side.thread,
         receiver: message.peer,
         number: message.number,
     };
+    let place = ring_to(side.thread, message);
+    let kept = Kept::Notice(news);
     put_in(tokens, id, Tracked { place, kept })
 }
 
 // The token that a message has goes into a ring.
 fn send(
+    alloc: Global,
     tokens: &mut Rows<(Id, Tracked)>,
     side: &Side,
     message: Message,
@@ -119,18 +108,19 @@ fn send(
     ensures { OnOk result (tokens.new ≡ moved side.now.thread (moves_of side.now message what.now) tokens.old) }
 {
     match what {
-        Token::Piece(req, k) => send_piece(tokens, side, message, PieceId { req: *req, k: *k }),
-        Token::Mark(mark) => send_mark(tokens, side, message, mark),
-        _ => Ok(()),
+        Token::Request(req) => send_token(alloc, tokens, side, message, Id::Request(*req)),
+        Token::Piece(req, k) => send_token(alloc, tokens, side, message, Id::Piece(*req, *k)),
+        Token::Walk(walk) => send_token(alloc, tokens, side, message, Id::Walk(*walk)),
+        _ => send_news(tokens, side, message, what),
     }
 }
 
 /// The state with what a Put changes.
 pub fn put(alloc: Global, side: &Side, message: Message, what: &Token) -> Result<State, OutOfMemory>
-    ensures { IfOk result (λ s. s ≡ changed side.now (change_of side.now (acts.Put message.peer message.number what.now))) }
+    ensures { IfOk result (λ s. s ≡ changed side.now (made_by side.now (acts.Put message.peer message.number what.now))) }
 {
     let mut next = side.state.duplicate(alloc)?;
-    send(&mut next.tokens, side, message, what)?;
+    send(alloc, &mut next.tokens, side, message, what)?;
     let part = next.parts.at_mut(side.thread as usize);
     bd_changes::put(part, message.peer, message.number, what)?;
     Ok(next)
@@ -187,50 +177,70 @@ pub fn refused_took(side: &Side, message: Message, what: &Token) -> Option<u32>
     }
 }
 
-// What a message brought is on the thread; a notice is closed.
-fn arrive(
-    alloc: Global,
-    tokens: &mut Rows<(Id, Tracked)>,
-    thread: u32,
-    id: Id,
-    kept: Option<&Kept>,
-) -> Result<(), OutOfMemory>
-    ensures { OnOk result (tokens.new ≡ moved thread (moves_took id (option_copied kept.entry)) tokens.old) }
+// Whether a message with this token may bring what is kept so: any message may bring a notice.
+fn is_of_kind(what: &Token, kept: &Kept) -> bool
+    ensures { result ≡ is_of_kind what.now kept.now }
 {
-    match kept {
-        Some(Kept::Request(r)) => {
-            let place = Place::At(thread);
-            let kept = Kept::Request(*r);
-            put_in(tokens, id, Tracked { place, kept })
-        }
-        Some(Kept::Piece(p)) => {
-            let place = Place::At(thread);
-            let kept = with_progress(p, progress_took(p.progress))?;
-            put_in(tokens, id, Tracked { place, kept })
-        }
-        Some(Kept::Notice(news)) => {
-            let place = Place::Nowhere;
-            let kept = Kept::Notice(news.duplicate(alloc)?);
-            put_in(tokens, id, Tracked { place, kept })
-        }
-        None => Ok(()),
+    match (what, kept) {
+        (Token::Request(_), Kept::Request(_)) => true,
+        (Token::Piece(_, _), Kept::Piece(_)) => true,
+        (Token::Walk(_), Kept::Walk(_)) => true,
+        (_, Kept::Notice(_)) => true,
+        _ => false,
     }
 }
 
+// Where the token that a message brought is: on the thread; a notice is closed, and a walk may end.
+fn place_of_arrived(thread: u32, what: &Token, kept: &Kept) -> Place
+    ensures { result ≡ place_after thread (cond (stays thread what.now kept.now) Here Closed) }
+{
+    if stays(thread, what, kept) {
+        Place::At(thread)
+    } else {
+        Place::Nowhere
+    }
+}
+
+// The token that a message brought, with this kept of it, is on the thread or ends.
+#[tactic(auto, using(crate::proofs::Arriving::arrives))]
+fn arrive(
+    alloc: Global,
+    tokens: &mut Rows<(Id, Tracked)>,
+    side: &Side,
+    message: Message,
+    what: &Token,
+    kept: Option<&Kept>,
+) -> Result<(), OutOfMemory>
+    ensures { OnOk result (tokens.new ≡ moved side.now.thread (moves_taken side.now message what.now (option_copied kept.entry)) tokens.old) }
+{
+    let Some(kept) = kept else {
+        return Ok(());
+    };
+    if !is_of_kind(what, kept) {
+        return Ok(());
+    }
+    let id = id_of(message.peer, side.thread, message.number, what);
+    let place = place_of_arrived(side.thread, what, kept);
+    let kept = taken(kept.duplicate(alloc)?);
+    put_in(tokens, id, Tracked { place, kept })
+}
+
 /// The state with what a Took changes.
+#[tactic(auto, using(crate::proofs::Moving::moved_append))]
 pub fn take(
     alloc: Global,
     side: &Side,
     message: Message,
     what: &Token,
 ) -> Result<State, OutOfMemory>
-    ensures { IfOk result (λ s. s ≡ changed side.now (change_of side.now (acts.Took message.peer message.number what.now))) }
+    ensures { IfOk result (λ s. s ≡ changed side.now (made_by side.now (acts.Took message.peer message.number what.now))) }
 {
     let mut next = side.state.duplicate(alloc)?;
     let kept = brought(side, message, what);
     let part = next.parts.at_mut(side.thread as usize);
-    bd_changes::took(part, message.peer, message.number, what, kept)?;
-    let id = id_of(message.peer, side.thread, message.number, what);
-    arrive(alloc, &mut next.tokens, side.thread, id, kept)?;
+    took(part, message.peer, message.number)?;
+    let begun = arrived(alloc, part, side.setup, side.thread, what, kept)?;
+    arrive(alloc, &mut next.tokens, side, message, what, kept)?;
+    begin(&mut next.tokens, side.thread, begun)?;
     Ok(next)
 }

@@ -1,30 +1,42 @@
 //! Accept, Refuse, Cut and Complete.
 ghost use Rattle.std.specs.Prelude.{◌≡◌, ◌∷◌, [], IfOk, OnOk};
 ghost use Rattle.bd_base.specs.declared.act.Act.TheVariants as acts;
-ghost use Rattle.bd_machine.specs.Completion.{piece_here, pieces_here};
-ghost use Rattle.bd_machine.specs.Requests.{change_complete, change_refuse, pieces_closed, pieces_made};
+ghost use Rattle.bd_machine.specs.Kept.{piece_here, pieces_here};
+ghost use Rattle.bd_machine.specs.Requests.{change_complete, change_refuse, is_device_of, pieces_closed, pieces_made};
 ghost use Rattle.bd_machine.specs.Same.{is_the, same_errno};
 ghost use Rattle.bd_machine.specs.Step.{moved};
-ghost use Rattle.bd_play.specs.Words.{change_of, changed, refused, seen};
+ghost use Rattle.bd_play.specs.Words.{changed, made_by, refused, seen};
 
-use crate::duplicate::Duplicate;
 use crate::side::Side;
-use crate::tokens::put_in;
+use bd_asked::{asks_submission, is_new, next_line};
 use bd_base::{DevId, Errno, HandleId, OutOfMemory, ReqId, Rows, Shown, Status};
 use bd_blocks::{copy_of_piece, extents, new_piece};
-use bd_changes::{accepted, remove_open};
+use bd_changes::{accepted, completed};
+use bd_copies::Duplicate;
 use bd_machine::guard::{
     ADMITTED, ALL_PIECES_BACK, FRESH_ID, LINE_ASKS, MAY_CUT, PIECE_COUNT, REFUSAL_DUE, SHOWN_DATA,
     STATUS_ALLOWED,
 };
-use bd_machine::{Decided, Extent, Id, Kept, OpenRequest, Place, State, Tracked};
+use bd_machine::{Decided, Extent, Handle, Id, Kept, Open, OpenRequest, Place, State, Tracked};
 use bd_rules::{
-    PieceId, Submission, asks_submission, has_extents, is_handle_on, is_new, is_shown_due,
-    is_status_due, may_complete, may_cut, piece_here, refusal_of, request_here, same_errno,
+    has_extents, is_shown_due, is_status_due, may_complete, may_cut, new_request, piece_here,
+    refusal_of, request_here,
 };
+use bd_state::put_in;
+use bd_view::{PieceId, Sees, Submission, same_errno};
 use std::alloc::Global;
 
 // ---- Accept
+
+// Whether the device is that of the handle, where the handle is open.
+fn is_device_of(dev: DevId, handle: Option<Handle>) -> bool
+    ensures { result ≡ is_device_of dev handle }
+{
+    match handle {
+        Some(h) => h.dev.0 == dev.0,
+        None => true,
+    }
+}
 
 /// Why an Accept isn't allowed.
 pub fn refused_accept(
@@ -37,11 +49,11 @@ pub fn refused_accept(
     ensures { result ≡ refused side.now (acts.Accept req dev handle what.op what.lba what.count) }
 {
     let shut = side.state.shut;
-    if !asks_submission(side, side.setup, side.thread, shut, Some(handle), what) {
+    let asks = asks_submission(side, side.setup, side.thread, shut, Some(handle), what);
+    if !asks || !is_device_of(dev, side.handle(handle)) {
         return Some(LINE_ASKS);
     }
-    let is_refused = refusal_of(side, side.setup, Some(handle), what).is_some();
-    if is_refused || !is_handle_on(side, dev, handle) {
+    if refusal_of(side, side.setup, Some(handle), what).is_some() {
         return Some(ADMITTED);
     }
     if is_new(side, side.thread, req) {
@@ -60,21 +72,21 @@ pub fn accept(
     handle: HandleId,
     what: Submission,
 ) -> Result<State, OutOfMemory>
-    ensures { IfOk result (λ s. s ≡ changed side.now (change_of side.now (acts.Accept req dev handle what.op what.lba what.count))) }
+    ensures { IfOk result (λ s. s ≡ changed side.now (made_by side.now (acts.Accept req dev handle what.op what.lba what.count))) }
 {
     let mut next = side.state.duplicate(alloc)?;
-    let kept = Kept::Request(OpenRequest {
+    let kept = Kept::Request(new_request(handle, dev, what));
+    let place = Place::At(side.thread);
+    put_in(&mut next.tokens, Id::Request(req), Tracked { place, kept })?;
+    let line = next_line(side.setup, side.thread, side.part());
+    let part = next.parts.at_mut(side.thread as usize);
+    let open = Open {
+        id: req,
         handle,
         dev,
         op: what.op,
-        lba: what.lba,
-        count: what.count,
-        pieces: None,
-    });
-    let place = Place::At(side.thread);
-    put_in(&mut next.tokens, Id::Request(req), Tracked { place, kept })?;
-    let part = next.parts.at_mut(side.thread as usize);
-    accepted(part, req, dev, handle, what)?;
+    };
+    accepted(part, line, open)?;
     Ok(next)
 }
 
@@ -128,7 +140,7 @@ pub fn refused_cut(
 ) -> Result<Option<u32>, OutOfMemory>
     ensures { IfOk result (λ r. r ≡ refused side.now (acts.Cut req n)) }
 {
-    if !may_cut(side, side.thread, req) {
+    if !may_cut(side, side.setup, side.thread, req) {
         return Ok(Some(MAY_CUT));
     }
     if has_extents(alloc, side, side.setup, req, n)? {
@@ -150,7 +162,7 @@ fn make_pieces(
 {
     let mut k: u32 = 0;
     for extent in extents {
-        let kept = Kept::Piece(new_piece(side.setup, r, k, *extent));
+        let kept = Kept::Piece(new_piece(side.setup, r, k, *extent)?);
         let place = Place::At(side.thread);
         put_in(tokens, Id::Piece(req, k), Tracked { place, kept })?;
         let Some(more) = k.checked_add(1) else {
@@ -163,21 +175,16 @@ fn make_pieces(
 
 /// The state with what a Cut changes.
 pub fn cut(alloc: Global, side: &Side, req: ReqId, n: u32) -> Result<State, OutOfMemory>
-    ensures { IfOk result (λ s. s ≡ changed side.now (change_of side.now (acts.Cut req n))) }
+    ensures { IfOk result (λ s. s ≡ changed side.now (made_by side.now (acts.Cut req n))) }
 {
     let mut next = side.state.duplicate(alloc)?;
     let Some(r) = request_here(side, req) else {
         return Ok(next);
     };
     let found = extents(alloc, side.setup, r.dev, r.lba, r.count)?;
-    let kept = Kept::Request(OpenRequest {
-        handle: r.handle,
-        dev: r.dev,
-        op: r.op,
-        lba: r.lba,
-        count: r.count,
-        pieces: Some(n),
-    });
+    let mut cut = r;
+    cut.pieces = Some(n);
+    let kept = Kept::Request(cut);
     let place = Place::At(side.thread);
     put_in(&mut next.tokens, Id::Request(req), Tracked { place, kept })?;
     make_pieces(&mut next.tokens, side, req, r, found.as_slice())?;
@@ -199,7 +206,7 @@ pub fn refused_complete(
     if !may_complete(side, side.thread, req) {
         return Ok(Some(ALL_PIECES_BACK));
     }
-    if !is_status_due(side, req, status) {
+    if !is_status_due(side, side.setup, req, status) {
         return Ok(Some(STATUS_ALLOWED));
     }
     if is_shown_due(alloc, side, req, status, shown)? {
@@ -247,7 +254,7 @@ pub fn complete(alloc: Global, side: &Side, req: ReqId) -> Result<State, OutOfMe
 {
     let mut next = side.state.duplicate(alloc)?;
     let part = next.parts.at_mut(side.thread as usize);
-    remove_open(alloc, &mut part.requests, req);
+    completed(alloc, part, req);
     let Some(r) = request_here(side, req) else {
         return Ok(next);
     };

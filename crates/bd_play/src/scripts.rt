@@ -7,14 +7,15 @@ ghost use Rattle.bd_machine.specs.Same.{is_the, same_outcome};
 ghost use Rattle.bd_machine.specs.Scripts.{change_script, is_line};
 ghost use Rattle.bd_play.specs.Words.{changed, refused, refused_with_shutdown, seen};
 
-use crate::duplicate::Duplicate;
-use crate::rest::is_at_rest;
 use crate::side::Side;
+use bd_asked::{is_script_blocked, next_line, outcome_due};
 use bd_base::{Job, Line, OutOfMemory, Outcome, Setup};
 use bd_changes::line_done;
+use bd_copies::Duplicate;
 use bd_machine::guard::{AT_REST, NEXT_LINE, OUTCOME_DUE, SCRIPTS_BLOCKED};
 use bd_machine::{Part, State};
-use bd_rules::{Sees, is_script_blocked, next_line, outcome_due, same_outcome};
+use bd_state::is_at_rest;
+use bd_view::{Sees, same_outcome};
 use std::alloc::Global;
 
 // ---- Script
@@ -45,7 +46,7 @@ pub fn refused_script(side: &Side, line: u32, outcome: Outcome) -> Result<Option
     if !is_line(line, next_line(side.setup, side.thread, part)) || side.state.shut {
         return Ok(Some(NEXT_LINE));
     }
-    let due = outcome_due(side.setup, side.thread, part)?;
+    let due = outcome_due(side, side.setup, side.thread)?;
     if is_outcome(due, outcome) {
         Ok(None)
     } else {
@@ -88,8 +89,12 @@ fn are_scripts_blocked(setup: &Setup, state: &State) -> bool
 {
     let threads = state.parts.len() as u32;
     for t in 0..threads {
-        let part = &state.parts.as_slice()[t as usize];
-        if !is_script_blocked(setup, t, part) {
+        let side = Side {
+            setup,
+            state,
+            thread: t,
+        };
+        if !is_script_blocked(&side, setup, t) {
             return false;
         }
     }
@@ -100,7 +105,7 @@ fn are_scripts_blocked(setup: &Setup, state: &State) -> bool
 pub fn refused_shutdown(side: &Side) -> Result<Option<u32>, OutOfMemory>
     ensures { IfOk result (λ r. r ≡ refused_with_shutdown side.now acts.Shutdown) }
 {
-    if !is_at_rest(side.state, side.thread) {
+    if !is_at_rest(side.setup, side.state, side.thread) {
         return Ok(Some(AT_REST));
     }
     if side.state.parts.len() > u32::MAX as usize {

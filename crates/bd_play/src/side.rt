@@ -2,9 +2,10 @@
 ghost use Rattle.std.specs.Prelude.{◌≡◌, ◌<◌, length, option_copied};
 ghost use Rattle.bd_machine.specs.View.{here_of, view};
 
-use bd_base::{HandleId, Setup};
+use bd_base::{DevId, HandleId, Setup};
+use bd_blocks::references;
 use bd_machine::{Handle, Id, Kept, Part, Place, State, Tracked};
-use bd_rules::{Sees, look_up, own_handle};
+use bd_view::{Sees, look_up, own_handle};
 
 /// The setup and the state as one of the threads sees them. Its view is the machine's own, `view` of
 /// the state and the thread.
@@ -35,6 +36,12 @@ fn here(token: Option<&Tracked>, thread: u32) -> Option<&Kept>
 impl<'a> Sees for Side<'a> {
     ghost view_of = { λ s. view s.state.now s.thread };
 
+    ghost thread_of = { λ s. s.thread };
+
+    fn thread(&self) -> u32 {
+        self.thread
+    }
+
     fn part(&self) -> &Part {
         &self.state.parts.as_slice()[self.thread as usize]
     }
@@ -45,5 +52,13 @@ impl<'a> Sees for Side<'a> {
 
     fn handle(&self, id: HandleId) -> Option<Handle> {
         own_handle(self.state.registry.handles.as_slice(), self.thread, id)
+    }
+
+    fn handles(&self) -> &[Handle] {
+        self.state.registry.handles.as_slice()
+    }
+
+    fn channels(&self, dev: DevId) -> Option<u128> {
+        references(&self.state.registry, self.thread, dev)
     }
 }

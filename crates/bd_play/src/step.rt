@@ -1,20 +1,27 @@
 //! Which entry is allowed, and the state after it.
-ghost use Rattle.std.specs.Prelude.{◌≡◌, IfOk, None, OnOk, true};
-ghost use Rattle.bd_machine.specs.Guards.{is_built, is_built_event, is_built_token};
-ghost use Rattle.bd_machine.specs.Registry.{registry_after};
+ghost use Rattle.std.specs.Prelude.{◌≡◌, ◌<◌, length, IfOk, None, OnOk, true};
+ghost use Rattle.bd_machine.specs.Guards.{is_built, is_built_as_yet, is_built_event, is_built_token, taken_injection};
+ghost use Rattle.bd_machine.specs.Changes.{registry_after};
 ghost use Rattle.bd_machine.specs.Step.{after, is_in_order, is_shutdown, refusal};
+ghost use Rattle.bd_machine.specs.Table.{change_at};
 ghost use Rattle.bd_machine.specs.View.{asked};
-ghost use Rattle.bd_play.specs.Words.{change_of, changed, is_of_request, refused, refused_with_shutdown};
+ghost use Rattle.bd_play.specs.Words.{changed, is_of_course, is_of_request, made_by, refused, refused_with_shutdown, submission_of};
 
-use crate::duplicate::Duplicate;
 use crate::messages::Message;
 use crate::side::Side;
-use crate::{events, homes, messages, requests, scripts};
-use bd_base::{Act, Entry, Op, OutOfMemory, RegEvent, Setup, Token};
-use bd_changes::register;
+use crate::{course, events, homes, messages, requests, scripts, walks};
+use bd_base::{Act, Answer, Entry, Op, OutOfMemory, RegEvent, Rows, Setup, Token};
+use bd_changes::{note_taken, register};
+use bd_copies::Duplicate;
+use bd_course::{
+    refused_abort, refused_hold, refused_inject, refused_let, refused_pend, refused_release,
+    refused_tick,
+};
 use bd_machine::guard::{IN_ORDER, UNBUILT};
-use bd_machine::{Registry, State};
-use bd_rules::{PieceId, Submission, has_range};
+use bd_machine::{Part, Registry, State, TakenInjection};
+use bd_rules::has_range;
+use bd_view::{AS_YET, PieceId, Submission};
+use bd_walks::refused_visit;
 use std::alloc::Global;
 
 fn is_built_token(what: &Token) -> bool
@@ -29,8 +36,8 @@ fn is_built_event(event: &RegEvent) -> bool
     matches!(event, RegEvent::Open { .. } | RegEvent::Close { .. })
 }
 
-fn is_built(act: &Act) -> bool
-    ensures { result ≡ is_built act.now }
+fn is_built_as_yet(act: &Act) -> bool
+    ensures { result ≡ is_built_as_yet act.now }
 {
     match act {
         Act::Put { what, .. } => is_built_token(what),
@@ -46,6 +53,12 @@ fn is_built(act: &Act) -> bool
         Act::Shutdown => true,
         _ => false,
     }
+}
+
+fn is_built(act: &Act) -> bool
+    ensures { result ≡ is_built act.now }
+{
+    !AS_YET || is_built_as_yet(act)
 }
 
 // Stamp and thread are above those of the entry before, and the thread exists.
@@ -72,6 +85,17 @@ fn submission(op: Op, lba: u64, count: u64) -> Submission
     Submission { op, lba, count }
 }
 
+// What a submission asks for; nothing for any other act.
+fn submission_of(act: &Act) -> Submission
+    ensures { result ≡ submission_of act.now }
+{
+    match act {
+        Act::Accept { op, lba, count, .. } => submission(*op, *lba, *count),
+        Act::Refuse { op, lba, count, .. } => submission(*op, *lba, *count),
+        _ => submission(Op::Reset, 0, 0),
+    }
+}
+
 // ---- why an act isn't allowed
 
 // Why an act on a request isn't allowed.
@@ -84,27 +108,37 @@ fn refused_request(alloc: Global, side: &Side, act: &Act) -> Result<Option<u32>,
             req,
             dev,
             handle,
-            op,
-            lba,
-            count,
+            ..
         } => {
-            let what = submission(*op, *lba, *count);
+            let what = submission_of(act);
             Ok(requests::refused_accept(side, *req, *dev, *handle, what))
         }
-        Act::Refuse {
-            handle,
-            op,
-            lba,
-            count,
-            errno,
-        } => {
-            let what = submission(*op, *lba, *count);
+        Act::Refuse { handle, errno, .. } => {
+            let what = submission_of(act);
             Ok(requests::refused_refuse(side, *handle, what, *errno))
         }
         Act::Cut { req, pieces } => requests::refused_cut(alloc, side, *req, *pieces),
         Act::Complete { req, status, shown } => {
             requests::refused_complete(alloc, side, *req, *status, shown)
         }
+        _ => unreachable!(),
+    }
+}
+
+// Why an act on a request beside its pieces isn't allowed.
+fn refused_course(side: &Side, act: &Act) -> Result<Option<u32>, OutOfMemory>
+    requires { is_of_course act.now ≡ true }
+    ensures { IfOk result (λ r. r ≡ refused side.now act.now) }
+{
+    let (setup, thread) = (side.setup, side.thread);
+    match act {
+        Act::Inject { req, dev, decision } => Ok(refused_inject(side, *req, *dev, *decision)),
+        Act::Pend { req } => Ok(refused_pend(side, thread, *req)),
+        Act::Let { req, dev, now } => Ok(refused_let(side, setup, thread, *req, *dev, *now)),
+        Act::Hold { req, until } => refused_hold(side, setup, thread, *req, *until),
+        Act::Release { req, now } => refused_release(side, setup, thread, *req, *now),
+        Act::Abort { req, cause } => Ok(refused_abort(side, setup, thread, *req, *cause)),
+        Act::Tick { dev, now, slices } => refused_tick(side, setup, thread, *dev, *now, *slices),
         _ => unreachable!(),
     }
 }
@@ -122,19 +156,25 @@ fn refused_act(alloc: Global, side: &Side, act: &Act) -> Result<Option<u32>, Out
             number,
             what,
         } => Ok(messages::refused_took(side, message(*source, *number), what)),
-        Act::Reg { event, answer } => events::refused_reg(side, event, answer),
-        Act::Accept { .. } => refused_request(alloc, side, act),
-        Act::Refuse { .. } => refused_request(alloc, side, act),
-        Act::Cut { .. } => refused_request(alloc, side, act),
-        Act::Complete { .. } => refused_request(alloc, side, act),
+        Act::Reg { event, answer } => events::refused_reg(alloc, side, event, answer),
+        Act::Accept { .. } | Act::Refuse { .. } | Act::Cut { .. } | Act::Complete { .. } => {
+            refused_request(alloc, side, act)
+        }
         Act::Apply { req, k, dev, end } => {
             let piece = PieceId { req: *req, k: *k };
             Ok(homes::refused_apply(side, piece, *dev, *end))
         }
+        Act::NoMem { req, k, dev } => {
+            let piece = PieceId { req: *req, k: *k };
+            Ok(homes::refused_no_mem(side, piece, *dev))
+        }
+        Act::Visit { walk, dev, kind } => {
+            Ok(refused_visit(side, side.setup, side.thread, *walk, *dev, *kind))
+        }
         Act::Destruct { dev, digest } => Ok(homes::refused_destruct(side, *dev, digest)),
         Act::Script { line, outcome } => scripts::refused_script(side, *line, *outcome),
         Act::Shutdown => scripts::refused_shutdown(side),
-        _ => Ok(None),
+        _ => refused_course(side, act),
     }
 }
 
@@ -167,18 +207,16 @@ pub fn refusal(
 // The state with what an act on a request changes of its thread's part and of the tokens.
 fn changed_by_request(alloc: Global, side: &Side, act: &Act) -> Result<State, OutOfMemory>
     requires { is_of_request act.now ≡ true }
-    ensures { IfOk result (λ s. s ≡ changed side.now (change_of side.now act.now)) }
+    ensures { IfOk result (λ s. s ≡ changed side.now (made_by side.now act.now)) }
 {
     match act {
         Act::Accept {
             req,
             dev,
             handle,
-            op,
-            lba,
-            count,
+            ..
         } => {
-            let what = submission(*op, *lba, *count);
+            let what = submission_of(act);
             requests::accept(alloc, side, *req, *dev, *handle, what)
         }
         Act::Refuse { errno, .. } => requests::refuse(alloc, side, *errno),
@@ -188,10 +226,27 @@ fn changed_by_request(alloc: Global, side: &Side, act: &Act) -> Result<State, Ou
     }
 }
 
-// The state with what an act changes of its thread's part and of the tokens: nothing for a Shutdown, and
-// for an act that isn't built.
+// The state with what an act on a request beside its pieces changes of its thread's part and of the
+// tokens.
+fn changed_by_course(alloc: Global, side: &Side, act: &Act) -> Result<State, OutOfMemory>
+    requires { is_of_course act.now ≡ true }
+    ensures { IfOk result (λ s. s ≡ changed side.now (made_by side.now act.now)) }
+{
+    match act {
+        Act::Inject { req, decision, .. } => course::inject(alloc, side, *req, *decision),
+        Act::Pend { req } => course::pend(alloc, side, *req),
+        Act::Let { req, dev, now } => course::let_pass(alloc, side, *req, *dev, *now),
+        Act::Hold { req, until } => course::hold(alloc, side, *req, *until),
+        Act::Release { req, now } => course::release(alloc, side, *req, *now),
+        Act::Abort { req, cause } => course::abort(alloc, side, *req, *cause),
+        Act::Tick { dev, now, slices } => course::tick(alloc, side, *dev, *now, *slices),
+        _ => unreachable!(),
+    }
+}
+
+// The state with what an act changes of its thread's part and of the tokens: nothing for a Shutdown.
 fn changed_by(alloc: Global, side: &Side, act: &Act) -> Result<State, OutOfMemory>
-    ensures { IfOk result (λ s. s ≡ changed side.now (change_of side.now act.now)) }
+    ensures { IfOk result (λ s. s ≡ changed side.now (made_by side.now act.now)) }
 {
     match act {
         Act::Put { to, number, what } => { messages::put(alloc, side, message(*to, *number), what) }
@@ -200,34 +255,68 @@ fn changed_by(alloc: Global, side: &Side, act: &Act) -> Result<State, OutOfMemor
             number,
             what,
         } => messages::take(alloc, side, message(*source, *number), what),
-        Act::Reg { answer, .. } => events::decide(alloc, side, answer),
-        Act::Accept { .. } => changed_by_request(alloc, side, act),
-        Act::Refuse { .. } => changed_by_request(alloc, side, act),
-        Act::Cut { .. } => changed_by_request(alloc, side, act),
-        Act::Complete { .. } => changed_by_request(alloc, side, act),
+        Act::Reg { event, answer } => events::reg(alloc, side, event, answer),
+        Act::Accept { .. } | Act::Refuse { .. } | Act::Cut { .. } | Act::Complete { .. } => {
+            changed_by_request(alloc, side, act)
+        }
         Act::Apply { req, k, dev, end } => {
             let piece = PieceId { req: *req, k: *k };
             homes::apply(alloc, side, piece, *dev, *end)
         }
+        Act::NoMem { req, k, dev } => {
+            let piece = PieceId { req: *req, k: *k };
+            homes::refuse_piece(alloc, side, piece, *dev)
+        }
+        Act::Visit { walk, dev, kind } => walks::visit(alloc, side, *walk, *dev, *kind),
         Act::Destruct { dev, .. } => homes::destruct(alloc, side, *dev),
         Act::Script { .. } => scripts::script(alloc, side),
-        _ => side.state.duplicate(alloc),
+        Act::Shutdown => side.state.duplicate(alloc),
+        _ => changed_by_course(alloc, side, act),
     }
 }
 
 // The registry after what an act asked of it.
 fn register_asked(
     alloc: Global,
+    setup: &Setup,
     registry: &mut Registry,
     thread: u32,
     act: &Act,
 ) -> Result<(), OutOfMemory>
-    ensures { OnOk result (registry.new ≡ registry_after registry.old thread (asked act.now)) }
+    ensures { OnOk result (registry.new ≡ registry_after setup.now registry.old thread (asked act.now)) }
 {
     match act {
-        Act::Reg { event, answer } => register(alloc, registry, thread, event, answer),
+        Act::Reg { event, answer } => register(alloc, setup, registry, thread, event, answer),
         _ => Ok(()),
     }
+}
+
+// What an act took of an error device, for the Inject that follows.
+fn taken_injection(act: &Act) -> Option<TakenInjection>
+    ensures { result ≡ taken_injection act.now }
+{
+    let Act::Reg { event, answer } = act else {
+        return None;
+    };
+    match (event, answer) {
+        (RegEvent::TakeInjection { dev, req, .. }, Answer::Injected { decision }) => {
+            Some(TakenInjection {
+                req: *req,
+                dev: *dev,
+                decision: *decision,
+            })
+        }
+        _ => None,
+    }
+}
+
+// The part of the thread with what the act took noted.
+#[tactic(auto, using(bd_changes::proofs::Places::set_at))]
+fn note(parts: &mut Rows<Part>, thread: u32, act: &Act)
+    requires { thread < length parts.old }
+    ensures { parts.new ≡ change_at thread (λ p. record p { injection = taken_injection act.now }) parts.old }
+{
+    note_taken(parts.at_mut(thread as usize), taken_injection(act));
 }
 
 fn is_shutdown(act: &Act) -> bool
@@ -237,7 +326,7 @@ fn is_shutdown(act: &Act) -> bool
 }
 
 /// The state after an allowed entry.
-#[tactic(auto, unfolding(bd_machine::specs::Step::after), using(bd_machine::proofs::Steps::allowed_thread))]
+#[tactic(auto, unfolding(bd_machine::specs::Step::after), using(bd_machine::proofs::Steps::allowed_thread, crate::proofs::Noting::changed_after_set))]
 pub fn after(
     alloc: Global,
     setup: &Setup,
@@ -254,7 +343,8 @@ pub fn after(
         thread,
     };
     let mut next = changed_by(alloc, &side, &entry.act)?;
-    register_asked(alloc, &mut next.registry, thread, &entry.act)?;
+    note(&mut next.parts, thread, &entry.act);
+    register_asked(alloc, setup, &mut next.registry, thread, &entry.act)?;
     next.shut = state.shut || is_shutdown(&entry.act);
     next.stamp = entry.stamp;
     next.thread = thread;

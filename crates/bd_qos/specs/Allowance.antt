@@ -1,7 +1,8 @@
 -- What contracts see of a device's limits.
 use Rattle.std.specs.Prelude.{ℕ, ◌≤◌, ◌<◌, ◌^◌, ◌-◌, ◌+◌, if◌then◌else◌, ◌==◌, ℤ, pos, ◌≤ℤ◌, neg_ℤ}
 use Rattle.bd_base.specs.declared.device.Rates.{Rates}
-use Rattle.bd_machine.specs.Budget.{Quotas, Left, renewed, slices_passed}
+use Rattle.bd_machine.specs.declared.state.Left.{Left}
+use Rattle.bd_machine.specs.Budget.{Quotas, renewed, slices_passed}
 
 -- the quotas, what is left of each limit, the start of the first timeslice (microseconds), and how
 -- many timeslices were counted since

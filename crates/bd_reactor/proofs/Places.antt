@@ -1,7 +1,9 @@
 -- What stands at a place of a list.
-use Rattle.std.proofs.Common.{◌≡◌, ℕ, zero, suc, ◌<◌, Bool, true, List, [], ◌∷◌, ◌++◌, length, set, Some, None, ◌⊎◌, inl, inr, refl, ap, subst, arith, Result, Ok, Err, OnOk}
-use Rattle.std.specs.List.{list_all, slice_get}
+use Rattle.std.proofs.Common.{◌≡◌, ℕ, zero, suc, ◌<◌, Bool, true, List, [], ◌∷◌, ◌++◌, length, set, Some, None, ◌⊎◌, inl, inr, refl, sym, ◌∙◌, ap, subst, zero-add, arith, Result, Ok, Err, OnOk}
+use Rattle.std.specs.List.{list_all, range_with_len, slice_get}
 use Rattle.std.proofs.lemmas.Bool.{and_parts}
+use Rattle.std.proofs.lemmas.List.FromFn.{get_or-range_with_len, length-range_with_len}
+use Rattle.std.proofs.lemmas.List.Sums.{AllPass-from_list_all}
 use Rattle.std.proofs.lemmas.Option.{same_Some}
 
 pub set_here : {X : Type 0} (xs : List X) (i : ℕ) (x : X) → i < length xs → slice_get (set xs i x) i ≡ Some x
@@ -37,6 +39,12 @@ push_at (z ∷ xs) x (suc i) y h = go (push_at xs x i y h)
     go : (slice_get xs i ≡ Some y) ⊎ ((i ≡ length xs) × (x ≡ y)) → (slice_get xs i ≡ Some y) ⊎ ((suc i ≡ length (z ∷ xs)) × (x ≡ y))
     go (inl e) = inl e
     go (inr p) = inr (ap suc p.0, p.1)
+
+-- what holds of all numbers below another holds of each
+pub all_below : (p : ℕ → Bool) (k n : ℕ) → list_all p (range_with_len 0 k) ≡ true → n < k → p n ≡ true
+all_below p k n h lt =
+    subst (λ (m : ℕ). p m ≡ true) (get_or-range_with_len 0 k n 0 lt ∙ zero-add n)
+    (AllPass-from_list_all p (range_with_len 0 k) h n 0 (subst (λ (m : ℕ). n < m) (sym (length-range_with_len 0 k)) lt))
 
 -- what holds by two clauses
 pub on_ok_two : {A E P Q R : Type 0} (result : Result A E) → (P → Q → R) → OnOk result P → OnOk result Q → OnOk result R

@@ -1,24 +1,27 @@
 -- When a node is at rest: a Shutdown may come, and after it the run is complete.
-use Rattle.std.proofs.Common.{◌≡◌, ℕ, zero, suc, ◌+◌, ◌^◌, ◌<◌, Bool, true, false, cond, not, ◌||◌, ◌==◌, List, [], ◌∷◌, length, Option, Some, None, refl, sym, ◌∙◌, ap, subst, eq-eqb, eqb-true, arith, nat_lt}
+use Rattle.std.proofs.Common.{◌≡◌, ℕ, zero, suc, ◌+◌, ◌^◌, ◌<◌, Bool, true, false, cond, not, ◌&&◌, ◌||◌, ◌==◌, List, [], ◌∷◌, length, Option, Some, None, is_none, refl, sym, ◌∙◌, ap, subst, eq-eqb, eqb-true, arith, nat_lt}
 use Rattle.std.specs.List.{list_all, list_any, range_with_len, slice_get}
 use Rattle.std.proofs.lemmas.Bool.{and_parts}
 use Rattle.std.proofs.lemmas.List.{length-append}
 use Rattle.std.proofs.lemmas.Nat.{mod_below}
 use Rattle.bd_base.specs.declared.setup.Setup.{Setup}
+use Rattle.bd_machine.specs.declared.state.Handle.{Handle}
 use Rattle.bd_machine.specs.declared.state.Id.{Id}
 use Rattle.bd_machine.specs.declared.state.Kept.{Kept}
+use Rattle.bd_machine.specs.declared.state.Owed.{Owed}
 use Rattle.bd_machine.specs.declared.state.State.{State}
-use Rattle.bd_machine.specs.Asked.{is_script_blocked}
+use Rattle.bd_machine.specs.declared.state.TakenInjection.{TakenInjection}
+use Rattle.bd_machine.specs.Asked.{is_script_blocked, open_on}
 use Rattle.bd_machine.specs.BlockMap.{base_of, home}
 use Rattle.bd_machine.specs.Lines.{shutdown_at}
+use Rattle.bd_machine.specs.Rest.{is_idle_owed, is_nothing_owed}
 use Rattle.bd_machine.specs.Run.{IsCompleteRun, state_after}
-use Rattle.bd_machine.specs.Same.{same_dev}
-use Rattle.bd_machine.specs.Start.{dev_of, start}
+use Rattle.bd_machine.specs.Same.{same_dev, same_handle}
+use Rattle.bd_machine.specs.Start.{start}
 use Rattle.bd_machine.specs.Step.{after}
+use Rattle.bd_machine.specs.Users.{dev_of, is_base_handle}
 use Rattle.bd_machine.specs.View.{View}
-use Rattle.bd_machine.proofs.Complete.{all_below}
-use Rattle.bd_machine.proofs.Runs.{after_on, run_on}
-use Rattle.bd_turns.specs.Laws.{AreAtRest, AreBlocked, AreDestructed, IsShut}
+use Rattle.bd_turns.specs.Laws.{AreAtRest, AreBlocked, AreDestructed, AreDone, IsShut, is_left_open_in, is_resting_here}
 use Rattle.bd_turns.specs.Tied.{IsTied}
 use Rattle.bd_turns.specs.declared.queue.Message.{Message}
 use Rattle.bd_turns.proofs.Rest.{rest_is_complete, shutdown_is_allowed}
@@ -28,8 +31,8 @@ use Rattle.bd_thread.specs.Resting.{are_empty, has_destructed_all, is_blocked, i
 use Rattle.bd_thread.specs.Seen.{here_in, local, number_of, queues_of, setup_of}
 use Rattle.bd_reactor.specs.declared.node.NodeState.TheVariants.{Idle, Done, Busy}
 use Rattle.bd_reactor.specs.Whole.{IsWhole, shared_of, view_or, views_of}
-use Rattle.bd_reactor.proofs.Places.{all_at, has_at}
-use Rattle.bd_reactor.proofs.Turns.{retie}
+use Rattle.bd_reactor.proofs.Places.{all_at, all_below, has_at}
+use Rattle.bd_reactor.proofs.Turns.{after_on, retie, run_on}
 
 -- ---- by parts
 
@@ -48,6 +51,48 @@ empty_at (q ∷ qs) h (suc r) = empty_at qs (and_parts (is_empty q) (list_all is
 
 none_held : (held : List (Id × Kept)) → held ≡ [] → (id : Id) → here_in held id ≡ None
 none_held held e id = ap (λ (h : List (Id × Kept)). here_in h id) e
+
+none_taken : (o : Option TakenInjection) → is_none o ≡ true → o ≡ None
+none_taken None h = refl
+none_taken (Some x) h = cc
+
+-- what a thread at rest has
+record Rests (t : Thread) : Type 0 where
+  held : t.held.items ≡ []
+  due : t.part.due ≡ []
+  owed : t.part.owed ≡ []
+  gone : t.part.gone ≡ []
+  injection : t.part.injection ≡ None
+
+rests_of : (t : Thread) → rests t ≡ true → Rests t
+rests_of t h =
+    let held : Bool = length t.held.items == 0 in
+    let due : Bool = length t.part.due == 0 in
+    let owed : Bool = length t.part.owed == 0 in
+    let gone : Bool = length t.part.gone == 0 in
+    let p = and_parts (held && due && owed && gone) (is_none t.part.injection) h in
+    let q = and_parts (held && due && owed) gone p.0 in
+    let r = and_parts (held && due) owed q.0 in
+    let u = and_parts held due r.0 in
+    record {
+      held = nothing t.held.items u.0;
+      due = nothing t.part.due u.1;
+      owed = nothing t.part.owed r.1;
+      gone = nothing t.part.gone q.1;
+      injection = none_taken t.part.injection p.1;
+    }
+
+-- where no remove event came, no handle is one that the thread closes by itself
+none_left_open : (setup : Setup) (v : View) → v.part.gone ≡ [] → (hs : List Handle) → list_any (is_left_open_in setup v) hs ≡ false
+none_left_open setup v e [] = refl
+none_left_open setup v e (h ∷ hs) =
+    ap (λ b. (not (is_base_handle setup h.id) && b && (open_on v.part h.id == 0)) || list_any (is_left_open_in setup v) hs) (ap (list_any (same_handle h.id)) e)
+    ∙ ap (λ b. b || list_any (is_left_open_in setup v) hs) (no_mark (not (is_base_handle setup h.id)) (open_on v.part h.id == 0))
+    ∙ none_left_open setup v e hs
+  where
+    no_mark : (a b : Bool) → (a && false && b) ≡ false
+    no_mark true b = refl
+    no_mark false b = refl
 
 one_of : (b c : Bool) → (not b || c) ≡ true → b ≡ true → c ≡ true
 one_of true c h e = h
@@ -82,12 +127,27 @@ module _ (setup : Setup) (threads : List Thread) (links : Links) (w : IsWhole se
   pub at_rest : list_all rests threads ≡ true → are_empty links.queues.items ≡ true → AreAtRest setup seen (shared_of links)
   at_rest rest empty = record {
     none_queued = empty_at links.queues.items empty;
-    none_here = of_each rests (λ t v. (id : Id) → v.here id ≡ None) rest (λ t given h id. none_held t.held.items (nothing t.held.items (and_parts (length t.held.items == 0) (length t.part.due == 0) h).0) id);
-    none_due = of_each rests (λ t v. v.part.due ≡ []) rest (λ t given h. nothing t.part.due (and_parts (length t.held.items == 0) (length t.part.due == 0) h).1);
+    none_due = of_each rests (λ t v. v.part.due ≡ []) rest (λ t given h. (rests_of t h).due);
+    owed_idle = of_each rests (λ t v. is_nothing_owed links.registry v.part ≡ true) rest (λ t given h. ap (λ (os : List Owed). list_all (is_idle_owed links.registry) os) (rests_of t h).owed);
+    closed = of_each rests (λ t v. list_any (is_left_open_in setup v) v.handles ≡ false) rest (λ t given h. none_left_open setup (local t links).view (rests_of t h).gone (local t links).view.handles);
+    resting = of_each rests (λ t v. (id : Id) → is_resting_here setup t v id (v.here id) ≡ true) rest
+        (λ t given h id. ap (is_resting_here setup (number_of t) (local t links).view id) (none_held t.held.items (rests_of t h).held id) ∙ rests_none (number_of t) (local t links).view id);
+    untaken = of_each rests (λ t v. v.part.injection ≡ None) rest (λ t given h. (rests_of t h).injection) 0 w.some;
+  }
+    where
+      rests_none : (t : ℕ) (v : View) (id : Id) → is_resting_here setup t v id None ≡ true
+      rests_none t v id = refl
+
+  pub done : list_all rests threads ≡ true → are_empty links.queues.items ≡ true → AreDone setup seen (shared_of links)
+  done rest empty = record {
+    none_queued = empty_at links.queues.items empty;
+    none_here = of_each rests (λ t v. (id : Id) → v.here id ≡ None) rest (λ t given h id. none_held t.held.items (rests_of t h).held id);
+    none_due = of_each rests (λ t v. v.part.due ≡ []) rest (λ t given h. (rests_of t h).due);
+    none_owed = of_each rests (λ t v. v.part.owed ≡ []) rest (λ t given h. (rests_of t h).owed);
   }
 
-  pub blocked : list_all is_blocked threads ≡ true → AreBlocked setup seen
-  blocked all = of_each is_blocked (λ t v. is_script_blocked setup t v.part ≡ true) all (λ t given h. subst (λ (s : Setup). is_script_blocked s (number_of t) t.part ≡ true) given h)
+  pub blocked : list_all (λ t. is_blocked t links) threads ≡ true → AreBlocked setup seen
+  blocked all = of_each (λ t. is_blocked t links) (λ t v. is_script_blocked setup t v ≡ true) all (λ t given h. subst (λ (s : Setup). is_script_blocked s (number_of t) (local t links).view ≡ true) given h)
 
   pub destructed : list_all has_destructed_all threads ≡ true → AreDestructed setup seen
   destructed all n lt =
@@ -105,7 +165,7 @@ module _ (setup : Setup) (threads : List Thread) (links : Links) (w : IsWhole se
   view_still i (Some t) = refl
 
   -- **a node that is idle may be shut**
-  pub shut_whole : links.shut ≡ false → list_all rests threads ≡ true → are_empty links.queues.items ≡ true → list_all is_blocked threads ≡ true → IsWhole setup threads (shut_down links)
+  pub shut_whole : links.shut ≡ false → list_all rests threads ≡ true → are_empty links.queues.items ≡ true → list_all (λ t. is_blocked t links) threads ≡ true → IsWhole setup threads (shut_down links)
   shut_whole unshut rest empty all =
       let was = state_after setup [] links.entries in
       let stamp = length links.entries + 1 in
@@ -128,4 +188,4 @@ module _ (setup : Setup) (threads : List Thread) (links : Links) (w : IsWhole se
   -- **a node that is done has a complete run**
   pub done_complete : links.shut ≡ true → list_all rests threads ≡ true → are_empty links.queues.items ≡ true → list_all has_destructed_all threads ≡ true → IsCompleteRun setup [] links.entries
   done_complete shut rest empty all =
-      (w.run, rest_is_complete setup (state_after setup [] links.entries) seen (shared_of links) w.tied w.some (at_rest rest empty) shut (destructed all))
+      (w.run, rest_is_complete setup (state_after setup [] links.entries) seen (shared_of links) w.tied w.some (done rest empty) shut (destructed all))

@@ -34,11 +34,11 @@ starting_more setup threads n t len a new = record { each = λ i u h. go i u (pu
     go i u (inl h) = a.each i u h
     go i u (inr p) = subst (λ (x : Thread). IsStarting setup i x) p.1 (subst (λ (k : ℕ). IsStarting setup k t) (sym (p.0 ∙ len)) new)
 
-module _ (setup : Setup) (threads : List Thread) (links : Links) (some : 0 < setup.threads) (len : length threads ≡ setup.threads) (a : AreStarting setup threads) (new : IsNewLinks setup.threads links) where
+module _ (setup : Setup) (threads : List Thread) (links : Links) (some : 0 < setup.threads) (len : length threads ≡ setup.threads) (a : AreStarting setup threads) (new : IsNewLinks setup links) where
   at_start : (i : ℕ) (t : Thread) → slice_get threads i ≡ Some t → local t links ≡ local_at_start setup i
-  at_start i t h = new_is_at_start setup.threads i setup t links (a.each i t h).new new
+  at_start i t h = new_is_at_start i setup t links (a.each i t h).new new
 
-  shared_is : shared_of links ≡ shared_at_start
+  shared_is : shared_of links ≡ shared_at_start setup
   shared_is =
       let u = has_at threads 0 (subst (λ (n : ℕ). 0 < n) (sym len) some) in
       ap (λ (l : Local). l.shared) (at_start 0 u.0 u.1)
@@ -52,7 +52,7 @@ module _ (setup : Setup) (threads : List Thread) (links : Links) (some : 0 < set
   tied =
       subst (λ (shared : Shared). IsTied setup (start setup []) (views_of setup threads links) shared) (sym shared_is)
       (let t = start_is_tied setup [] in
-      retie setup (start setup []) (view_at_start setup []) (views_of setup threads links) shared_at_start t (λ i lt. t.views_are i lt ∙ views_are i lt))
+      retie setup (start setup []) (view_at_start setup []) (views_of setup threads links) (shared_at_start setup) t (λ i lt. t.views_are i lt ∙ views_are i lt))
 
   pub starts_whole : IsWhole setup threads links
   starts_whole = record {

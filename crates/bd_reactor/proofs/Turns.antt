@@ -1,5 +1,5 @@
 -- What a turn leaves in the whole.
-use Rattle.std.proofs.Common.{◌≡◌, ℕ, ◌<◌, cond, List, [], length, set, Some, ◌⊎◌, inl, inr, sym, ◌∙◌, ap, subst, eq-eqb, ne_eqb, filter}
+use Rattle.std.proofs.Common.{◌≡◌, ℕ, ◌<◌, cond, List, [], ◌∷◌, ◌++◌, length, set, Some, ◌⊎◌, inl, inr, refl, sym, ◌∙◌, ap, subst, eq-eqb, ne_eqb, filter}
 use Rattle.std.specs.List.{slice_get}
 use Rattle.std.proofs.lemmas.Bool.{cases_eq}
 use Rattle.std.proofs.lemmas.List.{length-set}
@@ -8,10 +8,11 @@ use Rattle.bd_base.specs.declared.act.Entry.{Entry}
 use Rattle.bd_base.specs.declared.setup.Setup.{Setup}
 use Rattle.bd_machine.specs.declared.state.Registry.{Registry}
 use Rattle.bd_machine.specs.declared.state.State.{State}
-use Rattle.bd_machine.specs.Run.{IsRun, after_all, state_after}
+use Rattle.bd_machine.specs.Registry.{references}
+use Rattle.bd_machine.specs.Run.{IsRun, IsRunFrom, after_all, state_after}
 use Rattle.bd_machine.specs.Start.{start}
+use Rattle.bd_machine.specs.Step.{after}
 use Rattle.bd_machine.specs.View.{View, is_of, view}
-use Rattle.bd_machine.proofs.Runs.{after_on, run_on}
 use Rattle.bd_turns.specs.Laws.{IsTurn, with_view}
 use Rattle.bd_turns.specs.Local.{Leads, Shared}
 use Rattle.bd_turns.specs.Tied.{IsTied}
@@ -24,8 +25,17 @@ use Rattle.bd_thread.specs.Seen.{local, number_of}
 use Rattle.bd_reactor.specs.Whole.{IsThread, IsWhole, shared_of, view_or, views_of}
 use Rattle.bd_reactor.proofs.Places.{has_at, set_else, set_here}
 
-pub view_eq : (v w : View) → v.part ≡ w.part → v.here ≡ w.here → v.handles ≡ w.handles → v ≡ w
-view_eq v w part here handles = λ i. record { part = part i; here = here i; handles = handles i }
+pub view_eq : (v w : View) → v.part ≡ w.part → v.here ≡ w.here → v.handles ≡ w.handles → v.channels ≡ w.channels → v ≡ w
+view_eq v w part here handles channels = λ i. record { part = part i; here = here i; handles = handles i; channels = channels i }
+
+-- entries that follow a run are a run from the state that it leaves
+pub run_on : (setup : Setup) (s : State) (es fs : List Entry) → IsRunFrom setup s es → IsRunFrom setup (after_all setup s es) fs → IsRunFrom setup s (es ++ fs)
+run_on setup s [] fs run rest = rest
+run_on setup s (e ∷ es) fs run rest = (run.0, run_on setup (after setup s e) es fs run.1 rest)
+
+pub after_on : (setup : Setup) (s : State) (es fs : List Entry) → after_all setup s (es ++ fs) ≡ after_all setup (after_all setup s es) fs
+after_on setup s [] fs = refl
+after_on setup s (e ∷ es) fs = after_on setup (after setup s e) es fs
 
 -- the same state is tied with views that are equal
 pub retie : (setup : Setup) (s : State) (views now : ℕ → View) (shared : Shared) → IsTied setup s views shared → ((t : ℕ) → t < setup.threads → view s t ≡ now t) → IsTied setup s now shared
@@ -40,6 +50,7 @@ retie setup s views now shared tied are = record {
   placed = tied.placed;
   keyed = tied.keyed;
   fresh = tied.fresh;
+  told = tied.told;
 }
 
 module _ (setup : Setup) (threads : List Thread) (before : Links) (w : IsWhole setup threads before) (i : ℕ) (a b : Thread) (after : Links) (at : slice_get threads i ≡ Some a) (acted : Acted a before b after) (keeps : KeepsTickets b) where
@@ -75,6 +86,8 @@ module _ (setup : Setup) (threads : List Thread) (before : Links) (w : IsWhole s
   other t u e v = view_eq (view is t) (local u after).view (ap (λ (x : View). x.part) v) (ap (λ (x : View). x.here) v)
       (ap (λ (r : Registry). filter (is_of t) r.handles) turn.tied.registry_is
       ∙ ap (λ (n : ℕ). filter (is_of n) after.registry.handles) (sym (w.each t u e).number))
+      (ap (λ (r : Registry). references r t) turn.tied.registry_is
+      ∙ ap (λ (n : ℕ). references after.registry n) (sym (w.each t u e).number))
 
   views_now : (t : ℕ) → t < setup.threads → view is t ≡ views_of setup (set threads i b) after t
   views_now t lt = go (cases_eq i t)

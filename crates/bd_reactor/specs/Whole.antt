@@ -62,13 +62,13 @@ IsNode n = IsWhole n.setup.now n.threads.items n.links
 
 -- ---- how far it is
 
--- no token is on a thread, nothing is still to be put, and no message is on its way
+-- no token is on a thread, nothing is still to be put or done, and no message is on its way
 abbrev pub is_at_rest : Node → Bool
 is_at_rest n = list_all rests n.threads.items && are_empty n.links.queues.items
 
 -- at rest, and each script is at its end or waits
 abbrev pub is_idle : Node → Bool
-is_idle n = is_at_rest n && list_all is_blocked n.threads.items
+is_idle n = is_at_rest n && list_all (λ t. is_blocked t n.links) n.threads.items
 
 -- at rest, and each device was destructed
 abbrev pub is_over : Node → Bool

@@ -71,10 +71,10 @@ fn all_rest<'a>(threads: &[Thread<'a>]) -> bool
     threads.iter().all(|thread| thread.rests())
 }
 
-fn are_all_blocked<'a>(threads: &[Thread<'a>]) -> bool
-    ensures { result ≡ list_all is_blocked threads.now }
+fn are_all_blocked<'a>(threads: &[Thread<'a>], links: &Links) -> bool
+    ensures { result ≡ list_all (λ t. is_blocked t links.now) threads.now }
 {
-    threads.iter().all(|thread| thread.is_blocked())
+    threads.iter().all(|thread| thread.is_blocked(links))
 }
 
 fn have_all_destructed<'a>(threads: &[Thread<'a>]) -> bool
@@ -92,7 +92,7 @@ impl<'a> Node<'a> {
         ensures seed { IfOk result (λ node. seed_of node ≡ seed) }
         ensures entries { IfOk result (λ node. entries_of node ≡ []) }
     {
-        let links = Links::new(alloc, setup.threads)?;
+        let links = Links::new(alloc, setup)?;
         let threads = threads_of(alloc, setup)?;
         Ok(Node {
             setup,
@@ -156,7 +156,7 @@ impl<'a> Node<'a> {
     fn is_idle(&self) -> bool
         ensures { result ≡ is_idle self.now }
     {
-        self.is_at_rest() && are_all_blocked(self.threads.as_slice())
+        self.is_at_rest() && are_all_blocked(self.threads.as_slice(), &self.links)
     }
 
     fn is_over(&self) -> bool

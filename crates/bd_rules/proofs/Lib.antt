@@ -1,2 +1,5 @@
+pub mod Chosen
 pub mod Data
+pub mod Due
 pub mod Left
+pub mod Queues

@@ -1,2 +1,2 @@
-pub mod Apply
-pub mod Came
+pub mod Due
+pub mod Homes

@@ -1,14 +1,15 @@
 //! Which submissions are refused, and why.
 ghost use Rattle.std.specs.Prelude.{◌≡◌, IfErr, IfOk, None, Some, true};
-ghost use Rattle.bd_machine.specs.Admission.{has_range, is_outside, is_unmap, refusal_of, refusal_on, writes};
+ghost use Rattle.bd_machine.specs.Admission.{has_range, is_gone, is_on_removed, is_outside, is_removed_handle, is_unmap, refusal_of, refusal_on, writes};
 ghost use Rattle.bd_machine.specs.Asked.{is_handle_on};
 ghost use Rattle.bd_machine.specs.Registry.{handle_of};
+ghost use Rattle.bd_machine.specs.Requests.{is_device_of};
 
-use crate::names::Submission;
-use crate::sees::Sees;
+use crate::marks::is_removed_below;
 use bd_base::{DevId, Errno, HandleId, Op, Setup};
 use bd_blocks::{blocks_of, is_aio, size_of};
-use bd_machine::Handle;
+use bd_machine::{Handle, Part};
+use bd_view::{Sees, Submission};
 
 /// The most bytes of one request (this project's choice).
 const MAX_BYTES: u128 = 262_144;
@@ -58,9 +59,35 @@ fn refusal_on(setup: &Setup, handle: Option<Handle>, what: Submission) -> Option
     }
 }
 
-/// Why a submission through a handle, or through none, is refused, if it is: `BadDesc` where the
-/// handle isn't open, or for a write, zeroes, unmap or flush where it is open for reading; then
-/// `NotSup` for an unmap of an aio device; then `Inval` for no block, more than 262,144 bytes, or a
+/// Whether the remove event of a handle was taken.
+pub fn is_gone(part: &Part, id: HandleId) -> bool
+    ensures { result ≡ is_gone part.now id }
+{
+    part.gone.as_slice().iter().any(|h| id.0 == h.0)
+}
+
+// Whether the handle is there, and a device below its own is being removed.
+fn is_on_removed(setup: &Setup, part: &Part, handle: Option<Handle>) -> bool
+    ensures { result ≡ is_on_removed setup.now part.now handle }
+{
+    match handle {
+        Some(h) => is_removed_below(setup, part, h.dev),
+        None => false,
+    }
+}
+
+// Whether the handle's device was removed, as far as the thread was told.
+fn is_removed_handle<S: Sees>(seen: &S, setup: &Setup, id: HandleId) -> bool
+    ensures { result ≡ is_removed_handle setup.now (S.view_of seen.now) id }
+{
+    let part = seen.part();
+    is_gone(part, id) || is_on_removed(setup, part, seen.handle(id))
+}
+
+/// Why a submission through a handle, or through none, is refused, if it is: `NoDev` where the
+/// handle's remove event was taken, or a device below its own carries a removal mark; then `BadDesc`
+/// where the handle isn't open, or for a write, zeroes, unmap or flush where it is open for reading;
+/// then `NotSup` for an unmap over a file; then `Inval` for no block, more than 262,144 bytes, or a
 /// range past the device's end. The order is this project's choice.
 pub fn refusal_of<S: Sees>(
     seen: &S,
@@ -70,19 +97,23 @@ pub fn refusal_of<S: Sees>(
 ) -> Option<Errno>
     ensures { result ≡ refusal_of setup.now (S.view_of seen.now) handle what.op what.lba what.count }
 {
-    match handle {
-        Some(id) => refusal_on(setup, seen.handle(id), what),
-        None => Some(Errno::BadDesc),
+    let Some(id) = handle else {
+        return Some(Errno::BadDesc);
+    };
+    if is_removed_handle(seen, setup, id) {
+        Some(Errno::NoDev)
+    } else {
+        refusal_on(setup, seen.handle(id), what)
     }
 }
 
-/// Whether the thread has the handle open, and it is one of this device.
-pub fn is_handle_on<S: Sees>(seen: &S, dev: DevId, handle: HandleId) -> bool
-    ensures { result ≡ is_handle_on dev (handle_of (S.view_of seen.now).handles handle) }
+/// Whether it is the device of the handle, where the thread has that open.
+pub fn is_device_of<S: Sees>(seen: &S, dev: DevId, handle: HandleId) -> bool
+    ensures { result ≡ is_device_of dev (handle_of (S.view_of seen.now).handles handle) }
 {
     match seen.handle(handle) {
         Some(h) => h.dev.0 == dev.0,
-        None => false,
+        None => true,
     }
 }
 
@@ -95,8 +126,12 @@ pub fn admit<S: Sees>(
 ) -> Result<DevId, Errno>
     ensures admitted { IfOk result (λ dev. refusal_of setup.now (S.view_of seen.now) (Some handle) what.op what.lba what.count ≡ None) }
     ensures on { IfOk result (λ dev. is_handle_on dev (handle_of (S.view_of seen.now).handles handle) ≡ true) }
+    ensures device { IfOk result (λ dev. is_device_of dev (handle_of (S.view_of seen.now).handles handle) ≡ true) }
     ensures refused { IfErr result (λ errno. refusal_of setup.now (S.view_of seen.now) (Some handle) what.op what.lba what.count ≡ Some errno) }
 {
+    if is_removed_handle(seen, setup, handle) {
+        return Err(Errno::NoDev);
+    }
     let found = seen.handle(handle);
     match refusal_on(setup, found, what) {
         Some(errno) => Err(errno),

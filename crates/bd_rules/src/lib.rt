@@ -1,34 +1,33 @@
-//! What the machine's rules allow and ask, each rule once as a program, for whoever sees.
+//! What the machine's rules allow, each rule once as a program, for whoever sees.
 #![tactic(auto)]
 
 mod admission;
-mod asked;
 mod completion;
-mod handles;
+mod delays;
 mod homes;
+mod injections;
+mod kept;
+mod limits;
+mod marks;
 mod messages;
-mod names;
-mod outcome;
-mod same;
-mod sees;
-mod tokens;
+mod pieces;
+mod resets;
+mod statuses;
 
-pub use admission::{admit, has_range, is_handle_on, refusal_of};
-pub use asked::{
-    MOST_REQUESTS, asks_event, asks_submission, bound_to, has_mark, is_new, next_line, open_on,
-    undecided_job,
-};
+pub use admission::{admit, has_range, is_device_of, is_gone, refusal_of};
 pub use completion::{
-    any_faulted, data_of, has_extents, is_shown_due, is_status_due, may_complete, may_cut,
-    piece_here, request_here, status_due, uncut,
+    data_read, has_extents, is_shown_due, may_complete, may_cut, turned_if, uncut,
 };
-pub use handles::{answer_to, handle_of, is_unused, own_handle};
-pub use homes::{base_here, has_destructed, is_digest_due, may_apply, may_destruct, may_end};
-pub use messages::{brings, count_at, id_of, is_due_to, is_token_here, may_go};
-pub use names::{PieceId, Submission};
-pub use outcome::{is_script_blocked, outcome_due, outcome_of};
-pub use same::{
-    same_answer, same_errno, same_id, same_news, same_outcome, same_request, same_status,
+pub use delays::{is_delay_left, is_delayed};
+pub use homes::{
+    Release, base_here, has_destructed, is_digest_due, is_told, may_apply, may_destruct, may_end,
+    may_hold, may_refuse,
 };
-pub use sees::Sees;
-pub use tokens::{as_piece, as_request, look_up};
+pub use injections::{asks_injection, has_every_decision, is_at_own, is_fail, is_under_way};
+pub use kept::{new_request, piece_here, request_here, walk_here};
+pub use limits::{next_limited, way_of};
+pub use marks::{has_mark, is_frozen, is_marked, is_removed, is_removed_below, marking_of};
+pub use messages::{brings, count_at, id_of, is_due_to, is_token_here, may_go, tells};
+pub use pieces::{all_back, all_done, all_ended, any_faulted, any_unsent, data_of};
+pub use resets::{is_finished, is_reset, is_reset_of, is_walking, reset_of};
+pub use statuses::{is_status_due, may_be_status, status_due};

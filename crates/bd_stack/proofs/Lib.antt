@@ -1,6 +1,2 @@
-pub mod Alone
+pub mod Downwards
 pub mod Numbered
-pub mod Places
-pub mod Runs
-pub mod Steps
-pub mod Tables

@@ -1,13 +1,14 @@
-//! Stacked devices: which base block lies under a block, which devices lie below a device, and how
-//! far one can go without a cut.
+//! Stacked devices: their rows, what lies below a device and under a block, and the base handles of those
+//! that stand on another.
 #![tactic(auto)]
 
-mod law;
-mod layer;
+mod devices;
+mod groups;
 mod path;
-mod stack;
-mod user_table;
 
-pub use law::agrees_with_machine;
-pub use layer::Layer;
-pub use stack::{Stack, is_stacked};
+pub use devices::{
+    blocks_of, boundary_of, depth_of, device_named, is_delay, is_error, is_malloc, row_of, size_of,
+    stands_on,
+};
+pub use groups::{base_handle, firsts, is_base_handle, users};
+pub use path::{Descent, at, base_of, below, home, is_aio, is_home, under};

@@ -1,66 +1,143 @@
 //! The way from a device down to its base device.
-ghost use Rattle.std.specs.Prelude.{◌≡◌, ◌<◌, ◌≤◌, IfOk, Some, length, slice_get, vec_len};
-ghost use Rattle.bd_stack.specs.Layers.{IsStacked};
-ghost use Rattle.bd_stack.specs.Paths.{ArePaths, IsPath};
+ghost use Rattle.std.specs.Prelude.{◌≡◌, ◌+◌, IfOk, IfSome, suc};
+ghost use Rattle.std.specs.Option.{option_map};
+ghost use Rattle.std.specs.Iterator.{YieldsFirst, item_count};
+ghost use Rattle.bd_machine.specs.BlockMap.{at, base_of, below, home, is_aio, last_of, path_within, row_of, shift_of_row, stands_on};
+ghost use Rattle.bd_machine.specs.Homes.{is_home};
 
-use crate::layer::Layer;
-use bd_base::{DevId, OutOfMemory};
-use std::alloc::Global;
+use crate::devices::{row_of, shift_of, stands_on};
+use bd_base::{DevId, Kind, OutOfMemory, Setup};
+use std::marker::Model;
 
-/// Block b of a device lies on block `offset` + b of its base device; `below` has the devices from it
-/// down to that one.
+/// The devices from one down to its base device that are left, seen as their list.
 #[derive(Debug, Drop)]
-pub(crate) struct Path {
-    pub(crate) base: DevId,
-    pub(crate) offset: u64,
-    pub(crate) below: Vec<DevId>,
+pub struct Descent<'a> {
+    setup: &'a Setup,
+    next: Option<DevId>,
+    // How many devices follow the next one at most.
+    left: usize,
 }
 
-// The path of the device of this number, from those of the devices before it.
-fn path_of(
-    alloc: Global,
-    layers: &[Layer],
-    number: usize,
-    paths: &[Path],
-) -> Result<Path, OutOfMemory>
-    requires stacked { IsStacked layers.now }
-    requires number { number < length layers.now }
-    requires earlier { length paths.now ≡ number }
-    requires paths { ArePaths layers.now paths.now }
-    ensures { IfOk result (IsPath layers.now number) }
+impl<'a> Model for Descent<'a> {
+    ghost use Rattle.std.specs.Prelude.{List};
+    ghost use Rattle.bd_base.specs.declared.id.DevId.{DevId};
+    ghost use Rattle.bd_stack.specs.Walks.{devices_left};
+
+    ghost Value = { List DevId };
+
+    ghost view = { λ b. devices_left b.setup.now b.left b.next };
+}
+
+impl<'a> Iterator for Descent<'a> {
+    type Item = DevId;
+
+    ghost next_gives = { YieldsFirst (λ left. left) };
+
+    ghost remaining = { item_count (λ left. left) };
+
+    fn next(&mut self) -> Option<DevId> {
+        let dev = self.next?;
+        if self.left == 0 {
+            self.next = None;
+        } else {
+            self.left -= 1;
+            self.next = stands_on(self.setup, dev);
+        }
+        Some(dev)
+    }
+}
+
+/// A device, the one that it stands on, and so on down to its base device. It takes no memory.
+pub fn below(setup: &Setup, dev: DevId) -> Descent<'_>
+    ensures { result ≡ below setup.now dev }
 {
-    let dev = DevId(number as u32);
-    let layer = layers[number];
-    let mut below = Vec::new(alloc);
-    below.push(dev)?;
-    match layer.base {
-        None => Ok(Path {
-            base: dev,
-            offset: 0,
-            below,
-        }),
-        Some(base) => {
-            let lower = &paths[base.0 as usize];
-            below.extend_from_slice(lower.below.as_slice())?;
-            Ok(Path {
-                base: lower.base,
-                offset: lower.offset + layer.shift,
-                below,
-            })
+    Descent {
+        setup,
+        next: Some(dev),
+        left: setup.devices.len(),
+    }
+}
+
+/// The base device under a device.
+pub fn base_of(setup: &Setup, dev: DevId) -> DevId
+    ensures { result ≡ base_of setup.now dev }
+{
+    let mut base = dev;
+    for lower in below(setup, dev) {
+        base = lower;
+    }
+    base
+}
+
+/// The number of the thread that alone touches the content under a device.
+pub fn home(setup: &Setup, dev: DevId) -> u32
+    ensures { result ≡ home setup.now dev }
+{
+    let base = base_of(setup, dev);
+    if setup.threads == 0 {
+        base.0
+    } else {
+        base.0 % setup.threads
+    }
+}
+
+/// Whether it is a device of the setup whose home this thread is.
+pub fn is_home(setup: &Setup, thread: u32, dev: DevId) -> bool
+    ensures { result ≡ is_home setup.now thread dev }
+{
+    row_of(setup, dev).is_some() && home(setup, dev) == thread
+}
+
+/// Whether the base of a device is a file.
+pub fn is_aio(setup: &Setup, dev: DevId) -> bool
+    ensures { result ≡ is_aio setup.now dev }
+{
+    match row_of(setup, base_of(setup, dev)) {
+        Some(row) => matches!(row.kind, Kind::Aio),
+        None => false,
+    }
+}
+
+/// The block under a block of a device that stands on another; none for a base device. A number that
+/// passes 64 bits counts as out of memory.
+pub fn under(setup: &Setup, dev: DevId, block: u64) -> Result<Option<(DevId, u64)>, OutOfMemory>
+    ensures base { IfOk result (λ o. option_map (λ p. p.0) o ≡ stands_on setup.now dev) }
+    ensures number { IfOk result (λ o. IfSome o (λ p. p.1 ≡ shift_of_row (row_of setup.now dev) + block)) }
+{
+    let Some(base) = stands_on(setup, dev) else {
+        return Ok(None);
+    };
+    match shift_of(setup, dev).checked_add(block) {
+        Some(number) => Ok(Some((base, number))),
+        None => Err(OutOfMemory),
+    }
+}
+
+// The lowest block under a block of a device, `left` devices further down at most.
+fn at_within(
+    setup: &Setup,
+    left: usize,
+    dev: DevId,
+    block: u64,
+) -> Result<(DevId, u64), OutOfMemory>
+    ensures { IfOk result (λ p. record { dev = p.0; number = p.1 } ≡ last_of (record { dev = dev; number = block }) (path_within (suc left) setup.now dev block)) }
+{
+    if left == 0 {
+        return Ok((dev, block));
+    }
+    match under(setup, dev, block)? {
+        None => Ok((dev, block)),
+        Some((base, lower)) => {
+            let lowest = at_within(setup, left - 1, base, lower)?;
+            Ok(lowest)
         }
     }
 }
 
-/// The paths of all devices, by number.
-pub(crate) fn paths_of(alloc: Global, layers: &[Layer]) -> Result<Vec<Path>, OutOfMemory>
-    requires { IsStacked layers.now }
-    ensures paths { IfOk result (λ paths. ArePaths layers.now paths.items) }
-    ensures length { IfOk result (λ paths. length paths.items ≡ length layers.now) }
+/// The base device and its block that lie under a block of a device. A number that passes 64 bits
+/// counts as out of memory: no request that was admitted has one.
+pub fn at(setup: &Setup, dev: DevId, block: u64) -> Result<(DevId, u64), OutOfMemory>
+    ensures { IfOk result (λ p. record { dev = p.0; number = p.1 } ≡ at setup.now dev block) }
 {
-    let mut paths = Vec::new(alloc);
-    for number in 0..layers.len() {
-        let path = path_of(alloc, layers, number, paths.as_slice())?;
-        paths.push(path)?;
-    }
-    Ok(paths)
+    at_within(setup, setup.devices.len(), dev, block)
 }

@@ -1,16 +1,14 @@
 -- Complete, by the local rules.
-use Rattle.std.proofs.Common.{◌≡◌, ℕ, suc, zero, ◌+◌, Bool, true, false, cond, ◌&&◌, ◌||◌, ◌==◌, nat_eq, nat_le, List, [], ◌∷◌, length, map, take, Option, Some, None, is_some, unwrap_or, refl, sym, ◌∙◌, ap, ap₂, subst, eq-eqb}
-use Rattle.std.specs.List.{list_all, list_any, range_with_len}
+use Rattle.std.proofs.Common.{◌≡◌, ℕ, suc, zero, ◌+◌, Bool, true, false, cond, not, ◌&&◌, nat_eq, nat_le, List, [], ◌∷◌, length, map, find, take, Option, Some, None, IfSome, IfNone, is_some, unwrap_or, refl, sym, ◌∙◌, ap, ap₂, subst, eq-eqb}
+use Rattle.std.specs.List.{list_all, range_with_len}
 use Rattle.std.specs.Cmp.Lexicographic.{pointwise}
 use Rattle.std.proofs.lemmas.Bool.{and_from, and_parts}
 use Rattle.sha2.specs.Sha256.{sha256}
 use Rattle.bd_base.specs.declared.act.Act.TheVariants as acts
-use Rattle.bd_base.specs.declared.act.ApplyEnd.{ApplyEnd}
-use Rattle.bd_base.specs.declared.act.ApplyEnd.TheVariants as ends
 use Rattle.bd_base.specs.declared.id.ReqId.{ReqId}
 use Rattle.bd_base.specs.declared.request.Shown.{Shown}
 use Rattle.bd_base.specs.declared.request.Status.{Status}
-use Rattle.bd_base.specs.declared.request.Status.TheVariants.{Success, Failed}
+use Rattle.bd_base.specs.declared.request.Status.TheVariants.{Success, Failed, Aborted}
 use Rattle.bd_base.specs.declared.setup.Setup.{Setup}
 use Rattle.bd_machine.specs.declared.state.Id.{Id}
 use Rattle.bd_machine.specs.declared.state.Id.TheVariants as ids
@@ -20,10 +18,12 @@ use Rattle.bd_machine.specs.declared.state.OpenRequest.{OpenRequest}
 use Rattle.bd_machine.specs.declared.state.Part.{Part}
 use Rattle.bd_machine.specs.declared.state.Registry.{Registry}
 use Rattle.bd_machine.specs.Alone.{held_after}
-use Rattle.bd_machine.specs.Completion.{data_of, is_back, is_done, is_faulted, is_held_progress, is_shown, may_show, piece_here, pieces_here, request_here, status_due}
+use Rattle.bd_machine.specs.Completion.{is_shown, is_success, may_show, pieces_of}
 use Rattle.bd_machine.specs.Effect.{is_read}
+use Rattle.bd_machine.specs.Kept.{piece_here, pieces_here, request_here}
 use Rattle.bd_machine.specs.Requests.{closed_with, may_complete, is_status_due, is_shown_due, pieces_closed}
-use Rattle.bd_machine.specs.Same.{is_the, same_id, same_status}
+use Rattle.bd_machine.specs.Same.{same_id}
+use Rattle.bd_machine.specs.Statuses.{is_delay_left, is_failed, is_success_due, may_be_status}
 use Rattle.bd_machine.specs.View.{View}
 use Rattle.bd_turns.specs.declared.queue.Message.{Message}
 use Rattle.bd_turns.specs.Local.{Local}
@@ -31,37 +31,10 @@ use Rattle.bd_thread.specs.declared.completion.Ending.{Ending}
 use Rattle.bd_thread.specs.declared.links.Links.{Links}
 use Rattle.bd_thread.specs.declared.thread.Thread.{Thread}
 use Rattle.bd_thread.specs.Acted.{Acted}
-use Rattle.bd_thread.specs.Completions.{ended, ending_cut, ending_in, ending_of, ends_by, gone, is_ended, read_as, shown_by, shown_of, succeeds, without_open, Completes, CompletesBy, IsCompleted}
+use Rattle.bd_thread.specs.Completions.{completed, data_read, ended, ending_cut, ending_in, ending_of, ends_as, gone, is_ended, may_end, read_as, shown_by, shown_of, status_now, Completes, CompletesBy, IsCompleted}
 use Rattle.bd_thread.specs.Seen.{here_in, local_at, queues_of, view_of, Sets}
 use Rattle.bd_thread.proofs.Going.{Steps, steps, still_shut}
 use Rattle.bd_thread.proofs.Submissions.{acted_into}
-
--- ---- the pieces of a request that completes
-
-all_back : (ps : List (Option OpenPiece)) → list_all is_ended ps ≡ true → list_all is_back ps ≡ true
-all_back [] h = refl
-all_back (None ∷ ps) h = cc
-all_back (Some p ∷ ps) h =
-    let both = and_parts (is_held_progress p.progress && is_some p.end) (list_all is_ended ps) h in
-    and_from (is_held_progress p.progress) (list_all is_back ps) (and_parts (is_held_progress p.progress) (is_some p.end) both.0).0 (all_back ps both.1)
-
--- a piece that ended, and has no fault, is done
-done_end : (p : OpenPiece) (e : Option ApplyEnd) → p.end ≡ e → is_some e ≡ true → is_faulted (Some p) ≡ false → is_done (Some p) ≡ true
-done_end p None is h k = cc
-done_end p (Some ends.Done) is h k = cc
-done_end p (Some ends.Fault) is h k = cc
-
-or_parts : (a b : Bool) → (a || b) ≡ false → (a ≡ false) × (b ≡ false)
-or_parts true b h = cc
-or_parts false b h = (refl, h)
-
-all_done : (ps : List (Option OpenPiece)) → list_all is_ended ps ≡ true → list_any is_faulted ps ≡ false → list_all is_done ps ≡ true
-all_done [] h k = refl
-all_done (None ∷ ps) h k = cc
-all_done (Some p ∷ ps) h k =
-    let both = and_parts (is_held_progress p.progress && is_some p.end) (list_all is_ended ps) h in
-    let none = or_parts (is_faulted (Some p)) (list_any is_faulted ps) k in
-    and_from (is_done (Some p)) (list_all is_done ps) (done_end p p.end refl (and_parts (is_held_progress p.progress) (is_some p.end) both.0).1 none.0) (all_done ps both.1 none.1)
 
 -- ---- what it shows
 
@@ -85,93 +58,128 @@ shows_all (Some bytes) shown h = shows_data bytes shown h
 
 -- ---- how it completes
 
--- the pieces and the status are due, and so is what is shown
-pub record IsDue (r : OpenRequest) (pieces : List (Option OpenPiece)) (n : ℕ) (ending : Ending) : Type 0 where
-  pub number : ending.pieces ≡ n
-  pub status : status_due r pieces ≡ Some ending.status
-  pub shown : may_show r ending.status pieces ending.shown ≡ true
-
 some_of : {X : Type 0} (x y : X) → Some x ≡ Some y → x ≡ y
 some_of x y h = cc
 
--- a failure shows nothing
-fails_bare : (read shows : Bool) → cond (read && false) shows true ≡ true
-fails_bare true shows = refl
-fails_bare false shows = refl
+-- what is found passes the test
+found_passes : {X : Type 0} (is : X → Bool) (xs : List X) (x : X) → find is xs ≡ Some x → is x ≡ true
+found_passes is [] x h = cc
+found_passes is (y ∷ ys) x h = go (is y) refl h (found_passes is ys x)
+  where
+    go : (b : Bool) → is y ≡ b → cond b (Some y) (find is ys) ≡ Some x → (find is ys ≡ Some x → is x ≡ true) → is x ≡ true
+    go true e h rest = subst (λ z. is z ≡ true) (some_of y x h) e
+    go false e h rest = rest h
 
-module _ (r : OpenRequest) (n : ℕ) (ps : List (Option OpenPiece)) (cut : r.pieces ≡ Some n) (all : list_all is_ended ps ≡ true) where
-  due_success : list_any is_faulted ps ≡ false → status_due r ps ≡ Some Success
-  due_success none =
-      ap (λ b. cond b (Some Failed) (cond (is_some r.pieces && list_all is_done ps) (Some Success) None)) none
-      ∙ ap (λ b. cond b (Some Success) None) (and_from (is_some r.pieces) (list_all is_done ps) (ap is_some cut) (all_done ps all none))
+-- the first status that may be
+abbrev first_status : (Status → Bool) → Option Status
+first_status may = find may (Failed ∷ Aborted ∷ Success ∷ [])
 
-  read_due : (s : Option Shown) (ending : Ending) → shown_of (data_of ps) ≡ s → is_read r.op ≡ true → list_any is_faulted ps ≡ false → read_as n s ≡ Some ending → IsDue r ps n ending
-  read_due None ending is read none h = cc
-  read_due (Some shown) ending is read none h =
-      subst (IsDue r ps n) (some_of (record { pieces = n; status = Success; shown = Some shown }) ending h) (record {
+-- whether a status may be, where delays are left, where it failed, was aborted, and where its success is due
+abbrev status_by : Bool → Bool → Bool → Bool → Status → Bool
+status_by left failed aborted due Failed = not left && failed
+status_by left failed aborted due Aborted = not left && (not failed && aborted)
+status_by left failed aborted due Success = not left && (not failed && not aborted && due)
+
+-- no other status may be beside it
+only_status : (left failed aborted due : Bool) (s : Status) → status_by left failed aborted due s ≡ true → Some s ≡ first_status (status_by left failed aborted due)
+only_status true failed aborted due Failed h = cc
+only_status true failed aborted due Aborted h = cc
+only_status true failed aborted due Success h = cc
+only_status false true aborted due Failed h = refl
+only_status false true aborted due Aborted h = cc
+only_status false true aborted due Success h = cc
+only_status false false aborted due Failed h = cc
+only_status false false true due Aborted h = refl
+only_status false false false due Aborted h = cc
+only_status false false true due Success h = cc
+only_status false false false true Success h = refl
+only_status false false false false Success h = cc
+
+no_status : (may : Status → Bool) → ((s : Status) → may s ≡ false) → None ≡ first_status may
+no_status may none =
+    sym (ap (λ b. cond b (Some Failed) (find may (Aborted ∷ Success ∷ []))) (none Failed)
+    ∙ ap (λ b. cond b (Some Aborted) (find may (Success ∷ []))) (none Aborted)
+    ∙ ap (λ b. cond b (Some Success) None) (none Success))
+
+-- the status that may be is the first that may be
+pub status_is : (setup : Setup) (v : View) (req : ReqId) (r : OpenRequest) (o : Option Status)
+    → IfSome o (λ s. may_be_status setup v req r s ≡ true)
+    → IfNone o ((s : Status) → may_be_status setup v req r s ≡ false)
+    → o ≡ status_now setup v req r
+status_is setup v req r None some none = no_status (may_be_status setup v req r) none
+status_is setup v req r (Some s) some none = go s some
+  where
+    go : (s : Status) → may_be_status setup v req r s ≡ true → Some s ≡ status_now setup v req r
+    go Failed h = only_status (is_delay_left setup r) (is_failed r (pieces_of v req r)) (is_some r.aborted) (is_success_due v req r r.op) Failed h
+    go Aborted h = only_status (is_delay_left setup r) (is_failed r (pieces_of v req r)) (is_some r.aborted) (is_success_due v req r r.op) Aborted h
+    go Success h = only_status (is_delay_left setup r) (is_failed r (pieces_of v req r)) (is_some r.aborted) (is_success_due v req r r.op) Success h
+
+-- it ends with these pieces and this status, and shows what is due
+pub record IsDue (v : View) (req : ReqId) (r : OpenRequest) (n : ℕ) (status : Status) (ending : Ending) : Type 0 where
+  pub number : n ≡ ending.pieces
+  pub status_is : status ≡ ending.status
+  pub shown : may_show r ending.status (pieces_of v req r) ending.shown ≡ true
+
+module _ (v : View) (req : ReqId) (r : OpenRequest) (n : ℕ) (status : Status) where
+  read_due : (s : Option Shown) (ending : Ending) → shown_of (data_read v req r) ≡ s → is_read r.op && is_success status ≡ true → read_as n status s ≡ Some ending → IsDue v req r n status ending
+  read_due None ending is read h = cc
+  read_due (Some shown) ending is read h =
+      subst (IsDue v req r n status) (some_of (record { pieces = n; status = status; shown = Some shown }) ending h) (record {
         number = refl;
-        status = due_success none;
-        shown = ap (λ b. cond (b && true) (is_shown (data_of ps) (Some shown)) false) read ∙ shows_all (data_of ps) shown is;
+        status_is = refl;
+        shown = ap (λ b. cond b (is_shown (data_read v req r) (Some shown)) false) read ∙ shows_all (data_read v req r) shown is;
       })
 
-  success_due : (b : Bool) (ending : Ending) → is_read r.op ≡ b → list_any is_faulted ps ≡ false → cond b (read_as n (shown_of (data_of ps))) (Some (record { pieces = n; status = Success; shown = None })) ≡ Some ending → IsDue r ps n ending
-  success_due true ending read none h = read_due (shown_of (data_of ps)) ending refl read none h
-  success_due false ending read none h =
-      subst (IsDue r ps n) (some_of (record { pieces = n; status = Success; shown = None }) ending h) (record {
+  due_by : (b : Bool) (ending : Ending) → is_read r.op && is_success status ≡ b → cond b (read_as n status (shown_of (data_read v req r))) (Some (record { pieces = n; status = status; shown = None })) ≡ Some ending → IsDue v req r n status ending
+  due_by true ending read h = read_due (shown_of (data_read v req r)) ending refl read h
+  due_by false ending read h =
+      subst (IsDue v req r n status) (some_of (record { pieces = n; status = status; shown = None }) ending h) (record {
         number = refl;
-        status = due_success none;
-        shown = ap (λ b. cond (b && true) (is_shown (data_of ps) None) true) read;
+        status_is = refl;
+        shown = ap (λ b. cond b (is_shown (data_read v req r) None) true) read;
       })
 
-  due_by : (b : Bool) (ending : Ending) → list_any is_faulted ps ≡ b → cond b (Some (record { pieces = n; status = Failed; shown = None })) (succeeds r n ps) ≡ Some ending → IsDue r ps n ending
-  due_by true ending some h =
-      subst (IsDue r ps n) (some_of (record { pieces = n; status = Failed; shown = None }) ending h) (record {
-        number = refl;
-        status = ap (λ b. cond b (Some Failed) (cond (is_some r.pieces && list_all is_done ps) (Some Success) None)) some;
-        shown = fails_bare (is_read r.op) (is_shown (data_of ps) None);
-      })
-  due_by false ending none h = success_due (is_read r.op) ending refl none h
-
--- the request is here on its own thread, cut, and each of its pieces is back with its end
-pub record Ends (me : ℕ) (v : View) (req : ReqId) (ending : Ending) : Type 0 where
+-- the request is here and cut, each of its pieces is back with its end, and it may complete so
+pub record Ends (setup : Setup) (me : ℕ) (v : View) (req : ReqId) (ending : Ending) : Type 0 where
   pub request : OpenRequest
   pub is : request_here v req ≡ Some request
-  pub own : (req.thread == me) ≡ true
   pub cut : request.pieces ≡ Some ending.pieces
   pub all : list_all is_ended (pieces_here v req ending.pieces) ≡ true
-  pub status : status_due request (pieces_here v req ending.pieces) ≡ Some ending.status
-  pub shown : may_show request ending.status (pieces_here v req ending.pieces) ending.shown ≡ true
+  pub may : may_complete me v req (request_here v req) ≡ true
+  pub status : may_be_status setup v req request ending.status ≡ true
+  pub shown : may_show request ending.status (pieces_of v req request) ending.shown ≡ true
 
-module _ (me : ℕ) (v : View) (req : ReqId) (ending : Ending) where
-  ends_all : (r : OpenRequest) (n : ℕ) → request_here v req ≡ Some r → (req.thread == me) ≡ true → r.pieces ≡ Some n
-      → (b : Bool) → list_all is_ended (pieces_here v req n) ≡ b → cond b (ends_by r n (pieces_here v req n)) None ≡ Some ending → Ends me v req ending
-  ends_all r n is own cut false all h = cc
-  ends_all r n is own cut true all h =
-      let due : IsDue r (pieces_here v req n) n ending = due_by r n (pieces_here v req n) cut all (list_any is_faulted (pieces_here v req n)) ending refl h in
-      let same : n ≡ ending.pieces = sym due.number in
+module _ (setup : Setup) (me : ℕ) (v : View) (req : ReqId) (ending : Ending) where
+  ends_so : (r : OpenRequest) (n : ℕ) → request_here v req ≡ Some r → r.pieces ≡ Some n → may_end me v req n ≡ true
+      → (s : Option Status) → status_now setup v req r ≡ s → ends_as v req r n s ≡ Some ending → Ends setup me v req ending
+  ends_so r n is cut may None found h = cc
+  ends_so r n is cut may (Some status) found h =
+      let both = and_parts (list_all is_ended (pieces_here v req n)) (may_complete me v req (request_here v req)) may in
+      let due : IsDue v req r n status ending = due_by v req r n status (is_read r.op && is_success status) ending refl h in
       record {
         request = r;
         is = is;
-        own = own;
-        cut = cut ∙ ap (λ (m : ℕ). Some m) same;
-        all = subst (λ (m : ℕ). list_all is_ended (pieces_here v req m) ≡ true) same all;
-        status = subst (λ (m : ℕ). status_due r (pieces_here v req m) ≡ Some ending.status) same due.status;
-        shown = subst (λ (m : ℕ). may_show r ending.status (pieces_here v req m) ending.shown ≡ true) same due.shown;
+        cut = cut ∙ ap (λ (m : ℕ). Some m) due.number;
+        all = subst (λ (m : ℕ). list_all is_ended (pieces_here v req m) ≡ true) due.number both.0;
+        may = both.1;
+        status = subst (λ (s : Status). may_be_status setup v req r s ≡ true) due.status_is (found_passes (may_be_status setup v req r) (Failed ∷ Aborted ∷ Success ∷ []) status found);
+        shown = due.shown;
       }
 
-  ends_cut : (r : OpenRequest) → request_here v req ≡ Some r → (req.thread == me) ≡ true → (o : Option ℕ) → r.pieces ≡ o → ending_cut v req r o ≡ Some ending → Ends me v req ending
-  ends_cut r is own None cut h = cc
-  ends_cut r is own (Some n) cut h = ends_all r n is own cut (list_all is_ended (pieces_here v req n)) refl h
+  ends_all : (r : OpenRequest) (n : ℕ) → request_here v req ≡ Some r → r.pieces ≡ Some n
+      → (b : Bool) → may_end me v req n ≡ b → cond b (ends_as v req r n (status_now setup v req r)) None ≡ Some ending → Ends setup me v req ending
+  ends_all r n is cut false may h = cc
+  ends_all r n is cut true may h = ends_so r n is cut may (status_now setup v req r) refl h
 
-  ends_own : (r : OpenRequest) → request_here v req ≡ Some r → (b : Bool) → (req.thread == me) ≡ b → cond b (ending_cut v req r r.pieces) None ≡ Some ending → Ends me v req ending
-  ends_own r is false own h = cc
-  ends_own r is true own h = ends_cut r is own r.pieces refl h
+  ends_cut : (r : OpenRequest) → request_here v req ≡ Some r → (o : Option ℕ) → r.pieces ≡ o → ending_cut setup me v req r o ≡ Some ending → Ends setup me v req ending
+  ends_cut r is None cut h = cc
+  ends_cut r is (Some n) cut h = ends_all r n is cut (may_end me v req n) refl h
 
-  ends_here : (o : Option OpenRequest) → request_here v req ≡ o → ending_in me v req o ≡ Some ending → Ends me v req ending
+  ends_here : (o : Option OpenRequest) → request_here v req ≡ o → ending_in setup me v req o ≡ Some ending → Ends setup me v req ending
   ends_here None is h = cc
-  ends_here (Some r) is h = ends_own r is (req.thread == me) refl h
+  ends_here (Some r) is h = ends_cut r is r.pieces refl h
 
-  pub ends_now : ending_of me v req ≡ Some ending → Ends me v req ending
+  pub ends_now : ending_of setup me v req ≡ Some ending → Ends setup me v req ending
   ends_now h = ends_here (request_here v req) refl h
 
 -- ---- what is here after it
@@ -197,31 +205,24 @@ gone_step req k left rest old new total is sets all = ap (gone req rest) sets �
 
 -- ---- the step
 
-status_self : (s : Status) → same_status s s ≡ true
-status_self s = go s
-  where
-    go : (s : Status) → same_status s s ≡ true
-    go Success = refl
-    go Failed = refl
-    go _ = refl
-
 module _ (setup : Setup) (me : ℕ) (part : Part) (here : Id → Option Kept) (registry : Registry) (shut : Bool) (stamp : ℕ) (queues : ℕ → List Message) (req : ReqId) (ending : Ending) where
-  pub complete_steps : Ends me (local_at me part here registry shut stamp queues).view req ending
-      → Steps setup me (local_at me part here registry shut stamp queues) (acts.Complete req ending.status ending.shown)
-      (local_at me (record part { requests = without_open req part.requests }) (ended req ending.pieces here) registry shut (stamp + 1) queues)
+  abbrev old : Local
+  old = local_at me part here registry shut stamp queues
+
+  pub complete_steps : Ends setup me old.view req ending
+      → Steps setup me old (acts.Complete req ending.status ending.shown) (local_at me (completed req part) (ended req ending.pieces here) registry shut (stamp + 1) queues)
   complete_steps e =
-      let l : Local = local_at me part here registry shut stamp queues in
-      let v : View = l.view in
+      let v : View = old.view in
       let r : OpenRequest = e.request in
       let ps : List (Option OpenPiece) = pieces_here v req ending.pieces in
       let whole : pieces_here v req (unwrap_or r.pieces 0) ≡ ps = ap (λ (o : Option ℕ). pieces_here v req (unwrap_or o 0)) e.cut in
-      let after : Bool → (Id → Option Kept) → Local = λ b after. local_at me (record part { requests = without_open req part.requests }) after registry b (stamp + 1) queues in
+      let after : Bool → (Id → Option Kept) → Local = λ b after. local_at me (completed req part) after registry b (stamp + 1) queues in
       let bare : Id → Option Kept = λ j. cond (same_id (ids.Request req) j) None (here j) in
-      steps setup me l (after shut (ended req ending.pieces here)) (acts.Complete req ending.status ending.shown) refl refl (
-        ap (may_complete me v req) e.is ∙ ap (λ (qs : List (Option OpenPiece)). (req.thread == me) && list_all is_back qs) whole ∙ and_from (req.thread == me) (list_all is_back ps) e.own (all_back ps e.all),
+      steps setup me old (after shut (ended req ending.pieces here)) (acts.Complete req ending.status ending.shown) refl refl (
+        e.may,
         (
-          ap (is_status_due v req ending.status) e.is ∙ ap (λ (qs : List (Option OpenPiece)). is_the same_status ending.status (status_due r qs)) whole ∙ ap (is_the same_status ending.status) e.status ∙ status_self ending.status,
-          (ap (is_shown_due v req ending.status ending.shown) e.is ∙ ap (λ (qs : List (Option OpenPiece)). may_show r ending.status qs ending.shown) whole ∙ e.shown, tt),
+          ap (is_status_due setup v req ending.status) e.is ∙ e.status,
+          (ap (is_shown_due v req ending.status ending.shown) e.is ∙ e.shown, tt),
         ),
       )
       (ap₂ after (still_shut shut)
@@ -230,21 +231,21 @@ module _ (setup : Setup) (me : ℕ) (part : Part) (here : Id → Option Kept) (r
       ∙ gone_closed (piece_here v req) req 0 ending.pieces bare e.all))
 
 pub completed_acted : (old : Thread) (before : Links) (new : Thread) (after : Links) (req : ReqId) (ending : Ending)
-    → ending_of old.me (view_of old before) req ≡ Some ending
+    → ending_of old.setup.now old.me (view_of old before) req ≡ Some ending
     → IsCompleted req ending old before new after
     → Acted old before new after
 completed_acted old before new after req ending may done =
-    acted_into old before new after (acts.Complete req ending.status ending.shown) (record old.part { requests = without_open req old.part.requests }) (ended req ending.pieces (here_in old.held.items))
+    acted_into old before new after (acts.Complete req ending.status ending.shown) (completed req old.part) (ended req ending.pieces (here_in old.held.items))
     (ap (λ (t : Thread). t.me) done.thread) (ap (λ (t : Thread). t.setup) done.thread) done.part done.held done.links
-    (complete_steps old.setup.now old.me old.part (here_in old.held.items) before.registry before.shut (length before.entries) (queues_of before.queues.items) req ending (ends_now old.me (view_of old before) req ending may))
+    (complete_steps old.setup.now old.me old.part (here_in old.held.items) before.registry before.shut (length before.entries) (queues_of before.queues.items) req ending (ends_now old.setup.now old.me (view_of old before) req ending may))
 
 -- where it doesn't complete, nothing changes
-pub stays_open : (old : Thread) (before : Links) (req : ReqId) → ending_of old.me (view_of old before) req ≡ None → Completes req old before old before false
+pub stays_open : (old : Thread) (before : Links) (req : ReqId) → ending_of old.setup.now old.me (view_of old before) req ≡ None → Completes req old before old before false
 stays_open old before req none = subst (CompletesBy req old before old before false) (sym none) (refl, refl, refl)
 
 -- where it does, it completed
 pub completes_so : (old : Thread) (before : Links) (new : Thread) (after : Links) (req : ReqId) (ending : Ending)
-    → ending_of old.me (view_of old before) req ≡ Some ending
+    → ending_of old.setup.now old.me (view_of old before) req ≡ Some ending
     → IsCompleted req ending old before new after
     → Completes req old before new after true
 completes_so old before new after req ending is done = subst (CompletesBy req old before new after true) (sym is) (refl, done)

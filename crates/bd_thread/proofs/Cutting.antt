@@ -13,7 +13,7 @@ use Rattle.bd_machine.specs.declared.state.OpenRequest.{OpenRequest}
 use Rattle.bd_machine.specs.declared.state.Part.{Part}
 use Rattle.bd_machine.specs.declared.state.Registry.{Registry}
 use Rattle.bd_machine.specs.Alone.{held_after}
-use Rattle.bd_machine.specs.Completion.{as_request, request_here}
+use Rattle.bd_machine.specs.Kept.{as_request, request_here}
 use Rattle.bd_machine.specs.Requests.{cut_into, extents_of, has_extents, may_cut, new_piece, pieces_made}
 use Rattle.bd_machine.specs.Same.{same_id}
 use Rattle.bd_turns.specs.declared.queue.Message.{Message}
@@ -21,8 +21,8 @@ use Rattle.bd_turns.specs.Local.{Local}
 use Rattle.bd_thread.specs.declared.links.Links.{Links}
 use Rattle.bd_thread.specs.declared.thread.Thread.{Thread}
 use Rattle.bd_thread.specs.Acted.{Acted}
-use Rattle.bd_thread.specs.Cuts.{Cuts, CutsBy, IsCut}
-use Rattle.bd_thread.specs.Seen.{here_in, local_at, queues_of, view_of, Sets}
+use Rattle.bd_thread.specs.Cuts.{may_cut_now, Cuts, CutsBy, IsCut}
+use Rattle.bd_thread.specs.Seen.{here_in, local_at, queues_of, untaken, view_of, Sets}
 use Rattle.bd_thread.proofs.Going.{Steps, steps, still_shut}
 use Rattle.bd_thread.proofs.Submissions.{acted_into}
 
@@ -49,38 +49,41 @@ pub cut_held : (setup : Setup) (req : ReqId) (r : OpenRequest) (n : ℕ) (found 
 cut_held setup req r n found old cut new all sets made = made ∙ ap₂ (λ (es : List Extent) (here : Id → Option Kept). held_after (pieces_made setup req r 0 es) here) all sets
 
 module _ (setup : Setup) (me : ℕ) (part : Part) (here : Id → Option Kept) (registry : Registry) (shut : Bool) (stamp : ℕ) (queues : ℕ → List Message) where
+  abbrev old : Local
+  old = local_at me part here registry shut stamp queues
+
   pub cut_steps : (req : ReqId) (r : OpenRequest) (n : ℕ)
       → as_request (here (ids.Request req)) ≡ Some r
-      → may_cut me req (Some r) ≡ true
+      → may_cut setup me old.view req (Some r) ≡ true
       → n ≡ length (extents_of setup r)
-      → Steps setup me (local_at me part here registry shut stamp queues) (acts.Cut req n) (local_at me part (held_after (cut_into setup req n (Some r)) here) registry shut (stamp + 1) queues)
+      → Steps setup me old (acts.Cut req n) (local_at me (untaken part) (held_after (cut_into setup req n (Some r)) here) registry shut (stamp + 1) queues)
   cut_steps req r n is may pieces =
-      let after : Bool → Option OpenRequest → Local = λ b o. local_at me part (held_after (cut_into setup req n o) here) registry b (stamp + 1) queues in
-      steps setup me (local_at me part here registry shut stamp queues) (after shut (Some r)) (acts.Cut req n) refl refl
-      (ap (may_cut me req) is ∙ may, (ap (has_extents setup n) is ∙ eq-eqb n (length (extents_of setup r)) pieces, tt))
+      let after : Bool → Option OpenRequest → Local = λ b o. local_at me (untaken part) (held_after (cut_into setup req n o) here) registry b (stamp + 1) queues in
+      steps setup me old (after shut (Some r)) (acts.Cut req n) refl refl
+      (ap (may_cut setup me old.view req) is ∙ may, (ap (has_extents setup n) is ∙ eq-eqb n (length (extents_of setup r)) pieces, tt))
       (ap₂ after (still_shut shut) is)
 
 pub cut_acted : (old : Thread) (before : Links) (new : Thread) (after : Links) (req : ReqId) (r : OpenRequest) (n : ℕ)
     → request_here (view_of old before) req ≡ Some r
-    → may_cut old.me req (Some r) ≡ true
+    → may_cut old.setup.now old.me (view_of old before) req (Some r) ≡ true
     → IsCut req r n old before new after
     → Acted old before new after
 cut_acted old before new after req r n is may cut =
-    acted_into old before new after (acts.Cut req n) old.part (held_after (cut_into old.setup.now req n (Some r)) (here_in old.held.items))
+    acted_into old before new after (acts.Cut req n) (untaken old.part) (held_after (cut_into old.setup.now req n (Some r)) (here_in old.held.items))
     (ap (λ (t : Thread). t.me) cut.thread) (ap (λ (t : Thread). t.setup) cut.thread) (ap (λ (t : Thread). t.part) cut.thread) cut.held cut.links
     (cut_steps old.setup.now old.me old.part (here_in old.held.items) before.registry before.shut (length before.entries) (queues_of before.queues.items) req r n is may cut.pieces)
 
 -- where it may not be cut, nothing changes
-pub uncut_stays : (old : Thread) (before : Links) (req : ReqId) → may_cut old.me req (request_here (view_of old before) req) ≡ false → Cuts req old before old before 0
+pub uncut_stays : (old : Thread) (before : Links) (req : ReqId) → may_cut_now req old before ≡ false → Cuts req old before old before 0
 uncut_stays old before req may =
     subst (λ b. CutsBy req 0 old before old before b (request_here (view_of old before) req)) (sym may) (refl, refl, refl)
 
 -- where it may, it is cut
 pub cut_here : (old : Thread) (before : Links) (new : Thread) (after : Links) (req : ReqId) (r : OpenRequest) (n : ℕ)
     → request_here (view_of old before) req ≡ Some r
-    → may_cut old.me req (Some r) ≡ true
+    → may_cut old.setup.now old.me (view_of old before) req (Some r) ≡ true
     → IsCut req r n old before new after
     → Cuts req old before new after n
 cut_here old before new after req r n is may cut =
-    subst (λ (o : Option OpenRequest). CutsBy req n old before new after (may_cut old.me req o) o) (sym is)
+    subst (λ (o : Option OpenRequest). CutsBy req n old before new after (may_cut old.setup.now old.me (view_of old before) req o) o) (sym is)
     (subst (λ b. CutsBy req n old before new after b (Some r)) (sym may) cut)

@@ -1,5 +1,5 @@
 -- Destruct, by the local rules.
-use Rattle.std.proofs.Common.{◌≡◌, ℕ, ◌+◌, Bool, true, false, cond, nat_eq, List, [], ◌∷◌, ◌++◌, Option, Some, None, is_none, refl, sym, ◌∙◌, ap, eq-eqb}
+use Rattle.std.proofs.Common.{◌≡◌, ℕ, ◌+◌, Bool, true, false, cond, nat_eq, List, [], ◌∷◌, Option, Some, None, is_none, refl, sym, ◌∙◌, ap, eq-eqb}
 use Rattle.std.specs.List.{find, concat}
 use Rattle.std.specs.Option.{option_map}
 use Rattle.std.specs.Cmp.Lexicographic.{pointwise}
@@ -17,12 +17,12 @@ use Rattle.bd_machine.specs.declared.state.Kept.{Kept}
 use Rattle.bd_machine.specs.declared.state.Part.{Part}
 use Rattle.bd_machine.specs.declared.state.Registry.{Registry}
 use Rattle.bd_machine.specs.BlockMap.{is_malloc}
-use Rattle.bd_machine.specs.Homes.{is_base, is_digest_at, may_destruct}
+use Rattle.bd_machine.specs.Homes.{change_destruct, is_base, is_digest_at, may_destruct}
 use Rattle.bd_machine.specs.Registry.{is_unused}
-use Rattle.bd_rules.specs.Came.{came_unused}
+use Rattle.bd_view.specs.Came.{came_free}
 use Rattle.bd_turns.specs.Local.{Local}
 use Rattle.bd_turns.specs.declared.queue.Message.{Message}
-use Rattle.bd_thread.specs.Seen.{local_at}
+use Rattle.bd_thread.specs.Seen.{local_at, untaken}
 use Rattle.bd_thread.proofs.Going.{Steps, steps, still_shut}
 
 self_same : (xs : List ℕ) → pointwise nat_eq xs xs ≡ true
@@ -48,13 +48,14 @@ due_passes true o digest h = in_base o digest h
 due_passes false o digest h = ap (λ (d : Option (List ℕ)). is_none d) (sym (some_same h))
 
 -- **Destruct**
-pub destruct_steps : (setup : Setup) (t : ℕ) (part : Part) (here : Id → Option Kept) (registry : Registry) (shut : Bool) (stamp : ℕ) (queues : ℕ → List Message) (dev : DevId) (digest : Option (List ℕ)) (destructed : List DevId)
-    → may_destruct setup t (local_at t part here registry shut stamp queues).view (came_unused (is_unused registry dev) shut) dev ≡ true
+pub destruct_steps : (setup : Setup) (t : ℕ) (part new : Part) (here : Id → Option Kept) (registry : Registry) (shut : Bool) (stamp : ℕ) (queues : ℕ → List Message) (dev : DevId) (digest : Option (List ℕ))
+    → may_destruct setup t (local_at t part here registry shut stamp queues).view (came_free true (is_unused setup registry dev) shut) dev ≡ true
     → digest_due (is_malloc setup dev) (find (is_base dev) part.bases) ≡ Some digest
-    → destructed ≡ part.destructed ++ dev ∷ []
-    → Steps setup t (local_at t part here registry shut stamp queues) (acts.Destruct dev digest) (local_at t (record part { destructed = destructed }) here registry shut (stamp + 1) queues)
-destruct_steps setup t part here registry shut stamp queues dev digest destructed may due more =
-    let after : List DevId → Bool → Local = λ ds s. local_at t (record part { destructed = ds }) here registry s (stamp + 1) queues in
-    steps setup t (local_at t part here registry shut stamp queues) (after destructed shut) (acts.Destruct dev digest) refl refl
+    → new ≡ (change_destruct (local_at t part here registry shut stamp queues).view dev).part
+    → Steps setup t (local_at t part here registry shut stamp queues) (acts.Destruct dev digest) (local_at t (untaken new) here registry shut (stamp + 1) queues)
+destruct_steps setup t part new here registry shut stamp queues dev digest may due is =
+    let l : Local = local_at t part here registry shut stamp queues in
+    let after : Part → Bool → Local = λ p s. local_at t (untaken p) here registry s (stamp + 1) queues in
+    steps setup t l (after new shut) (acts.Destruct dev digest) refl refl
     (may, (due_passes (is_malloc setup dev) (find (is_base dev) part.bases) digest due, tt))
-    (ap (after (part.destructed ++ dev ∷ [])) (still_shut shut) ∙ ap (λ (ds : List DevId). after ds shut) (sym more))
+    (ap (after (change_destruct l.view dev).part) (still_shut shut) ∙ ap (λ (p : Part). after p shut) (sym is))

@@ -1,8 +1,9 @@
 -- How a thread goes on: not at all, by one act, and one way after the other.
-use Rattle.std.proofs.Common.{◌≡◌, ℕ, ◌+◌, Bool, true, false, not, cond, ◌||◌, nat_lt, List, [], ◌∷◌, ◌++◌, length, vec_len, Some, None, refl, sym, ◌∙◌, ap, subst, append_assoc, append-nil, eq-eqb, lt-ltb, arith}
+use Rattle.std.proofs.Common.{◌≡◌, ℕ, ◌+◌, Bool, true, false, not, cond, ◌||◌, nat_lt, List, [], ◌∷◌, ◌++◌, length, vec_len, Option, Some, None, refl, sym, ◌∙◌, ap, subst, append_assoc, append-nil, eq-eqb, lt-ltb, arith}
 use Rattle.std.specs.List.{AllByRecursion, filter}
 use Rattle.std.proofs.lemmas.List.Elements.{filter-append}
 use Rattle.std.proofs.lemmas.List.{length-append}
+use mathlib.Core.Path.{fun_ext}
 use Rattle.bd_base.specs.declared.act.Act.{Act}
 use Rattle.bd_base.specs.declared.act.Entry.{Entry}
 use Rattle.bd_base.specs.declared.event.Answer.{Answer}
@@ -12,10 +13,14 @@ use Rattle.bd_base.specs.declared.event.RegEvent.TheVariants as events
 use Rattle.bd_base.specs.declared.setup.Setup.{Setup}
 use Rattle.bd_machine.specs.declared.guard.TheConstants.{UNBUILT, IN_ORDER}
 use Rattle.bd_machine.specs.declared.state.Handle.{Handle}
-use Rattle.bd_machine.specs.Guards.{guards, is_built}
-use Rattle.bd_machine.specs.Registry.{handles_after, is_own}
+use Rattle.bd_machine.specs.declared.state.Registry.{Registry}
+use Rattle.bd_machine.specs.Alone.{own_channels_after}
+use Rattle.bd_machine.specs.Changes.{handles_after, registry_after}
+use Rattle.bd_machine.specs.Guards.{guards, is_built, is_built_event}
+use Rattle.bd_machine.specs.Registry.{Question, is_own, references}
 use Rattle.bd_machine.specs.Step.{first_failing, is_shutdown}
 use Rattle.bd_machine.specs.View.{is_of}
+use Rattle.bd_machine.proofs.Laws.{channels-own}
 use Rattle.bd_turns.specs.Local.{Local, Leads, came_local, change_local, refusal_local, carried_local, local_after}
 use Rattle.bd_turns.proofs.Going.{leads_on}
 use Rattle.bd_thread.specs.declared.links.Links.{Links}
@@ -25,11 +30,11 @@ use Rattle.bd_thread.specs.Seen.{here_in, queues_of, local_at, local, entry_at, 
 
 -- ---- what a thread sees and what is shared, by its parts
 
-pub local_eq : (k l : Local) → k.view.part ≡ l.view.part → k.view.here ≡ l.view.here → k.view.handles ≡ l.view.handles
+pub local_eq : (k l : Local) → k.view.part ≡ l.view.part → k.view.here ≡ l.view.here → k.view.handles ≡ l.view.handles → k.view.channels ≡ l.view.channels
     → k.shared.stamp ≡ l.shared.stamp → k.shared.shut ≡ l.shared.shut → k.shared.registry ≡ l.shared.registry → k.shared.queues ≡ l.shared.queues
     → k ≡ l
-local_eq k l part here handles stamp shut registry queues = λ i. record {
-  view = record { part = part i; here = here i; handles = handles i };
+local_eq k l part here handles channels stamp shut registry queues = λ i. record {
+  view = record { part = part i; here = here i; handles = handles i; channels = channels i };
   shared = record { stamp = stamp i; shut = shut i; registry = registry i; queues = queues i };
 }
 
@@ -38,7 +43,7 @@ pub still_shut : (shut : Bool) → (shut || false) ≡ shut
 still_shut true = refl
 still_shut false = refl
 
--- ---- a thread's handles after an event of its own
+-- ---- a thread's handles and channels after an event of its own
 
 filter_step : {X : Type 0} (is : X → Bool) (x : X) (b : Bool) (xs : List X) → is x ≡ b → filter is (x ∷ xs) ≡ cond b (x ∷ filter is xs) (filter is xs)
 filter_step is x b xs e = ap (λ c. cond c (x ∷ filter is xs) (filter is xs)) e
@@ -53,13 +58,22 @@ filter_twice p q (x ∷ xs) = go (p x) (q x) refl refl (filter_twice p q xs)
     go false true e f ih = filter_step p x false (filter q xs) e ∙ ih
     go false false e f ih = ih
 
--- the registry's handles that are the thread's, after the event, are the thread's handles after it
-pub handles_own : (t : ℕ) (hs : List Handle) (event : RegEvent) (answer : Answer) → filter (is_of t) (handles_after t hs event answer) ≡ handles_after t (filter (is_of t) hs) event answer
-handles_own t hs (events.Open name write) (answers.Opened id dev) =
-    let h : Handle = record { id = id; dev = dev; thread = record { 0 = t }; write = write } in
+-- what isn't built doesn't come
+pub not_built : {X : Type 0} → false ≡ true → X
+not_built h = cc
+
+-- the registry's handles that are the thread's, after an event that is built, are the thread's handles after it
+pub handles_own : (t : ℕ) (hs : List Handle) (event : RegEvent) (answer : Answer) → is_built_event event ≡ true → filter (is_of t) (handles_after t hs event answer) ≡ handles_after t (filter (is_of t) hs) event answer
+handles_own t hs (events.Open name write) (answers.Opened id dev) built =
+    let h : Handle = record { id = id; dev = dev; thread = record { 0 = t }; write = write; claim = None } in
     filter-append (is_of t) hs (h ∷ []) ∙ ap (λ b. filter (is_of t) hs ++ cond b (h ∷ []) []) (eq-eqb t t refl)
-handles_own t hs (events.Close id) (answers.Closed destruct) = filter_twice (is_of t) (λ h. not (is_own t id h)) hs
-handles_own t hs _ _ = refl
+handles_own t hs (events.Close id) (answers.Closed destruct) built = filter_twice (is_of t) (λ h. not (is_own t id h)) hs
+handles_own t hs (events.Claim id kind) answers.Claimed built = not_built built
+handles_own t hs _ _ built = refl
+
+-- the registry's channels that are the thread's, after the event, are the thread's channels after it
+pub channels_own : (setup : Setup) (t : ℕ) (r : Registry) (q : Option Question) → references (registry_after setup r t q) t ≡ own_channels_after setup (references r t) q
+channels_own setup t r q = fun_ext (channels-own setup t r q)
 
 -- ---- one act
 
@@ -82,7 +96,7 @@ pub steps : (setup : Setup) (t : ℕ) (l l' : Local) (act : Act)
     → is_shutdown act ≡ false
     → is_built act ≡ true
     → Hold (guards setup t l.view act (came_local setup t l act))
-    → carried_local t l (entry_at t (l.shared.stamp + 1) act) (change_local setup t l act) ≡ l'
+    → carried_local setup t l (entry_at t (l.shared.stamp + 1) act) (change_local setup t l act) ≡ l'
     → Steps setup t l act l'
 unfolding local_after
 steps setup t l l' act still built hold change =
@@ -170,3 +184,7 @@ acted_by old before new after act me setup queues added h =
     let at : ℕ → ℕ → Local = λ t n. local_at t new.part (here_in new.held.items) after.registry after.shut n (queues_of after.queues.items) in
     let stamp : length before.entries + 1 ≡ length after.entries = sym (length-longer old.me before.entries act) ∙ sym (ap length added) in
     acted_one old before new after act me setup queues added h.still h.allowed (h.leads ∙ ap (at old.me) stamp ∙ ap (λ t. at t (length after.entries)) (sym me))
+
+-- what is said of the thread and the links as an act leaves them
+pub carried : (P : Thread → Links → Type 0) (new : Thread) (after : Links) (n : Thread) (l : Links) → n ≡ new → l ≡ after → P new after → P n l
+carried P new after n l thread links h = subst (λ (t : Thread). P t l) (sym thread) (subst (P new) (sym links) h)

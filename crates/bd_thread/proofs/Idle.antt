@@ -5,7 +5,6 @@ use Rattle.bd_base.specs.declared.act.Act.{Act}
 use Rattle.bd_base.specs.declared.act.Act.TheVariants as acts
 use Rattle.bd_base.specs.declared.act.Outcome.{Outcome}
 use Rattle.bd_base.specs.declared.act.Token.{Token}
-use Rattle.bd_base.specs.declared.event.Answer.TheVariants as answers
 use Rattle.bd_base.specs.declared.event.RegEvent.{RegEvent}
 use Rattle.bd_base.specs.declared.event.RegEvent.TheVariants as events
 use Rattle.bd_base.specs.declared.id.DevId.{DevId}
@@ -24,7 +23,7 @@ use Rattle.bd_thread.specs.Completions.{ending_of, Completes, CompletesBy}
 use Rattle.bd_blocks.specs.Digests.{digest_due}
 use Rattle.bd_thread.specs.Destructs.{may_device_go, DestructAdded, Destructs}
 use Rattle.bd_thread.specs.Endings.{left_over, ClosesIfAny, ClosesLeft}
-use Rattle.bd_thread.specs.Lines.{close_asked, job_now, open_asked, outcome_now, AsksBy, Closes, EndsBy, EndsLine, Opens}
+use Rattle.bd_thread.specs.Lines.{close_asked, open_asked, outcome_now, AsksBy, Closes, EndsBy, EndsLine, Opens}
 use Rattle.bd_thread.specs.Seen.{longer, queues_of, view_of}
 use Rattle.bd_thread.specs.Sent.{first_brought, may_put, Puts, PutsBy, Takes, TakesBy}
 use Rattle.bd_thread.specs.Waits.{Idles, IsIdle, NoDestructOn, NoHandle, NoLine, NoMessage, NoSubmission}
@@ -80,7 +79,7 @@ takes_idle old before new after id h few = go (first_brought (queues_of before.q
     go (Some m) e k = absurd (more old.me before after (acts.Took m.sender (count_at old.part.taken m.sender) m.what) k.1 few)
 
 pub completes_idle : {P : Thread → Links → Type 0} (req : ReqId) (old : Thread) (before : Links) (new : Thread) (after : Links) (done : Bool) → P old before → Completes req old before new after done → Idles P old before new after
-completes_idle {P = P} req old before new after done p h few = go (ending_of old.me (view_of old before) req) h
+completes_idle {P = P} req old before new after done p h few = go (ending_of old.setup.now old.me (view_of old before) req) h
   where
     go : (o : Option Ending) → CompletesBy req old before new after done o → IsIdle P old before new after
     go None k = record { thread = k.1; links = k.2; waits = p }
@@ -90,11 +89,11 @@ asks_idle : {P : Thread → Links → Type 0} (old : Thread) (before : Links) (n
 asks_idle old before new after asked None so h few = record { thread = h.1; links = h.2; waits = so refl }
 asks_idle old before new after asked (Some event) so h few = absurd (more old.me before after (acts.Reg event h.1.answer) (ap (λ (l : Links). l.entries) h.1.links) few)
 
-pub opens_idle : (old : Thread) (before : Links) (new : Thread) (after : Links) (asked : Bool) → Opens old before new after asked → Idles (λ t links. open_asked t.part (job_now t links) ≡ None) old before new after
-opens_idle old before new after asked h = asks_idle old before new after asked (open_asked old.part (job_now old before)) (λ e. e) h
+pub opens_idle : (old : Thread) (before : Links) (new : Thread) (after : Links) (asked : Bool) → Opens old before new after asked → Idles (λ t links. open_asked t links ≡ None) old before new after
+opens_idle old before new after asked h = asks_idle old before new after asked (open_asked old before) (λ e. e) h
 
-pub closes_idle : (old : Thread) (before : Links) (new : Thread) (after : Links) (asked : Bool) → Closes old before new after asked → Idles (λ t links. close_asked t.part (job_now t links) ≡ None) old before new after
-closes_idle old before new after asked h = asks_idle old before new after asked (close_asked old.part (job_now old before)) (λ e. e) h
+pub closes_idle : (old : Thread) (before : Links) (new : Thread) (after : Links) (asked : Bool) → Closes old before new after asked → Idles (λ t links. close_asked t links ≡ None) old before new after
+closes_idle old before new after asked h = asks_idle old before new after asked (close_asked old before) (λ e. e) h
 
 ends_by_idle : {P : Thread → Links → Type 0} (old : Thread) (before : Links) (new : Thread) (after : Links) (ended : Bool) (o : Option Outcome) → (o ≡ None → P old before) → EndsBy old before new after ended o → Idles P old before new after
 ends_by_idle old before new after ended None so h few = record { thread = h.1; links = h.2; waits = so refl }
@@ -109,16 +108,16 @@ pub line_idle : (o : Thread) (a : Links) (p : Thread) (b : Links) (q : Thread) (
     → Acted p b q d
     → Acted q d r e
     → Acted r e n f
-    → Idles (λ t links. open_asked t.part (job_now t links) ≡ None) o a p b
-    → Idles (λ t links. close_asked t.part (job_now t links) ≡ None) p b q d
+    → Idles (λ t links. open_asked t links ≡ None) o a p b
+    → Idles (λ t links. close_asked t links ≡ None) p b q d
     → Idles NoSubmission q d r e
     → Idles (λ t links. outcome_now t links ≡ None) r e n f
     → Idles NoLine o a n f
 line_idle o a p b q d r e n f open-acted close-acted submit-acted end-acted opens closes submits ends =
-    let two : Idles (λ t links. (open_asked t.part (job_now t links) ≡ None) × (close_asked t.part (job_now t links) ≡ None)) o a q d =
+    let two : Idles (λ t links. (open_asked t links ≡ None) × (close_asked t links ≡ None)) o a q d =
     idle_then o a p b q d open-acted close-acted (λ opening closing. (opening, closing)) opens closes in
     let two-acted = acted_then o a p b q d open-acted close-acted in
-    let three : Idles (λ t links. (open_asked t.part (job_now t links) ≡ None) × (close_asked t.part (job_now t links) ≡ None) × NoSubmission t links) o a r e =
+    let three : Idles (λ t links. (open_asked t links ≡ None) × (close_asked t links ≡ None) × NoSubmission t links) o a r e =
     idle_then o a q d r e two-acted submit-acted (λ asked submission. (asked.0, asked.1, submission)) two submits in
     idle_then o a r e n f (acted_then o a q d r e two-acted submit-acted) end-acted
     (λ asked outcome. record { opening = asked.0; closing = asked.1; submission = asked.2; outcome = outcome }) three ends
@@ -128,7 +127,7 @@ leaves_idle old before new after done h few = go (left_over old before) refl h
   where
     go : (o : Option HandleId) → left_over old before ≡ o → ClosesIfAny old before new after done o → IsIdle NoHandle old before new after
     go None e k = record { thread = k.1; links = k.2; waits = e }
-    go (Some id) e k = absurd (more old.me before after (acts.Reg (events.Close id) (answers.Closed None)) (ap (λ (l : Links). l.entries) k.2) few)
+    go (Some id) e k = absurd (more old.me before after (acts.Reg (events.Close id) k.1.answer) (ap (λ (l : Links). l.entries) k.1.links) few)
 
 pub destructs_idle : (old : Thread) (before : Links) (new : Thread) (after : Links) (dev : DevId) (done : Bool) → Destructs old before new after dev done → Idles (NoDestructOn dev) old before new after
 destructs_idle old before new after dev done h few =

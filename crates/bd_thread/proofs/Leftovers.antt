@@ -1,92 +1,79 @@
--- A close of a handle that is left after Shutdown, by the local rules.
-use Rattle.std.proofs.Common.{◌≡◌, ℕ, ◌+◌, Bool, true, false, cond, ◌==◌, List, [], ◌∷◌, filter, find, length, Option, Some, None, is_some, refl, sym, ◌∙◌, ap, subst, eq-eqb}
-use Rattle.std.specs.Option.{option_map}
-use Rattle.std.proofs.lemmas.Bool.{and_from, and_parts}
-use Rattle.bd_base.specs.declared.act.Act.{Act}
-use Rattle.bd_base.specs.declared.act.Act.TheVariants as acts
-use Rattle.bd_base.specs.declared.event.Answer.{Answer}
-use Rattle.bd_base.specs.declared.event.Answer.TheVariants as answers
-use Rattle.bd_base.specs.declared.event.RegEvent.{RegEvent}
+-- A handle that is left after Shutdown may be closed; and where a thread has nothing to end.
+use Rattle.std.proofs.Common.{◌≡◌, Bool, true, false, cond, not, ◌&&◌, ◌||◌, ◌==◌, List, [], ◌∷◌, length, find, Option, Some, None, is_some, refl, sym, ◌∙◌, ap, subst, eqb-true, arith}
+use Rattle.std.specs.List.{list_any}
+use Rattle.std.proofs.lemmas.Bool.{and_parts}
 use Rattle.bd_base.specs.declared.event.RegEvent.TheVariants as events
 use Rattle.bd_base.specs.declared.id.HandleId.{HandleId}
-use Rattle.bd_base.specs.declared.request.Errno.TheVariants.{BadDesc}
-use Rattle.bd_machine.specs.declared.state.Handle.{Handle}
-use Rattle.bd_machine.specs.declared.state.Part.{Part}
-use Rattle.bd_machine.specs.declared.state.Decided.{Decided}
-use Rattle.bd_machine.specs.Asked.{is_job_close, open_on, undecided_job}
-use Rattle.bd_machine.specs.Events.{decision_of}
-use Rattle.bd_machine.specs.Registry.{close_answer, handle_of}
-use Rattle.bd_machine.specs.View.{is_of}
+use Rattle.bd_blocks.specs.Digests.{digest_due}
+use Rattle.bd_machine.specs.declared.state.Owed.{Owed}
+use Rattle.bd_machine.specs.declared.state.Owed.TheVariants as owes
+use Rattle.bd_machine.specs.AsYet.{as_yet}
+use Rattle.bd_machine.specs.BlockMap.{is_malloc}
+use Rattle.bd_machine.specs.Homes.{has_destructed, is_base, is_called_for, is_home, is_told}
+use Rattle.bd_machine.specs.Registry.{handle_of, is_unused}
+use Rattle.bd_machine.specs.Same.{same_owed}
+use Rattle.bd_machine.specs.View.{View}
+use Rattle.bd_view.specs.Came.{came_free}
 use Rattle.bd_thread.specs.declared.links.Links.{Links}
 use Rattle.bd_thread.specs.declared.thread.Thread.{Thread}
-use Rattle.bd_thread.specs.Acted.{Acted}
-use Rattle.bd_thread.specs.Endings.{first_own, id_of_handle, if_closable, is_of_if_any, left_over, links_closed, may_close}
-use Rattle.bd_thread.specs.Seen.{here_in, local, local_at, queues_of}
-use Rattle.bd_thread.proofs.Ends.{length-longer}
-use Rattle.bd_thread.proofs.Going.{Steps, acted_step}
-use Rattle.bd_thread.proofs.Registering.{event_steps}
+use Rattle.bd_thread.specs.Endings.{first_own, if_closable, is_of_if_any, left_over, may_close, owes_nothing}
+use Rattle.bd_thread.specs.Lines.{may_ask}
+use Rattle.bd_thread.specs.Seen.{view_of}
+use Rattle.bd_thread.specs.Waits.{NothingLeft}
 
 some_same : {X : Type 0} {x y : X} → Some x ≡ Some y → x ≡ y
 some_same e = cc
 
--- why a handle is left over
-record IsLeft (me : ℕ) (part : Part) (handles : List Handle) (shut : Bool) (o : Option HandleId) (id : HandleId) : Type 0 where
-  pub shut_is : shut ≡ true
-  pub first : o ≡ Some id
-  pub may : may_close me part handles id ≡ true
+module _ (t : Thread) (links : Links) (id : HandleId) where
+  closable : (o : Option HandleId) → if_closable t links o ≡ Some id → may_close t links id ≡ true
+  closable None h = cc
+  closable (Some x) h = go (may_close t links x) refl h
+    where
+      go : (b : Bool) → may_close t links x ≡ b → cond b (Some x) None ≡ Some id → may_close t links id ≡ true
+      go true m e = subst (λ (y : HandleId). may_close t links y ≡ true) (some_same e) m
+      go false m e = cc
 
-is_left : (me : ℕ) (part : Part) (handles : List Handle) (shut : Bool) (o : Option HandleId) (id : HandleId)
-    → cond shut (if_closable me part handles o) None ≡ Some id → IsLeft me part handles shut o id
-is_left me part handles false o id h = cc
-is_left me part handles true None id h = cc
-is_left me part handles true (Some x) id h = go (may_close me part handles x) refl h
-  where
-    go : (b : Bool) → may_close me part handles x ≡ b → cond b (Some x) None ≡ Some id → IsLeft me part handles true (Some x) id
-    go true m e = record { shut_is = refl; first = e; may = subst (λ (y : HandleId). may_close me part handles y ≡ true) (some_same e) m }
-    go false m e = cc
+  left : (shut : Bool) (o : Option HandleId) → cond shut (if_closable t links o) None ≡ Some id → may_close t links id ≡ true
+  left true o h = closable o h
+  left false o h = cc
 
--- the first handle of the thread is among the thread's handles
-found : (me : ℕ) (hs : List Handle) (id : HandleId) → first_own me hs ≡ Some id → is_some (handle_of (filter (is_of me) hs) id) ≡ true
-found me [] id h = cc
-found me (x ∷ xs) id h = go (is_of me x) refl (found me xs id)
-  where
-    first_in : Bool → Option HandleId
-    first_in c = option_map id_of_handle (cond c (Some x) (find (is_of me) xs))
+  -- its close may be asked
+  pub left_asked : left_over t links ≡ Some id → may_ask t links (events.Close id) ≡ true
+  left_asked h =
+      (and_parts (is_of_if_any t.me (handle_of links.registry.handles id)) (may_ask t links (events.Close id)) (left links.shut (first_own t.setup.now t.me links.registry.handles) h)).1
 
-    here : (y : Handle) (ys : List Handle) → y.id ≡ id → is_some (handle_of (y ∷ ys) id) ≡ true
-    here y ys e = ap (λ b. is_some (cond b (Some y) (handle_of ys id))) (eq-eqb y.id.0 id.0 (ap (λ (i : HandleId). i.0) e))
+-- ---- where nothing is owed
 
-    go : (b : Bool) → is_of me x ≡ b → (first_own me xs ≡ Some id → is_some (handle_of (filter (is_of me) xs) id) ≡ true) → is_some (handle_of (filter (is_of me) (x ∷ xs)) id) ≡ true
-    go true e ih =
-        ap (λ c. is_some (handle_of (cond c (x ∷ filter (is_of me) xs) (filter (is_of me) xs)) id)) e
-        ∙ here x (filter (is_of me) xs) (some_same (sym (ap (λ c. first_in c) e) ∙ h))
-    go false e ih =
-        ap (λ c. is_some (handle_of (cond c (x ∷ filter (is_of me) xs) (filter (is_of me) xs)) id)) e
-        ∙ ih (sym (ap (λ c. first_in c) e) ∙ h)
+none_of : (is : Owed → Bool) (owed : List Owed) → length owed ≡ 0 → list_any is owed ≡ false
+none_of is [] h = refl
+none_of is (o ∷ os) h = absurd (omega (arith, h))
 
-closes : (me : ℕ) (o : Option Handle) → is_of_if_any me o ≡ true → close_answer me o ≡ answers.Closed None
-closes me None h = cc
-closes me (Some x) h = ap (λ b. cond b (answers.Closed None) (answers.Refused BadDesc)) h
+-- what isn't called for doesn't go
+stays : (home called fresh shown : Bool) → called ≡ false → home && called && fresh && shown ≡ false
+stays true false fresh shown h = refl
+stays false called fresh shown h = refl
+stays true true fresh shown h = cc
 
--- **Closing what is left**
-pub left_acted : (t : Thread) (links : Links) (id : HandleId) → left_over t links ≡ Some id → Acted t links t (links_closed t.me links id)
-left_acted t links id h =
-    let left = is_left t.me t.part links.registry.handles links.shut (first_own t.me links.registry.handles) id h in
-    let may = and_parts (is_of_if_any t.me (handle_of links.registry.handles id)) (open_on t.part id == 0) left.may in
-    let event : RegEvent = events.Close id in
-    let answer : Answer = answers.Closed None in
-    let act : Act = acts.Reg event answer in
-    let here = here_in t.held.items in
-    let queues = queues_of links.queues.items in
-    let stamp = length links.entries in
-    let after = links_closed t.me links id in
-    let asks = and_from (open_on t.part id == 0) (cond links.shut (is_some (handle_of (filter (is_of t.me) links.registry.handles) id)) (is_job_close t.part id (undecided_job t.setup.now t.me t.part)))
-    may.1
-    (ap (λ b. cond b (is_some (handle_of (filter (is_of t.me) links.registry.handles) id)) (is_job_close t.part id (undecided_job t.setup.now t.me t.part))) left.shut_is
-    ∙ found t.me links.registry.handles id left.first) in
-    let stepped = event_steps t.setup.now t.me t.part here links.registry links.shut stamp queues event answer refl
-    (ap Some (closes t.me (handle_of links.registry.handles id) may.0)) refl asks in
-    let undecided : local_at t.me (record t.part { decided = cond links.shut t.part.decided (decision_of answer) }) here after.registry links.shut (stamp + 1) queues ≡ local t after =
-    ap (λ (o : Option Decided). local_at t.me (record t.part { decided = o }) here after.registry links.shut (stamp + 1) queues) (ap (λ b. cond b t.part.decided (decision_of answer)) left.shut_is)
-    ∙ ap (λ (n : ℕ). local_at t.me t.part here after.registry links.shut n queues) (sym (length-longer t.me links.entries act)) in
-    acted_step t links t after act refl refl refl refl (subst (Steps t.setup.now t.me (local t links) act) undecided stepped)
+uncalled : (told unused : Bool) → told ≡ false → (told && true) || (as_yet && false && unused) ≡ false
+uncalled false unused h = refl
+uncalled true unused h = cc
+
+no_shutdown : (b : Bool) → not b ≡ true → b ≡ false
+no_shutdown true h = sym h
+no_shutdown false h = refl
+
+-- before the Shutdown, a thread that owes nothing has no handle to close and no device to destruct
+pub nothing_left : (t : Thread) (links : Links) → owes_nothing t links ≡ true → NothingLeft t links
+nothing_left t links h =
+    let parts = and_parts (not links.shut) (length t.part.owed == 0) h in
+    let shut : links.shut ≡ false = no_shutdown links.shut parts.0 in
+    let setup = t.setup.now in
+    record {
+      handle = ap (λ b. cond b (if_closable t links (first_own setup t.me links.registry.handles)) None) shut;
+      device = λ dev less.
+          let v : View = view_of t links in
+          let unused = is_unused setup links.registry dev in
+          let told = none_of (same_owed (owes.Destruct dev)) t.part.owed (eqb-true (length t.part.owed) 0 parts.1) in
+          let called = ap (λ b. (is_told v dev && true) || (as_yet && b && unused)) shut ∙ uncalled (is_told v dev) unused told in
+          stays (is_home setup t.me dev) (is_called_for v (came_free true unused links.shut) dev) (not (has_destructed v dev)) (is_some (digest_due (is_malloc setup dev) (find (is_base dev) t.part.bases))) called;
+    }

@@ -7,7 +7,7 @@ use Rattle.bd_machine.specs.declared.state.Id.{Id}
 use Rattle.bd_machine.specs.declared.state.Kept.{Kept}
 use Rattle.bd_machine.specs.declared.state.Part.{Part}
 use Rattle.bd_machine.specs.declared.state.Registry.{Registry}
-use Rattle.bd_machine.specs.Start.{part_at_start}
+use Rattle.bd_machine.specs.Start.{part_at_start, registry_at_start}
 use Rattle.bd_turns.specs.declared.queue.Message.{Message}
 use Rattle.bd_thread.specs.Seen.{here_in, local_at, queues_of}
 use Rattle.bd_thread.specs.Starts.{NewIsAtStart, empty_queues}
@@ -38,7 +38,7 @@ at me part part' held held' registry registry' shut shut' entries entries' queue
     ∙ ap (λ (x : ℕ → List Message). local_at me part' (here_in held') registry' shut' (length entries') x) q
 
 pub new_is_at_start : NewIsAtStart
-new_is_at_start threads me setup t links new first =
+new_is_at_start me setup t links new first =
     ap (λ (n : ℕ). local_at n t.part (here_in t.held.items) links.registry links.shut (length links.entries) (queues_of links.queues.items)) new.own
-    ∙ at me t.part (part_at_start setup [] me) t.held.items [] links.registry (record { handles = []; next = 0 }) links.shut false links.entries [] (queues_of links.queues.items) (λ r. [])
-    new.part new.held first.registry first.running first.entries (ap queues_of first.queues ∙ empty_queues_of threads)
+    ∙ at me t.part (part_at_start setup [] me) t.held.items [] links.registry (registry_at_start setup) links.shut false links.entries [] (queues_of links.queues.items) (λ r. [])
+    new.part new.held first.registry first.running first.entries (ap queues_of first.queues ∙ empty_queues_of setup.threads)

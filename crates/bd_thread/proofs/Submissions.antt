@@ -9,7 +9,6 @@ use Rattle.bd_base.specs.declared.id.HandleId.{HandleId}
 use Rattle.bd_base.specs.declared.id.ReqId.{ReqId}
 use Rattle.bd_base.specs.declared.request.Errno.{Errno}
 use Rattle.bd_base.specs.declared.setup.Setup.{Setup}
-use Rattle.bd_machine.specs.declared.state.Decided.TheVariants as decisions
 use Rattle.bd_machine.specs.declared.state.Handle.{Handle}
 use Rattle.bd_machine.specs.declared.state.Id.{Id}
 use Rattle.bd_machine.specs.declared.state.Id.TheVariants as ids
@@ -19,16 +18,17 @@ use Rattle.bd_machine.specs.declared.state.Registry.{Registry}
 use Rattle.bd_machine.specs.Admission.{has_range, refusal_of}
 use Rattle.bd_machine.specs.Asked.{is_handle_on, is_job_submit, most_requests, no_request, undecided_job}
 use Rattle.bd_machine.specs.Registry.{handle_of}
+use Rattle.bd_machine.specs.Requests.{is_device_of}
 use Rattle.bd_machine.specs.Same.{is_the, same_errno, same_id}
 use Rattle.bd_machine.specs.View.{is_of}
 use Rattle.bd_msg.specs.Purse.{Kept as Purse}
 use Rattle.bd_turns.specs.declared.queue.Message.{Message}
 use Rattle.bd_turns.specs.Local.{Local}
-use Rattle.bd_rules.specs.declared.names.Submission.{Submission}
+use Rattle.bd_view.specs.declared.names.Submission.{Submission}
 use Rattle.bd_thread.specs.declared.links.Links.{Links}
 use Rattle.bd_thread.specs.declared.thread.Thread.{Thread}
 use Rattle.bd_thread.specs.Acted.{Acted}
-use Rattle.bd_thread.specs.Requests.{accept_act, accepted, refusal, refuse_act, uncut, IsAsked, IsFresh, IsOpened}
+use Rattle.bd_thread.specs.Requests.{accept_act, accepted, opened, refusal, refuse_act, refused, IsAsked, IsFresh, IsOpened}
 use Rattle.bd_thread.specs.Seen.{here_in, local, local_at, longer, queues_of, view_of}
 use Rattle.bd_thread.proofs.Going.{Steps, steps, still_shut, acted_step}
 
@@ -57,6 +57,11 @@ module _ (setup : Setup) (me : ℕ) (part : Part) (here : Id → Option Kept) (r
       → (not shut && is_job_submit part handle asked.op asked.lba asked.count (undecided_job setup me part)) ≡ true
   asks handle line = and_from (not shut) (is_job_submit part handle asked.op asked.lba asked.count (undecided_job setup me part)) (ap not running) line
 
+  -- a handle that is open on the device is of that device
+  device_of : (dev : DevId) (h : Option Handle) → is_handle_on dev h ≡ true → is_device_of dev h ≡ true
+  device_of dev None on = refl
+  device_of dev (Some h) on = on
+
   -- **Accept**
   pub accept_steps : (req : ReqId) (dev : DevId) (handle : HandleId)
       → is_job_submit part (Some handle) asked.op asked.lba asked.count (undecided_job setup me part) ≡ true
@@ -65,14 +70,14 @@ module _ (setup : Setup) (me : ℕ) (part : Part) (here : Id → Option Kept) (r
       → is_handle_on dev (found handle) ≡ true
       → req.thread ≡ me → part.next_request ≤ req.seq → length part.requests < most_requests → req.seq < no_request
       → Steps setup me (local_at me part here registry shut stamp queues) (accept_act req dev handle asked)
-      (local_at me (accepted part req dev handle asked) (λ j. cond (same_id (ids.Request req) j) (Some (uncut dev handle asked)) (here j)) registry shut (stamp + 1) queues)
+      (local_at me (accepted setup me part req dev handle asked) (λ j. cond (same_id (ids.Request req) j) (Some (opened dev handle asked)) (here j)) registry shut (stamp + 1) queues)
   accept_steps req dev handle line range admitted on own above room names =
       steps setup me (local_at me part here registry shut stamp queues)
-      (local_at me (accepted part req dev handle asked) (λ j. cond (same_id (ids.Request req) j) (Some (uncut dev handle asked)) (here j)) registry shut (stamp + 1) queues)
+      (local_at me (accepted setup me part req dev handle asked) (λ j. cond (same_id (ids.Request req) j) (Some (opened dev handle asked)) (here j)) registry shut (stamp + 1) queues)
       (accept_act req dev handle asked) refl range (
-        asks (Some handle) line,
+        and_from (not shut && is_job_submit part (Some handle) asked.op asked.lba asked.count (undecided_job setup me part)) (is_device_of dev (found handle)) (asks (Some handle) line) (device_of dev (found handle) on),
         (
-          and_from (is_none (refusal_of setup (local_at me part here registry shut stamp queues).view (Some handle) asked.op asked.lba asked.count)) (is_handle_on dev (found handle)) (ap is_none admitted) on,
+          ap is_none admitted,
           (
             and_from ((req.thread == me) && nat_le part.next_request req.seq && nat_lt (length part.requests) most_requests) (nat_lt req.seq no_request)
                 (and_from ((req.thread == me) && nat_le part.next_request req.seq) (nat_lt (length part.requests) most_requests)
@@ -83,7 +88,7 @@ module _ (setup : Setup) (me : ℕ) (part : Part) (here : Id → Option Kept) (r
           ),
         ),
       )
-      (ap (λ b. local_at me (accepted part req dev handle asked) (λ j. cond (same_id (ids.Request req) j) (Some (uncut dev handle asked)) (here j)) registry b (stamp + 1) queues) (still_shut shut))
+      (ap (λ b. local_at me (accepted setup me part req dev handle asked) (λ j. cond (same_id (ids.Request req) j) (Some (opened dev handle asked)) (here j)) registry b (stamp + 1) queues) (still_shut shut))
 
   -- **Refuse**
   pub refuse_steps : (handle : Option HandleId) (errno : Errno)
@@ -91,15 +96,15 @@ module _ (setup : Setup) (me : ℕ) (part : Part) (here : Id → Option Kept) (r
       → has_range asked.op ≡ true
       → refusal_of setup (local_at me part here registry shut stamp queues).view handle asked.op asked.lba asked.count ≡ Some errno
       → Steps setup me (local_at me part here registry shut stamp queues) (refuse_act handle asked errno)
-      (local_at me (record part { decided = Some (decisions.Refused errno) }) here registry shut (stamp + 1) queues)
+      (local_at me (refused errno part) here registry shut (stamp + 1) queues)
   refuse_steps handle errno line range due =
       steps setup me (local_at me part here registry shut stamp queues)
-      (local_at me (record part { decided = Some (decisions.Refused errno) }) here registry shut (stamp + 1) queues)
+      (local_at me (refused errno part) here registry shut (stamp + 1) queues)
       (refuse_act handle asked errno) refl range (
         asks handle line,
         (ap (is_the same_errno errno) due ∙ eq-eqb (number_of errno) (number_of errno) refl, tt),
       )
-      (ap (λ b. local_at me (record part { decided = Some (decisions.Refused errno) }) here registry b (stamp + 1) queues) (still_shut shut))
+      (ap (λ b. local_at me (refused errno part) here registry b (stamp + 1) queues) (still_shut shut))
 
 -- ---- the thread
 
@@ -112,7 +117,7 @@ pub opened_acted : (old : Thread) (before : Links) (new : Thread) (after : Links
     → IsOpened req dev handle asked old before new after
     → Acted old before new after
 opened_acted old before new after req dev handle asked is fresh admitted on room opens =
-    acted_into old before new after (accept_act req dev handle asked) (accepted old.part req dev handle asked) _
+    acted_into old before new after (accept_act req dev handle asked) (accepted old.setup.now old.me old.part req dev handle asked) _
     (ap (λ (t : Thread). t.me) opens.thread) (ap (λ (t : Thread). t.setup) opens.thread) opens.part opens.held opens.links
     (accept_steps old.setup.now old.me old.part (here_in old.held.items) before.registry before.shut (length before.entries) (queues_of before.queues.items) is.running asked
     req dev handle is.line is.ranged admitted on fresh.own fresh.above room fresh.names)
@@ -120,11 +125,11 @@ opened_acted old before new after req dev handle asked is fresh admitted on room
 pub refused_acted : (old : Thread) (before : Links) (new : Thread) (after : Links) (handle : Option HandleId) (asked : Submission) (errno : Errno)
     → IsAsked old before handle asked
     → refusal old before handle asked ≡ Some errno
-    → new ≡ record old { part = record old.part { decided = Some (decisions.Refused errno) } }
+    → new ≡ record old { part = refused errno old.part }
     → after ≡ record before { entries = longer old.me before.entries (refuse_act handle asked errno) }
     → Acted old before new after
 refused_acted old before new after handle asked errno is due thread links =
-    acted_into old before new after (refuse_act handle asked errno) (record old.part { decided = Some (decisions.Refused errno) }) (here_in old.held.items)
+    acted_into old before new after (refuse_act handle asked errno) (refused errno old.part) (here_in old.held.items)
     (ap (λ (t : Thread). t.me) thread) (ap (λ (t : Thread). t.setup) thread) (ap (λ (t : Thread). t.part) thread) (ap (λ (t : Thread). here_in t.held.items) thread) links
     (refuse_steps old.setup.now old.me old.part (here_in old.held.items) before.registry before.shut (length before.entries) (queues_of before.queues.items) is.running asked
     handle errno is.line is.ranged due)

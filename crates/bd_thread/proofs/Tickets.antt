@@ -11,9 +11,9 @@ use Rattle.bd_machine.proofs.Tables.{request_same}
 use Rattle.bd_msg.specs.Purse.{without}
 use Rattle.bd_msg.specs.Purse.{Kept as Purse}
 use Rattle.bd_msg.specs.declared.ticket.Finished.{Finished}
-use Rattle.bd_rules.specs.declared.names.Submission.{Submission}
+use Rattle.bd_view.specs.declared.names.Submission.{Submission}
 use Rattle.bd_thread.specs.declared.thread.Thread.{Thread}
-use Rattle.bd_thread.specs.Completions.{without_open}
+use Rattle.bd_thread.specs.Completions.{completed, without_open}
 use Rattle.bd_thread.specs.Requests.{accepted, ids_of, AreDistinct, IsFresh, KeepsTickets}
 
 -- each id has a number below this one
@@ -55,7 +55,7 @@ ids_more (x ∷ xs) o = ap (λ (ids : List ReqId). x.id ∷ ids) (ids_more xs o)
 
 pub accepted_tickets : (old new : Thread) (req : ReqId) (dev : DevId) (handle : HandleId) (asked : Submission)
     → IsFresh old req
-    → new.part ≡ accepted old.part req dev handle asked
+    → new.part ≡ accepted old.setup.now old.me old.part req dev handle asked
     → new.purse.ids ≡ old.purse.ids ++ req ∷ []
     → KeepsTickets old
     → KeepsTickets new
@@ -136,7 +136,7 @@ below_left id n (x ∷ xs) b = go (same_request x id) (below_left id n xs b.1)
     go false rest = (b.0, rest)
 
 pub completed_tickets : (old new : Thread) (req : ReqId)
-    → new.part ≡ record old.part { requests = without_open req old.part.requests }
+    → new.part ≡ completed req old.part
     → new.purse.ids ≡ without req old.purse.ids
     → KeepsTickets old
     → KeepsTickets new

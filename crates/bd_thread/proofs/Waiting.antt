@@ -1,9 +1,13 @@
 -- Where nothing can be done, a thread waits.
-use Rattle.std.proofs.Common.{◌≡◌, ◌⊎◌, inl, inr, ℕ, ◌+◌, ◌-◌, ◌<◌, ◌≤◌, Bool, true, false, cond, not, ◌&&◌, ◌||◌, ◌==◌, nat_le, nat_lt, List, [], ◌∷◌, length, vec_len, Option, Some, None, is_none, is_some, refl, sym, ◌∙◌, ap, subst, eq-eqb, eqb-true, arith}
+use Rattle.std.proofs.Common.{◌≡◌, ◌⊎◌, inl, inr, ℕ, ◌+◌, ◌-◌, ◌<◌, ◌≤◌, Bool, true, false, cond, not, ◌&&◌, ◌||◌, ◌==◌, nat_eq, nat_le, nat_lt, List, [], ◌∷◌, length, vec_len, Option, Some, None, is_none, is_some, refl, sym, ◌∙◌, ap, subst, eq-eqb, eqb-true, arith}
+use Rattle.std.specs.Bool.{beq}
+use Rattle.std.specs.Cmp.Lexicographic.{pointwise}
 use Rattle.std.specs.Option.{option_map, option_and_then}
 use Rattle.std.specs.List.{list_any}
 use Rattle.std.proofs.lemmas.Bool.{cases_lt, and_from}
 use Rattle.std.proofs.lemmas.Bool.Decides.{nat_tests}
+use Rattle.bd_base.specs.Name.{same_name}
+use Rattle.bd_base.specs.declared.act.Outcome.{Outcome}
 use Rattle.bd_base.specs.declared.act.Outcome.TheVariants as outcomes
 use Rattle.bd_base.specs.declared.act.Token.{Token}
 use Rattle.bd_base.specs.declared.event.RegEvent.{RegEvent}
@@ -12,33 +16,53 @@ use Rattle.bd_base.specs.declared.id.HandleId.{HandleId}
 use Rattle.bd_base.specs.declared.job.Job.{Job}
 use Rattle.bd_base.specs.declared.job.Job.TheVariants as jobs
 use Rattle.bd_base.specs.declared.job.Line.{Line}
-use Rattle.bd_base.specs.declared.request.Errno.TheVariants.{Exists}
+use Rattle.bd_base.specs.declared.request.Errno.TheVariants.{Exists, NoDev}
 use Rattle.bd_base.specs.declared.setup.Setup.{Setup}
 use Rattle.bd_machine.specs.declared.state.Decided.{Decided}
 use Rattle.bd_machine.specs.declared.state.Due.{Due}
 use Rattle.bd_machine.specs.declared.state.Handle.{Handle}
 use Rattle.bd_machine.specs.declared.state.News.{News}
-use Rattle.bd_machine.specs.declared.state.News.TheVariants.{Mark}
-use Rattle.bd_machine.specs.declared.state.Part.{Part}
+use Rattle.bd_machine.specs.declared.state.News.TheVariants as news
 use Rattle.bd_machine.specs.Admission.{has_range}
-use Rattle.bd_machine.specs.Asked.{bound_to, close_outcome, has_mark, is_script_blocked, is_waiting_job, is_waiting_line, job_of, most_requests, next_line, open_on, outcome_by, outcome_due, undecided_job, undecided_outcome}
-use Rattle.bd_machine.specs.Messages.{is_due_to, may_go}
-use Rattle.bd_machine.specs.Same.{same_news}
+use Rattle.bd_machine.specs.Asked.{asks_between, bound_to, busy_outcome, close_outcome, is_job_close, is_job_open, is_open_handle, is_script_blocked, is_waiting_job, is_waiting_line, job_of, most_requests, next_line, open_on, outcome_by, outcome_due, undecided_job, undecided_outcome}
+use Rattle.bd_machine.specs.Guards.{is_built_token}
+use Rattle.bd_machine.specs.Messages.{is_due, is_due_to, may_go}
+use Rattle.bd_machine.specs.Registry.{handle_of}
+use Rattle.bd_machine.specs.Same.{is_the, same_handle, same_news, same_request}
+use Rattle.bd_machine.specs.Users.{is_base_handle}
 use Rattle.bd_machine.specs.View.{View}
+use Rattle.bd_machine.proofs.Tables.{request_same}
+use Rattle.bd_view.specs.Came.{came_between}
 use Rattle.bd_thread.specs.declared.links.Links.{Links}
 use Rattle.bd_thread.specs.declared.thread.Thread.{Thread}
 use Rattle.bd_thread.specs.declared.turn.Turned.{Turned}
 use Rattle.bd_thread.specs.declared.turn.Turned.TheVariants.{Moved, Quiet}
 use Rattle.bd_thread.specs.Acted.{Acted}
 use Rattle.bd_thread.specs.Endings.{first_own, if_closable}
-use Rattle.bd_thread.specs.Lines.{close_asked, close_if_idle, open_asked}
+use Rattle.bd_thread.specs.Lines.{close_if_bound, close_of, if_asked, may_ask, open_of}
 use Rattle.bd_thread.specs.Moves.{turned_of}
 use Rattle.bd_thread.specs.Sent.{may_put}
-use Rattle.bd_thread.specs.Seen.{local}
-use Rattle.bd_thread.specs.Waits.{asks_unbuilt, first_due, is_full, is_line_waiting, is_submission, is_unbuilt, may_post, may_send, token_of, Idles, IsWaiting, NoDestructBelow, NoDestructOn, NoHandle, NoLine, NoMessage, NoPiece, NoPieceBelow, NoPieceOn, NothingLeft, NothingToPost, NothingToSend, Quiets}
+use Rattle.bd_thread.specs.Seen.{local, view_of}
+use Rattle.bd_thread.specs.Waits.{asks_unbuilt, first_due, is_base_if_any, is_full, is_line_waiting, is_submission, is_unbuilt, may_post, may_send, token_of, Idles, IsWaiting, NoDestructBelow, NoDestructOn, NoHandle, NoLine, NoMessage, NoPiece, NoPieceBelow, NoPieceOn, NothingLeft, NothingToPost, NothingToSend, Quiets}
 use Rattle.bd_thread.proofs.Going.{acted_then}
 use Rattle.bd_thread.proofs.Idle.{idle_then}
-use Rattle.bd_thread.proofs.Registering.{name_self}
+
+-- ---- what is the same as itself
+
+name_self : (xs : List ℕ) → same_name xs xs ≡ true
+name_self [] = refl
+name_self (x ∷ xs) = and_from (nat_eq x x) (pointwise nat_eq xs xs) (eq-eqb x x refl) (name_self xs)
+
+flag_self : (b : Bool) → beq b b ≡ true
+flag_self true = refl
+flag_self false = refl
+
+news_self : (told : News) → same_news told told ≡ true
+news_self (news.Mark mark) = name_self mark
+news_self (news.Gone handle) = eq-eqb handle.0 handle.0 refl
+news_self (news.Channel dev) = eq-eqb dev.0 dev.0 refl
+news_self (news.Device dev) = eq-eqb dev.0 dev.0 refl
+news_self (news.Go req threads) = and_from (same_request req req) (threads.0 == threads.0) (request_same.same_self req) (eq-eqb threads.0 threads.0 refl)
 
 -- ---- pieces
 
@@ -62,9 +86,9 @@ pub none_open : (t : Thread) (links : Links) → (0 < length links.registry.hand
 none_open t links h = go links.registry.handles h
   where
     go : (hs : List Handle)
-        → (0 < length hs → cond links.shut (if_closable t.me t.part hs (first_own t.me hs)) None ≡ None)
-        → cond links.shut (if_closable t.me t.part hs (first_own t.me hs)) None ≡ None
-    go [] h = elim links.shut as (λ b. cond b (if_closable t.me t.part [] (first_own t.me [])) None ≡ None) [ true ↦ refl | false ↦ refl ]
+        → (0 < length hs → cond links.shut (if_closable t links (first_own t.setup.now t.me hs)) None ≡ None)
+        → cond links.shut (if_closable t links (first_own t.setup.now t.me hs)) None ≡ None
+    go [] h = elim links.shut as (λ b. cond b (if_closable t links (first_own t.setup.now t.me [])) None ≡ None) [ true ↦ refl | false ↦ refl ]
     go (x ∷ xs) h = h (omega arith)
 
 -- ---- the next line
@@ -72,88 +96,127 @@ none_open t links h = go links.registry.handles h
 none_some : {X : Type 0} {x : X} {Q : Type 0} → Some x ≡ None → Q
 none_some h = cc
 
--- an open that can't be made has an outcome
-open_waits : (o : Option HandleId) (event : RegEvent) → cond (is_none o) (Some event) None ≡ None → cond (is_some o) (Some (outcomes.Errno Exists)) None ≡ None → ⊥
-open_waits None event h e = none_some h
-open_waits (Some id) event h e = none_some e
-
--- a close that can't be made has an outcome
-close_waits : (part : Part) (o : Option HandleId) → close_if_idle part o ≡ None → close_outcome part o ≡ None → ⊥
-close_waits part None h e = none_some e
-close_waits part (Some id) h e = go (open_on part id == 0) h e
-  where
-    go : (b : Bool) → cond b (Some (events.Close id)) None ≡ None → cond b None (Some (outcomes.BusyOpen (open_on part id))) ≡ None → ⊥
-    go true h e = none_some h
-    go false h e = none_some e
+-- what isn't asked isn't asked by the rule that stands as yet
+not_asked : {X : Type 0} (x : X) (a b : Bool) → cond (a || b) (Some x) None ≡ None → b ≡ false
+not_asked x true b h = none_some h
+not_asked x false true h = none_some h
+not_asked x false false h = refl
 
 no_room : (n m : ℕ) → nat_lt n m ≡ false → nat_le m n ≡ true
 no_room n m h = grind (arith, nat_tests)
 
-submission_waits : (ranged : Bool) (n m : ℕ) → ranged && nat_lt n m ≡ false → nat_le m n || not ranged ≡ true
-submission_waits true n m h = ap (λ b. b || false) (no_room n m h)
+submission_waits : (ranged : Bool) (n m : ℕ) → ranged && nat_lt n m ≡ false → (nat_le m n && true) || not ranged ≡ true
+submission_waits true n m h = ap (λ b. (b && true) || false) (no_room n m h)
 submission_waits false n m h = go (nat_le m n)
   where
-    go : (b : Bool) → b || true ≡ true
+    go : (b : Bool) → (b && true) || true ≡ true
     go true = refl
     go false = refl
 
-wait_waits : (n : ℕ) → cond (n == 0) (Some outcomes.Done) None ≡ None → nat_lt 0 n || false ≡ true
-wait_waits n h = go (n == 0) refl h
+-- a close that isn't asked has an outcome, unless its name is bound to a base handle
+idle_close : (base own job : Bool) (n : ℕ) → job ≡ true → not base && own && (n == 0) && job ≡ false → cond own (busy_outcome n) (Some (outcomes.Errno NoDev)) ≡ None → base ≡ true
+idle_close true own job n asks h e = refl
+idle_close false false job n asks h e = none_some e
+idle_close false true job n asks h e = go (n == 0) h e
   where
-    go : (b : Bool) → (n == 0) ≡ b → cond b (Some outcomes.Done) None ≡ None → nat_lt 0 n || false ≡ true
-    go true e h = none_some h
-    go false e h = grind (arith, nat_tests)
+    go : (b : Bool) → b && job ≡ false → cond b None (Some (outcomes.BusyOpen n)) ≡ None → false ≡ true
+    go true h e = sym h ∙ asks
+    go false h e = none_some e
 
-await_waits : (b : Bool) → cond b (Some outcomes.Done) None ≡ None → not b || false ≡ true
-await_waits true h = none_some h
-await_waits false h = refl
+-- the thread t, where no Shutdown came
+module _ (t : Thread) (links : Links) where
+  abbrev running : Links
+  running = record links { shut = false }
 
-job_waits : (part : Part) (job : Job)
-    → open_asked part (Some job) ≡ None
-    → close_asked part (Some job) ≡ None
-    → is_submission (Some job) && nat_lt (length part.requests) most_requests ≡ false
-    → undecided_outcome part job ≡ None
-    → is_waiting_job part job || is_unbuilt job ≡ true
-job_waits part (jobs.Open handle dev write) o c s e = absurd (open_waits (bound_to part handle) (events.Open dev write) o e)
-job_waits part (jobs.Close handle) o c s e = absurd (close_waits part (bound_to part handle) c e)
-job_waits part (jobs.Claim handle kind) o c s e = refl
-job_waits part (jobs.Submit handle op lba count) o c s e = submission_waits (has_range op) (length part.requests) most_requests s
-job_waits part (jobs.Remove dev) o c s e = refl
-job_waits part jobs.Wait o c s e = wait_waits (length part.requests) e
-job_waits part (jobs.Sleep time) o c s e = refl
-job_waits part (jobs.Post mark) o c s e = none_some e
-job_waits part (jobs.Await mark) o c s e = await_waits (has_mark part mark) e
-job_waits part (jobs.Gone handle) o c s e = refl
+  abbrev seen : View
+  seen = view_of t links
 
-decided_waits : (part : Part) (line : Line) (decided : Option Decided)
-    → open_asked part (cond (is_none decided) (Some line.job) None) ≡ None
-    → close_asked part (cond (is_none decided) (Some line.job) None) ≡ None
-    → is_submission (cond (is_none decided) (Some line.job) None) && nat_lt (length part.requests) most_requests ≡ false
-    → outcome_by part decided line.job ≡ None
-    → (is_none decided && is_waiting_job part line.job) || asks_unbuilt (cond (is_none decided) (Some line.job) None) ≡ true
-decided_waits part line None o c s e = job_waits part line.job o c s e
-decided_waits part line (Some d) o c s e = none_some e
+  abbrev asked : Option Job
+  asked = undecided_job t.setup.now t.me t.part
 
-next_waits : (part : Part) (line : Option Line)
-    → open_asked part (cond (is_none part.decided) (option_map job_of line) None) ≡ None
-    → close_asked part (cond (is_none part.decided) (option_map job_of line) None) ≡ None
-    → is_submission (cond (is_none part.decided) (option_map job_of line) None) && nat_lt (length part.requests) most_requests ≡ false
-    → option_and_then (λ l. outcome_by part part.decided l.job) line ≡ None
-    → is_waiting_line part line || asks_unbuilt (cond (is_none part.decided) (option_map job_of line) None) ≡ true
-next_waits part None o c s e = refl
-next_waits part (Some line) o c s e = decided_waits part line part.decided o c s e
+  open_waits : (handle dev : List ℕ) (write : Bool) → asked ≡ Some (jobs.Open handle dev write) → if_asked t running (open_of asked) ≡ None → undecided_outcome seen (jobs.Open handle dev write) ≡ None → ⊥
+  open_waits handle dev write is o e =
+      let event : RegEvent = events.Open dev write in
+      let between : Bool = asks_between t.setup.now t.me seen (came_between links.registry.between false) event links.registry.between in
+      let unasked : cond (may_ask t running event) (Some event) None ≡ None = ap (λ (j : Option Job). if_asked t running (open_of j)) (sym is) ∙ o in
+      let named : is_job_open seen dev write asked ≡ not (is_open_handle seen (bound_to t.part handle)) =
+      ap (is_job_open seen dev write) is
+      ∙ ap (λ b. b && not (is_open_handle seen (bound_to t.part handle))) (and_from (same_name dev dev) (beq write write) (name_self dev) (flag_self write)) in
+      go (is_open_handle seen (bound_to t.part handle)) (sym named ∙ not_asked event between (is_job_open seen dev write asked) unasked) e
+    where
+      go : (b : Bool) → not b ≡ false → cond b (Some (outcomes.Errno Exists)) None ≡ None → ⊥
+      go true h e = none_some e
+      go false h e = let x : true ≡ false = h in cc
 
-pub line_waits : (t : Thread) (links : Links) → NoLine t links → is_line_waiting t links ≡ true
-line_waits t links h = go links.shut h.opening h.closing h.submission h.outcome
-  where
-    go : (shut : Bool)
-        → open_asked t.part (cond shut None (undecided_job t.setup.now t.me t.part)) ≡ None
-        → close_asked t.part (cond shut None (undecided_job t.setup.now t.me t.part)) ≡ None
-        → is_submission (cond shut None (undecided_job t.setup.now t.me t.part)) && nat_lt (length t.part.requests) most_requests ≡ false
-        → cond shut None (outcome_due t.setup.now t.me t.part) ≡ None
-        → shut || is_script_blocked t.setup.now t.me t.part || asks_unbuilt (undecided_job t.setup.now t.me t.part) ≡ true
-    go true o c s e = refl
-    go false o c s e = next_waits t.part (next_line t.setup.now t.me t.part) o c s e
+  close_waits : (handle : List ℕ) (id : HandleId) → asked ≡ Some (jobs.Close handle) → bound_to t.part handle ≡ Some id → if_asked t running (Some (events.Close id)) ≡ None → close_outcome seen (Some id) ≡ None → is_base_handle t.setup.now id ≡ true
+  close_waits handle id is bound c e =
+      let setup = t.setup.now in
+      let event : RegEvent = events.Close id in
+      let between : Bool = asks_between setup t.me seen (came_between links.registry.between false) event links.registry.between in
+      let names : is_job_close t.part id asked ≡ true = ap (is_job_close t.part id) is ∙ ap (is_the same_handle id) bound ∙ eq-eqb id.0 id.0 refl in
+      let own : Bool = is_some (handle_of seen.handles id) in
+      let may : Bool = not (is_base_handle setup id) && own && (open_on t.part id == 0) && is_job_close t.part id asked in
+      idle_close (is_base_handle setup id) own (is_job_close t.part id asked) (open_on t.part id) names (not_asked event between may c) e
+
+  bound_waits : (handle : List ℕ) (o : Option HandleId) → bound_to t.part handle ≡ o → asked ≡ Some (jobs.Close handle) → if_asked t running (close_if_bound o) ≡ None → close_outcome seen o ≡ None → is_base_if_any t.setup.now o ≡ true
+  bound_waits handle None bound is c e = none_some e
+  bound_waits handle (Some id) bound is c e = close_waits handle id is bound c e
+
+  job_waits : (job : Job)
+      → asked ≡ Some job
+      → if_asked t running (open_of asked) ≡ None
+      → if_asked t running (close_of t.part asked) ≡ None
+      → is_submission asked && nat_lt (length t.part.requests) most_requests ≡ false
+      → undecided_outcome seen job ≡ None
+      → (is_waiting_job t.part job && is_none (undecided_outcome seen job)) || is_unbuilt t.setup.now seen job ≡ true
+  job_waits (jobs.Open handle dev write) is o c s e = absurd (open_waits handle dev write is o e)
+  job_waits (jobs.Close handle) is o c s e =
+      bound_waits handle (bound_to t.part handle) refl is (ap (λ (j : Option Job). if_asked t running (close_of t.part j)) (sym is) ∙ c) e
+  job_waits (jobs.Claim handle kind) is o c s e = refl
+  job_waits (jobs.Submit handle op lba count) is o c s e =
+      submission_waits (has_range op) (length t.part.requests) most_requests (ap (λ (j : Option Job). is_submission j && nat_lt (length t.part.requests) most_requests) (sym is) ∙ s)
+  job_waits (jobs.Remove dev) is o c s e = refl
+  job_waits jobs.Wait is o c s e = ap (λ (r : Option Outcome). is_none r || false) e
+  job_waits (jobs.Sleep time) is o c s e = none_some e
+  job_waits (jobs.Post mark) is o c s e = none_some e
+  job_waits (jobs.Await mark) is o c s e = ap (λ (r : Option Outcome). is_none r || false) e
+  job_waits (jobs.Gone handle) is o c s e = ap (λ (r : Option Outcome). is_none r || false) e
+
+  -- what is said of the next line, by what decided it
+  decided_waits : (line : Line) (decided : Option Decided)
+      → next_line t.setup.now t.me t.part ≡ Some line
+      → t.part.decided ≡ decided
+      → if_asked t running (open_of asked) ≡ None
+      → if_asked t running (close_of t.part asked) ≡ None
+      → is_submission asked && nat_lt (length t.part.requests) most_requests ≡ false
+      → outcome_by seen decided line.job ≡ None
+      → (is_none decided && is_waiting_job t.part line.job && is_none (undecided_outcome seen line.job)) || asks_unbuilt t.setup.now seen (cond (is_none decided) (Some line.job) None) ≡ true
+  decided_waits line None is undecided o c s e =
+      let asks : asked ≡ Some line.job = ap (λ (d : Option Decided). cond (is_none d) (option_map job_of (next_line t.setup.now t.me t.part)) None) undecided ∙ ap (option_map job_of) is in
+      job_waits line.job asks o c s e
+  decided_waits line (Some d) is decided o c s e = none_some e
+
+  next_waits : (line : Option Line)
+      → next_line t.setup.now t.me t.part ≡ line
+      → if_asked t running (open_of asked) ≡ None
+      → if_asked t running (close_of t.part asked) ≡ None
+      → is_submission asked && nat_lt (length t.part.requests) most_requests ≡ false
+      → option_and_then (λ l. outcome_by seen t.part.decided l.job) line ≡ None
+      → is_waiting_line seen line || asks_unbuilt t.setup.now seen (cond (is_none t.part.decided) (option_map job_of line) None) ≡ true
+  next_waits None is o c s e = refl
+  next_waits (Some line) is o c s e = decided_waits line t.part.decided is refl o c s e
+
+  pub line_waits : NoLine t links → is_line_waiting t links ≡ true
+  line_waits h = go links.shut h.opening h.closing h.submission h.outcome
+    where
+      go : (shut : Bool)
+          → if_asked t (record links { shut = shut }) (open_of (cond shut None asked)) ≡ None
+          → if_asked t (record links { shut = shut }) (close_of t.part (cond shut None asked)) ≡ None
+          → is_submission (cond shut None asked) && nat_lt (length t.part.requests) most_requests ≡ false
+          → cond shut None (outcome_due t.setup.now t.me seen) ≡ None
+          → shut || is_script_blocked t.setup.now t.me seen || asks_unbuilt t.setup.now seen asked ≡ true
+      go true o c s e = refl
+      go false o c s e = next_waits (next_line t.setup.now t.me t.part) refl o c s e
 
 -- ---- what is still to be put
 
@@ -171,11 +234,21 @@ none_due t links h = go t.part.due h
     go [] h = refl
     go (d ∷ ds) h = h (omega arith)
 
--- the first mark that is due may go
-first_goes : (setup : Setup) (me : ℕ) (view : View) (d : Due) (ds : List Due) (news : News) → d.news ≡ news → view.part.due ≡ d ∷ ds → may_go setup me view d.receiver (token_of news) ≡ true
-first_goes setup me view d ds (Mark mark) e due =
-    let is : is_due_to d.receiver (Mark mark) d ≡ true = and_from (d.receiver == d.receiver) (same_news d.news (Mark mark)) (eq-eqb d.receiver d.receiver refl) (ap (λ n. same_news n (Mark mark)) e ∙ name_self mark) in
-    ap (list_any (is_due_to d.receiver (Mark mark))) due ∙ ap (λ b. b || list_any (is_due_to d.receiver (Mark mark)) ds) is
+-- the first message that is due may go, so far as the rules of where it goes are asked
+first_goes : (setup : Setup) (me : ℕ) (view : View) (d : Due) (ds : List Due) → view.part.due ≡ d ∷ ds → may_go setup me view d.receiver (token_of d.news) ≡ true
+first_goes setup me view d ds due = go d.news refl
+  where
+    first : (told : News) → d.news ≡ told → is_due view.part d.receiver (Some told) ≡ true
+    first told e =
+        let is : is_due_to d.receiver told d ≡ true = and_from (d.receiver == d.receiver) (same_news d.news told) (eq-eqb d.receiver d.receiver refl) (ap (λ n. same_news n told) e ∙ news_self told) in
+        ap (list_any (is_due_to d.receiver told)) due ∙ ap (λ b. b || list_any (is_due_to d.receiver told) ds) is
+
+    go : (told : News) → d.news ≡ told → may_go setup me view d.receiver (token_of told) ≡ true
+    go (news.Mark mark) e = first (news.Mark mark) e
+    go (news.Gone handle) e = first (news.Gone handle) e
+    go (news.Channel dev) e = first (news.Channel dev) e
+    go (news.Device dev) e = first (news.Device dev) e
+    go (news.Go req threads) e = first (news.Go req threads) e
 
 some_same : {X : Type 0} {x y : X} → Some x ≡ Some y → x ≡ y
 some_same e = cc
@@ -183,22 +256,24 @@ some_same e = cc
 none_or_some : {X : Type 0} {x : X} {Q : Type 0} → None ≡ Some x → Q
 none_or_some e = cc
 
--- what may go and isn't put has no queue
-no_queue : (queue goes room : Bool) → queue && goes ≡ false → goes ≡ true → queue && room ≡ false
-no_queue false goes room h e = refl
-no_queue true true room h e = cc
-no_queue true false room h e = cc
+-- what may go and isn't put has no queue, or is none that is put
+no_queue : (queue travels goes room : Bool) → queue && travels && goes ≡ false → goes ≡ true → queue && room && travels ≡ false
+no_queue false travels goes room h e = refl
+no_queue true false goes true h e = refl
+no_queue true false goes false h e = refl
+no_queue true true true room h e = cc
+no_queue true true false room h e = cc
 
-pub mark_waits : (t : Thread) (links : Links) (x : ℕ × Token) → first_due t.part.due ≡ Some x → may_put t links x.0 x.1 ≡ false → NothingToPost t links
-mark_waits t links x first stays = go t.part.due refl first
+pub due_waits : (t : Thread) (links : Links) (x : ℕ × Token) → first_due t.part.due ≡ Some x → may_put t links x.0 x.1 ≡ false → NothingToPost t links
+due_waits t links x first stays = go t.part.due refl first
   where
     go : (ds : List Due) → t.part.due ≡ ds → first_due ds ≡ Some x → may_post links ds ≡ false
     go [] due e = none_or_some e
     go (d ∷ ds) due e =
         let stays_so : may_put t links d.receiver (token_of d.news) ≡ false = subst (λ (y : ℕ × Token). may_put t links y.0 y.1 ≡ false) (sym (some_same e)) stays in
-        no_queue (nat_lt d.receiver (vec_len links.queues)) (may_go t.setup.now t.me (local t links).view d.receiver (token_of d.news)) (not (is_full links.queues.items d.receiver))
+        no_queue (nat_lt d.receiver (vec_len links.queues)) (is_built_token (token_of d.news)) (may_go t.setup.now t.me (local t links).view d.receiver (token_of d.news)) (not (is_full links.queues.items d.receiver))
         stays_so
-        (first_goes t.setup.now t.me (local t links).view d ds d.news refl due)
+        (first_goes t.setup.now t.me (local t links).view d ds due)
 
 -- ---- the answer of a turn
 

@@ -8,11 +8,11 @@ use Rattle.bd_base.specs.declared.id.ReqId.{ReqId}
 use Rattle.bd_machine.specs.declared.state.OpenRequest.{OpenRequest}
 use Rattle.bd_machine.specs.Alone.{held_after}
 use Rattle.bd_machine.specs.BlockMap.{home}
-use Rattle.bd_machine.specs.Completion.{request_here}
+use Rattle.bd_machine.specs.Kept.{request_here}
 use Rattle.bd_machine.specs.Requests.{cut_into, extents_of, may_cut}
 use Rattle.bd_thread.specs.declared.links.Links.{Links}
 use Rattle.bd_thread.specs.declared.thread.Thread.{Thread}
-use Rattle.bd_thread.specs.Seen.{here_in, longer, view_of}
+use Rattle.bd_thread.specs.Seen.{here_in, longer, untaken, view_of}
 
 -- a piece that is still to be put to a thread
 abbrev pub piece_to : ℕ → ReqId → ℕ → ℕ × Token
@@ -26,13 +26,17 @@ pub record IsCut (req : ReqId) (r : OpenRequest) (n : ℕ) (old : Thread) (befor
   pub pieces : n ≡ length (extents_of old.setup.now r)
   pub held : here_in new.held.items ≡ held_after (cut_into old.setup.now req n (Some r)) (here_in old.held.items)
   pub outbox : new.outbox.items ≡ old.outbox.items ++ pieces_to (home old.setup.now r.dev) req n
-  pub thread : new ≡ record old { held = new.held; outbox = new.outbox }
+  pub thread : new ≡ record old { part = untaken old.part; held = new.held; outbox = new.outbox }
   pub links : after ≡ record before { entries = longer old.me before.entries (acts.Cut req n) }
 
 abbrev pub CutsBy : ReqId → ℕ → Thread → Links → Thread → Links → Bool → Option OpenRequest → Type 0
 CutsBy req n old before new after true (Some r) = IsCut req r n old before new after
 CutsBy req n old before new after _ _ = (n ≡ 0) × (new ≡ old) × (after ≡ before)
 
--- where the request is here on its own thread, has a range and isn't cut, it is cut into n pieces; else n is 0, and nothing changes
+-- the rules let the thread cut the request
+abbrev pub may_cut_now : ReqId → Thread → Links → Bool
+may_cut_now req t links = may_cut t.setup.now t.me (view_of t links) req (request_here (view_of t links) req)
+
+-- where the request may be cut, it is cut into n pieces; else n is 0, and nothing changes
 abbrev pub Cuts : ReqId → Thread → Links → Thread → Links → ℕ → Type 0
-Cuts req old before new after n = CutsBy req n old before new after (may_cut old.me req (request_here (view_of old before) req)) (request_here (view_of old before) req)
+Cuts req old before new after n = CutsBy req n old before new after (may_cut_now req old before) (request_here (view_of old before) req)

@@ -1,5 +1,5 @@
 -- A thread's own requests: what a submission asks and what it leaves.
-use Rattle.std.specs.Prelude.{◌≡◌, ◌<◌, ◌≤◌, true, false, List, [], ◌∷◌, ◌++◌, length, map, Option, Some, None}
+use Rattle.std.specs.Prelude.{◌≡◌, ℕ, ◌<◌, ◌≤◌, true, false, List, [], ◌∷◌, ◌++◌, length, map, Option, Some, None}
 use Rattle.std.specs.List.{AllByRecursion, list_any}
 use Rattle.bd_base.specs.declared.act.Act.{Act}
 use Rattle.bd_base.specs.declared.act.Act.TheVariants as acts
@@ -7,6 +7,7 @@ use Rattle.bd_base.specs.declared.id.DevId.{DevId}
 use Rattle.bd_base.specs.declared.id.HandleId.{HandleId}
 use Rattle.bd_base.specs.declared.id.ReqId.{ReqId}
 use Rattle.bd_base.specs.declared.request.Errno.{Errno}
+use Rattle.bd_base.specs.declared.setup.Setup.{Setup}
 use Rattle.bd_machine.specs.declared.state.Decided.TheVariants as decisions
 use Rattle.bd_machine.specs.declared.state.Id.TheVariants as ids
 use Rattle.bd_machine.specs.declared.state.Kept.{Kept}
@@ -16,16 +17,16 @@ use Rattle.bd_machine.specs.declared.state.Part.{Part}
 use Rattle.bd_machine.specs.Admission.{has_range, refusal_of}
 use Rattle.bd_machine.specs.Asked.{is_handle_on, is_job_submit, most_requests, no_request, undecided_job}
 use Rattle.bd_machine.specs.Registry.{handle_of}
-use Rattle.bd_machine.specs.Requests.{change_accept}
+use Rattle.bd_machine.specs.Requests.{change_accept, new_request}
 use Rattle.bd_machine.specs.Same.{same_request}
 use Rattle.bd_changes.specs.Lone.{lone}
-use Rattle.bd_rules.specs.declared.names.Submission.{Submission}
+use Rattle.bd_view.specs.declared.names.Submission.{Submission}
 use Rattle.bd_thread.specs.declared.links.Links.{Links}
 use Rattle.bd_thread.specs.declared.requests.Refused.{Refused}
 use Rattle.bd_thread.specs.declared.requests.Refused.TheVariants as refusals
 use Rattle.bd_thread.specs.declared.thread.Thread.{Thread}
 use Rattle.bd_thread.specs.Acted.{Acted}
-use Rattle.bd_thread.specs.Seen.{Sets, longer, view_of}
+use Rattle.bd_thread.specs.Seen.{Sets, longer, untaken, view_of}
 
 -- ---- what is asked of a thread
 
@@ -50,11 +51,15 @@ refusal t links handle asked = refusal_of t.setup.now (view_of t links) handle a
 abbrev pub refuse_act : Option HandleId → Submission → Errno → Act
 refuse_act handle asked errno = acts.Refuse handle asked.op asked.lba asked.count errno
 
+-- the part with the line refused by this errno
+abbrev pub refused : Errno → Part → Part
+refused errno part = untaken (record part { decided = Some (decisions.Refused errno) })
+
 -- it was refused by this errno: that decided the line, the entry says so, and all else stayed
 pub record IsRefused (errno : Errno) (handle : Option HandleId) (asked : Submission) (old : Thread) (before : Links) (new : Thread) (after : Links) : Type 0 where
   pub due : refusal old before handle asked ≡ Some errno
   pub acted : Acted old before new after
-  pub thread : new ≡ record old { part = record old.part { decided = Some (decisions.Refused errno) } }
+  pub thread : new ≡ record old { part = refused errno old.part }
   pub links : after ≡ record before { entries = longer old.me before.entries (refuse_act handle asked errno) }
 
 -- no cause refuses it, but as many requests are open as may be: nothing changed
@@ -73,18 +78,18 @@ Refuses refusals.OutOfMemory handle asked old before new after = Unit {0}
 abbrev pub accept_act : ReqId → DevId → HandleId → Submission → Act
 accept_act req dev handle asked = acts.Accept req dev handle asked.op asked.lba asked.count
 
--- a request that isn't cut
-abbrev pub uncut : DevId → HandleId → Submission → Kept
-uncut dev handle asked = keeps.Request (record { handle = handle; dev = dev; op = asked.op; lba = asked.lba; count = asked.count; pieces = None })
+-- a request that was accepted, and no more
+abbrev pub opened : DevId → HandleId → Submission → Kept
+opened dev handle asked = keeps.Request (new_request handle dev asked.op asked.lba asked.count)
 
 -- the part with this request accepted
-abbrev pub accepted : Part → ReqId → DevId → HandleId → Submission → Part
-accepted part req dev handle asked = (change_accept (lone part) req dev handle asked.op asked.lba asked.count).part
+abbrev pub accepted : Setup → ℕ → Part → ReqId → DevId → HandleId → Submission → Part
+accepted setup me part req dev handle asked = untaken (change_accept setup me (lone part) req dev handle asked.op asked.lba asked.count).part
 
 -- it was accepted by this id: the request is open and here, and the entry says so
 pub record IsOpened (req : ReqId) (dev : DevId) (handle : HandleId) (asked : Submission) (old : Thread) (before : Links) (new : Thread) (after : Links) : Type 0 where
-  pub part : new.part ≡ accepted old.part req dev handle asked
-  pub held : Sets old.held.items new.held.items (ids.Request req) (Some (uncut dev handle asked))
+  pub part : new.part ≡ accepted old.setup.now old.me old.part req dev handle asked
+  pub held : Sets old.held.items new.held.items (ids.Request req) (Some (opened dev handle asked))
   pub thread : new ≡ record old { part = new.part; held = new.held; purse = new.purse }
   pub links : after ≡ record before { entries = longer old.me before.entries (accept_act req dev handle asked) }
 

@@ -1,5 +1,5 @@
 -- When a thread has nothing under way.
-use Rattle.std.specs.Prelude.{ℕ, Bool, true, not, ◌&&◌, ◌||◌, ◌==◌, ◌^◌, nat_lt, List, length}
+use Rattle.std.specs.Prelude.{ℕ, Bool, true, not, ◌&&◌, ◌||◌, ◌==◌, ◌^◌, nat_lt, List, length, is_none}
 use Rattle.std.specs.List.{list_all, list_any, range_with_len}
 use Rattle.bd_base.specs.declared.act.Act.TheVariants as acts
 use Rattle.bd_base.specs.declared.id.DevId.{DevId}
@@ -7,19 +7,19 @@ use Rattle.bd_base.specs.declared.setup.Setup.{Setup}
 use Rattle.bd_machine.specs.Asked.{is_script_blocked}
 use Rattle.bd_machine.specs.BlockMap.{home}
 use Rattle.bd_machine.specs.Same.{same_dev}
-use Rattle.bd_machine.specs.Start.{dev_of}
+use Rattle.bd_machine.specs.Users.{dev_of}
 use Rattle.bd_turns.specs.declared.queue.Message.{Message}
 use Rattle.bd_thread.specs.declared.links.Links.{Links}
 use Rattle.bd_thread.specs.declared.thread.Thread.{Thread}
-use Rattle.bd_thread.specs.Seen.{longer}
+use Rattle.bd_thread.specs.Seen.{longer, view_of}
 
--- no token is on the thread, and no mark of it is still to be put
+-- no token is on the thread, nothing is still to be put or done, no remove event came, and its last entry took no injection
 abbrev pub rests : Thread → Bool
-rests t = (length t.held.items == 0) && (length t.part.due == 0)
+rests t = (length t.held.items == 0) && (length t.part.due == 0) && (length t.part.owed == 0) && (length t.part.gone == 0) && is_none t.part.injection
 
 -- its script is at its end, or the next line waits
-abbrev pub is_blocked : Thread → Bool
-is_blocked t = is_script_blocked t.setup.now t.me t.part
+abbrev pub is_blocked : Thread → Links → Bool
+is_blocked t links = is_script_blocked t.setup.now t.me (view_of t links)
 
 -- another thread is the device's home, or it was destructed
 abbrev pub is_done_with : Setup → ℕ → List DevId → ℕ → Bool

@@ -1,5 +1,5 @@
 -- What a thread and the links show, as the local rules see it.
-use Rattle.std.specs.Prelude.{◌≡◌, ℕ, ◌+◌, Bool, cond, ◌==◌, List, [], ◌∷◌, ◌++◌, length, filter, drop, Option, slice_index_or}
+use Rattle.std.specs.Prelude.{◌≡◌, ℕ, ◌+◌, Bool, cond, ◌==◌, List, [], ◌∷◌, ◌++◌, length, filter, drop, Option, None, slice_index_or}
 use Rattle.bd_base.specs.declared.act.Act.{Act}
 use Rattle.bd_base.specs.declared.act.Entry.{Entry}
 use Rattle.bd_base.specs.declared.setup.Setup.{Setup}
@@ -7,6 +7,7 @@ use Rattle.bd_machine.specs.declared.state.Id.{Id}
 use Rattle.bd_machine.specs.declared.state.Kept.{Kept}
 use Rattle.bd_machine.specs.declared.state.Part.{Part}
 use Rattle.bd_machine.specs.declared.state.Registry.{Registry}
+use Rattle.bd_machine.specs.Registry.{references}
 use Rattle.bd_machine.specs.Same.{same_id}
 use Rattle.bd_machine.specs.Table.{look_up}
 use Rattle.bd_machine.specs.View.{View, is_of}
@@ -40,7 +41,7 @@ pub record Popped (old new : List (List Message)) (me : ℕ) (m : Message) : Typ
 -- what thread number `me` sees and what is shared, by its parts
 abbrev pub local_at : ℕ → Part → (Id → Option Kept) → Registry → Bool → ℕ → (ℕ → List Message) → Local
 local_at me part here registry shut stamp queues = record {
-  view = record { part = part; here = here; handles = filter (is_of me) registry.handles };
+  view = record { part = part; here = here; handles = filter (is_of me) registry.handles; channels = references registry me };
   shared = record { stamp = stamp; shut = shut; registry = registry; queues = queues };
 }
 
@@ -54,7 +55,16 @@ view_of t links = (local t links).view
 
 -- the same, by its parts
 abbrev pub view_seen : Seen → View
-view_seen s = record { part = s.part.now; here = here_in s.held.now; handles = filter (is_of s.me) s.handles.now }
+view_seen s = record {
+  part = s.part.now;
+  here = here_in s.held.now;
+  handles = filter (is_of s.me) s.registry.now.handles;
+  channels = references s.registry.now s.me;
+}
+
+-- the part after an act that took nothing of an error device: what the act before took is let go
+abbrev pub untaken : Part → Part
+untaken part = record part { injection = None }
 
 -- which thread it is, and of which setup, for the crates above
 abbrev pub number_of : Thread → ℕ

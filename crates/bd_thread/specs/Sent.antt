@@ -3,23 +3,23 @@ use Rattle.std.specs.Prelude.{◌≡◌, ℕ, Bool, true, false, cond, ◌&&◌,
 use Rattle.std.specs.Option.{option_map}
 use Rattle.bd_base.specs.declared.act.Act.TheVariants as acts
 use Rattle.bd_base.specs.declared.act.Token.{Token}
-use Rattle.bd_base.specs.declared.act.Token.TheVariants as tokens
 use Rattle.bd_machine.specs.declared.state.Id.{Id}
 use Rattle.bd_machine.specs.declared.state.Kept.{Kept}
 use Rattle.bd_machine.specs.declared.state.Kept.TheVariants as keeps
-use Rattle.bd_machine.specs.declared.state.News.TheVariants.{Mark}
-use Rattle.bd_machine.specs.Completion.{as_piece}
-use Rattle.bd_machine.specs.Messages.{brings, count_at, may_go, sent}
+use Rattle.bd_machine.specs.declared.state.News.{News}
+use Rattle.bd_machine.specs.Guards.{is_built_token}
+use Rattle.bd_machine.specs.Messages.{brings, closed_notice, count_at, here_with, may_go, news_of, progress_took, sent}
+use Rattle.bd_machine.specs.View.{Move}
 use Rattle.bd_turns.specs.declared.queue.Message.{Message}
 use Rattle.bd_turns.specs.Tied.{id_next}
 use Rattle.bd_thread.specs.declared.links.Links.{Links}
 use Rattle.bd_thread.specs.declared.thread.Thread.{Thread}
 use Rattle.bd_thread.specs.Seen.{local, longer, queues_of}
 
--- the first message, where it brings the token that it names
+-- the first message, where it brings the token that it names, and that is a piece or a mark: no thread takes others yet
 abbrev pub first_brought : List Message → Option Message
 first_brought [] = None
-first_brought (m ∷ ms) = cond (brings m.what (Some m.kept)) (Some m) None
+first_brought (m ∷ ms) = cond (is_built_token m.what && brings m.what (Some m.kept)) (Some m) None
 
 -- one Took of this message, whose token is given; without a message nothing changes
 abbrev pub TakesBy : Thread → Links → Thread → Links → Option Id → Option Message → Type 0
@@ -30,15 +30,23 @@ TakesBy old before new after id (Some m) =
 abbrev pub Takes : Thread → Links → Thread → Links → Option Id → Type 0
 Takes old before new after id = TakesBy old before new after id (first_brought (queues_of before.queues.items old.me))
 
--- what is kept of a token on its way, where this is kept of it here: a piece is out, or on its way back, and a mark is only sent
-abbrev pub kept_on_way : Token → Option Kept → Option Kept
-kept_on_way (tokens.Piece req k) here = option_map sent (as_piece here)
-kept_on_way (tokens.Mark mark) here = Some (keeps.Notice (Mark mark))
-kept_on_way _ here = None
+-- what becomes of the token of a message that was taken: what is sent once is closed, and all else is here; a piece that was served is its own thread's again
+abbrev pub landed : Id → Kept → List Move
+landed id (keeps.Notice told) = closed_notice id told
+landed id (keeps.Piece p) = here_with id (keeps.Piece (record p { progress = progress_took p.progress }))
+landed id kept = here_with id kept
 
--- there is a queue to this thread, and the token may go there
+-- what is kept of a token on its way, where this is kept of it here: a request or a piece is out, or on its way back; what is sent once is only told
+abbrev pub on_way : Option News → Option Kept → Option Kept
+on_way None here = option_map sent here
+on_way (Some told) here = Some (keeps.Notice told)
+
+abbrev pub kept_on_way : Token → Option Kept → Option Kept
+kept_on_way what here = on_way (news_of what) here
+
+-- there is a queue to this thread, the token is a piece or a mark, and it may go there
 abbrev pub may_put : Thread → Links → ℕ → Token → Bool
-may_put t links to what = nat_lt to (vec_len links.queues) && may_go t.setup.now t.me (local t links).view to what
+may_put t links to what = nat_lt to (vec_len links.queues) && is_built_token what && may_go t.setup.now t.me (local t links).view to what
 
 -- one Put of the token, where it may go there; else nothing changes
 abbrev pub PutsBy : Thread → Links → Thread → Links → ℕ → Token → Bool → Bool → Type 0

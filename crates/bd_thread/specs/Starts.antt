@@ -1,7 +1,7 @@
 -- Where a thread and the links begin.
 use Rattle.std.specs.Prelude.{◌≡◌, ℕ, false, List, [], replicate}
 use Rattle.bd_base.specs.declared.setup.Setup.{Setup}
-use Rattle.bd_machine.specs.Start.{part_at_start}
+use Rattle.bd_machine.specs.Start.{part_at_start, registry_at_start}
 use Rattle.bd_turns.specs.Laws.{view_at_start, shared_at_start}
 use Rattle.bd_turns.specs.Local.{Local}
 use Rattle.bd_turns.specs.declared.queue.Message.{Message}
@@ -13,10 +13,10 @@ use Rattle.bd_thread.specs.Seen.{local}
 abbrev pub empty_queues : ℕ → List (List Message)
 empty_queues threads = replicate threads []
 
--- an empty queue for each thread, no handle, no entry, and no Shutdown
-pub record IsNewLinks (threads : ℕ) (links : Links) : Type 0 where
-  pub queues : links.queues.items ≡ empty_queues threads
-  pub registry : links.registry ≡ record { handles = []; next = 0 }
+-- an empty queue for each thread, the registry as it is at the start, no entry, and no Shutdown
+pub record IsNewLinks (setup : Setup) (links : Links) : Type 0 where
+  pub queues : links.queues.items ≡ empty_queues setup.threads
+  pub registry : links.registry ≡ registry_at_start setup
   pub entries : links.entries ≡ []
   pub running : links.shut ≡ false
 
@@ -31,8 +31,8 @@ pub record IsNew (me : ℕ) (setup : Setup) (t : Thread) : Type 0 where
 
 -- what a thread sees before any entry, with nothing told of its disks, and what is shared then
 abbrev pub local_at_start : Setup → ℕ → Local
-local_at_start setup t = record { view = view_at_start setup [] t; shared = shared_at_start }
+local_at_start setup t = record { view = view_at_start setup [] t; shared = shared_at_start setup }
 
 -- a new thread with new links sees what the machine's thread sees at the start
 abbrev pub NewIsAtStart : Type 0
-NewIsAtStart = (threads me : ℕ) (setup : Setup) (t : Thread) (links : Links) → IsNew me setup t → IsNewLinks threads links → local t links ≡ local_at_start setup me
+NewIsAtStart = (me : ℕ) (setup : Setup) (t : Thread) (links : Links) → IsNew me setup t → IsNewLinks setup links → local t links ≡ local_at_start setup me

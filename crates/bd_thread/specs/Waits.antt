@@ -5,15 +5,20 @@ use Rattle.bd_base.specs.declared.act.Token.TheVariants as tokens
 use Rattle.bd_base.specs.declared.id.DevId.{DevId}
 use Rattle.bd_base.specs.declared.job.Job.{Job}
 use Rattle.bd_base.specs.declared.job.Job.TheVariants as jobs
+use Rattle.bd_base.specs.declared.id.HandleId.{HandleId}
+use Rattle.bd_base.specs.declared.setup.Setup.{Setup}
 use Rattle.bd_blocks.specs.Digests.{digest_due}
 use Rattle.bd_machine.specs.declared.state.Due.{Due}
 use Rattle.bd_machine.specs.declared.state.News.{News}
-use Rattle.bd_machine.specs.declared.state.News.TheVariants.{Mark}
+use Rattle.bd_machine.specs.declared.state.News.TheVariants as news
 use Rattle.bd_machine.specs.Admission.{has_range}
-use Rattle.bd_machine.specs.Asked.{is_script_blocked, most_requests, undecided_job}
+use Rattle.bd_machine.specs.Asked.{bound_to, is_script_blocked, most_requests, undecided_job}
 use Rattle.bd_machine.specs.BlockMap.{is_malloc}
+use Rattle.bd_machine.specs.Guards.{is_built_token}
 use Rattle.bd_machine.specs.Homes.{is_base}
 use Rattle.bd_machine.specs.Messages.{may_go}
+use Rattle.bd_machine.specs.Users.{is_base_handle}
+use Rattle.bd_machine.specs.View.{View}
 use Rattle.bd_turns.specs.declared.queue.Message.{Message}
 use Rattle.bd_thread.specs.declared.links.Links.{Links}
 use Rattle.bd_thread.specs.declared.thread.Thread.{Thread}
@@ -22,7 +27,7 @@ use Rattle.bd_thread.specs.declared.turn.Turned.TheVariants.{Moved, Quiet}
 use Rattle.bd_thread.specs.Destructs.{may_device_go}
 use Rattle.bd_thread.specs.Endings.{left_over}
 use Rattle.bd_thread.specs.Lines.{close_asked, job_now, open_asked, outcome_now}
-use Rattle.bd_thread.specs.Seen.{local, queues_of}
+use Rattle.bd_thread.specs.Seen.{local, queues_of, view_of}
 use Rattle.bd_thread.specs.Sent.{first_brought}
 use Rattle.bd_thread.specs.Served.{next_due}
 
@@ -61,27 +66,31 @@ NoSubmission t links = is_submission (job_now t links) && nat_lt (length t.part.
 
 -- no act can be made for the line: nothing can be opened, closed or submitted, and it has no outcome
 pub record NoLine (t : Thread) (links : Links) : Type 0 where
-  pub opening : open_asked t.part (job_now t links) ≡ None
-  pub closing : close_asked t.part (job_now t links) ≡ None
+  pub opening : open_asked t links ≡ None
+  pub closing : close_asked t links ≡ None
   pub submission : NoSubmission t links
   pub outcome : outcome_now t links ≡ None
 
--- what no thread does yet: a claim, a removal, a reset, an abort, a sleep, and a wait for a removal
-abbrev pub is_unbuilt : Job → Bool
-is_unbuilt (jobs.Claim handle kind) = true
-is_unbuilt (jobs.Submit handle op lba count) = not (has_range op)
-is_unbuilt (jobs.Remove dev) = true
-is_unbuilt (jobs.Sleep time) = true
-is_unbuilt (jobs.Gone handle) = true
-is_unbuilt _ = false
+abbrev pub is_base_if_any : Setup → Option HandleId → Bool
+is_base_if_any setup None = false
+is_base_if_any setup (Some id) = is_base_handle setup id
 
-abbrev pub asks_unbuilt : Option Job → Bool
-asks_unbuilt None = false
-asks_unbuilt (Some job) = is_unbuilt job
+-- what no thread does yet: a claim, a removal, a reset or an abort; nor does a script close a base handle
+abbrev pub is_unbuilt : Setup → View → Job → Bool
+is_unbuilt setup v (jobs.Close handle) = is_base_if_any setup (bound_to v.part handle)
+is_unbuilt setup v (jobs.Claim handle kind) = true
+is_unbuilt setup v (jobs.Submit handle op lba count) = not (has_range op)
+is_unbuilt setup v (jobs.Remove dev) = true
+is_unbuilt setup v _ = false
+
+abbrev pub asks_unbuilt : Setup → View → Option Job → Bool
+asks_unbuilt setup v None = false
+asks_unbuilt setup v (Some job) = is_unbuilt setup v job
 
 -- the Shutdown came, the script is at its end or blocked, or its next line asks for what no thread does yet
 abbrev pub is_line_waiting : Thread → Links → Bool
-is_line_waiting t links = links.shut || is_script_blocked t.setup.now t.me t.part || asks_unbuilt (undecided_job t.setup.now t.me t.part)
+is_line_waiting t links =
+    links.shut || is_script_blocked t.setup.now t.me (view_of t links) || asks_unbuilt t.setup.now (view_of t links) (undecided_job t.setup.now t.me t.part)
 
 -- ---- after Shutdown
 
@@ -125,23 +134,27 @@ has_room links to = nat_lt to (vec_len links.queues) && not (is_full links.queue
 -- the first of the outbox may go where it is to go, and there is room
 abbrev pub may_send : Thread → Links → List (ℕ × Token) → Bool
 may_send t links [] = false
-may_send t links (x ∷ xs) = has_room links x.0 && may_go t.setup.now t.me (local t links).view x.0 x.1
+may_send t links (x ∷ xs) = has_room links x.0 && is_built_token x.1 && may_go t.setup.now t.me (local t links).view x.0 x.1
 
 abbrev pub NothingToSend : Thread → Links → Type 0
 NothingToSend t links = may_send t links t.outbox.items ≡ false
 
--- there is room where the first mark that is due is to go
+abbrev pub token_of : News → Token
+token_of (news.Mark mark) = tokens.Mark mark
+token_of (news.Gone handle) = tokens.Gone handle
+token_of (news.Channel dev) = tokens.Channel dev
+token_of (news.Device dev) = tokens.Device dev
+token_of (news.Go req threads) = tokens.Go req threads
+
+-- the first message that is due is a mark, and there is room where it is to go
 abbrev pub may_post : Links → List Due → Bool
 may_post links [] = false
-may_post links (d ∷ ds) = has_room links d.receiver
+may_post links (d ∷ ds) = has_room links d.receiver && is_built_token (token_of d.news)
 
 abbrev pub NothingToPost : Thread → Links → Type 0
 NothingToPost t links = may_post links t.part.due ≡ false
 
-abbrev pub token_of : News → Token
-token_of (Mark mark) = tokens.Mark mark
-
--- the first mark that is due, and where it is to go
+-- the first message that is due, and where it is to go
 abbrev pub first_due : List Due → Option (ℕ × Token)
 first_due [] = None
 first_due (d ∷ ds) = Some (d.receiver, token_of d.news)
@@ -158,7 +171,7 @@ pub record IsIdle (Waits : Thread → Links → Type 0) (old : Thread) (before :
 abbrev pub Idles : (Thread → Links → Type 0) → Thread → Links → Thread → Links → Type 0
 Idles Waits old before new after = length after.entries ≤ length before.entries → IsIdle Waits old before new after
 
--- all that a thread waits for: a message that it can take, a piece that it can serve on a device whose home it is, a line that can go on, after Shutdown a handle that it can close or a device that it can destruct, and room for the first of its outbox, if that may go there, and for the first mark that is due
+-- all that a thread waits for: a message that it can take, a piece that it can serve on a device whose home it is, a line that can go on, after Shutdown a handle that it can close or a device that it can destruct, and room for the first of its outbox, if that may go there, and for the first message that is due
 pub record IsWaiting (t : Thread) (links : Links) : Type 0 where
   pub message : NoMessage t links
   pub piece : NoPiece t links

@@ -1,15 +1,16 @@
 //! When a request completes, and how.
 ghost use Rattle.std.specs.Prelude.{◌≡◌, length, IfOk, option_copied, Some};
 ghost use Rattle.std.specs.List.{list_all, range_with_len};
-ghost use Rattle.bd_machine.specs.Completion.{pieces_here};
-ghost use Rattle.bd_thread.specs.Completions.{ended, ending_cut, ending_of, ends_by, gone, is_ended, read_as, shown_by, shown_of, succeeds};
+ghost use Rattle.bd_machine.specs.Kept.{pieces_here};
+ghost use Rattle.bd_thread.specs.Completions.{ended, ending_cut, ending_of, ends_as, gone, is_ended, read_as, shown_by, shown_of, status_now};
 ghost use Rattle.bd_thread.specs.Seen.{here_in, view_seen};
 
 use crate::held::let_go;
 use crate::view::Seen;
-use bd_base::{Bytes, Op, OutOfMemory, ReqId, Shown, Status, digest_of};
+use bd_base::{Bytes, Op, OutOfMemory, ReqId, Setup, Shown, Status, digest_of};
 use bd_machine::{Id, Kept, OpenPiece, OpenRequest, Progress};
-use bd_rules::{PieceId, any_faulted, data_of, piece_here, request_here};
+use bd_rules::{data_read, may_complete, piece_here, request_here, status_due};
+use bd_view::PieceId;
 use std::alloc::Global;
 
 /// How a request with this number of pieces completes; a read with success shows its data.
@@ -66,98 +67,83 @@ fn shown_of(bytes: &Option<Bytes>) -> Option<Shown>
     }
 }
 
-fn read_as(pieces: u32, shown: Option<Shown>) -> Option<Ending>
-    ensures { result ≡ read_as pieces shown }
+fn read_as(pieces: u32, status: Status, shown: Option<Shown>) -> Option<Ending>
+    ensures { result ≡ read_as pieces status shown }
 {
     match shown {
         Some(s) => Some(Ending {
             pieces,
-            status: Status::Success,
+            status,
             shown: Some(s),
         }),
         None => None,
     }
 }
 
-// How a request completes none of whose pieces has a fault.
-fn succeeds(
+// How a request completes with this status.
+fn ends_as(
     alloc: Global,
     seen: &Seen,
     req: ReqId,
     r: OpenRequest,
     n: u32,
+    status: Status,
 ) -> Result<Option<Ending>, OutOfMemory>
-    ensures { IfOk result (λ e. e ≡ succeeds r n (pieces_here (view_seen seen.now) req n)) }
+    ensures { IfOk result (λ e. e ≡ ends_as (view_seen seen.now) req r n (Some status)) }
 {
-    if !matches!(r.op, Op::Read) {
+    if !(matches!(r.op, Op::Read) && matches!(status, Status::Success)) {
         return Ok(Some(Ending {
             pieces: n,
-            status: Status::Success,
+            status,
             shown: None,
         }));
     }
-    let data = data_of(alloc, seen, req, n)?;
-    Ok(read_as(n, shown_of(&data)))
+    let data = data_read(alloc, seen, req, r)?;
+    Ok(read_as(n, status, shown_of(&data)))
 }
 
-fn ends_by(
-    alloc: Global,
-    seen: &Seen,
-    req: ReqId,
-    r: OpenRequest,
-    n: u32,
-) -> Result<Option<Ending>, OutOfMemory>
-    ensures { IfOk result (λ e. e ≡ ends_by r n (pieces_here (view_seen seen.now) req n)) }
+// The status that the rules let the request have, if they let it complete.
+fn status_now(seen: &Seen, setup: &Setup, req: ReqId, r: OpenRequest) -> Option<Status>
+    ensures { result ≡ status_now setup.now (view_seen seen.now) req r }
 {
-    if any_faulted(seen, req, n) {
-        Ok(Some(Ending {
-            pieces: n,
-            status: Status::Failed,
-            shown: None,
-        }))
-    } else {
-        succeeds(alloc, seen, req, r, n)
-    }
+    status_due(seen, setup, req, r)
 }
 
 fn ending_cut(
     alloc: Global,
     seen: &Seen,
+    setup: &Setup,
+    me: u32,
     req: ReqId,
     r: OpenRequest,
 ) -> Result<Option<Ending>, OutOfMemory>
-    ensures { IfOk result (λ e. e ≡ ending_cut (view_seen seen.now) req r r.pieces) }
+    ensures { IfOk result (λ e. e ≡ ending_cut setup.now me (view_seen seen.now) req r r.pieces) }
 {
-    match r.pieces {
-        Some(n) => {
-            if all_ended(seen, req, n) {
-                ends_by(alloc, seen, req, r, n)
-            } else {
-                Ok(None)
-            }
-        }
+    let Some(n) = r.pieces else {
+        return Ok(None);
+    };
+    if !all_ended(seen, req, n) || !may_complete(seen, me, req) {
+        return Ok(None);
+    }
+    match status_now(seen, setup, req, r) {
+        Some(status) => ends_as(alloc, seen, req, r, n, status),
         None => Ok(None),
     }
 }
 
-/// How a request completes that is here on its own thread and cut, where every piece of it is back
-/// with its end.
+/// How a request completes that is here and cut, where every piece of it is back with its end, and the
+/// rules let it complete with a status.
 pub(crate) fn ending_of(
     alloc: Global,
     seen: &Seen,
+    setup: &Setup,
     me: u32,
     req: ReqId,
 ) -> Result<Option<Ending>, OutOfMemory>
-    ensures { IfOk result (λ e. e ≡ ending_of me (view_seen seen.now) req) }
+    ensures { IfOk result (λ e. e ≡ ending_of setup.now me (view_seen seen.now) req) }
 {
     match request_here(seen, req) {
-        Some(r) => {
-            if req.thread == me {
-                ending_cut(alloc, seen, req, r)
-            } else {
-                Ok(None)
-            }
-        }
+        Some(r) => ending_cut(alloc, seen, setup, me, req, r),
         None => Ok(None),
     }
 }

@@ -2,44 +2,44 @@
 //! its devices.
 ghost use Rattle.std.specs.Prelude.{◌≡◌, ◌<◌, vec_len, IfOk, OnOk};
 ghost use Rattle.bd_thread.specs.Acted.{Acted};
-ghost use Rattle.bd_thread.specs.Endings.{ClosesLeft, first_own, is_of_if_any, left_over, links_closed, may_close};
+ghost use Rattle.bd_thread.specs.Endings.{first_own, left_over, may_close, owes_nothing, ClosesLeft};
 ghost use Rattle.bd_thread.specs.Requests.{KeepsTickets};
 ghost use Rattle.bd_thread.specs.Waits.{Idles, NoDestruct, NoHandle, NothingLeft};
 
-use crate::links::{Links, add};
+use crate::links::Links;
 use crate::thread::Thread;
-use bd_base::{Act, Answer, DevId, HandleId, OutOfMemory, RegEvent};
-use bd_changes::register;
-use bd_machine::{Handle, Part};
-use bd_rules::{handle_of, open_on};
+use bd_base::{DevId, HandleId, OutOfMemory, RegEvent, Setup};
+use bd_blocks::is_base_handle;
+use bd_machine::Handle;
+use bd_view::handle_of;
 
-// The first handle of the thread.
-fn first_own(handles: &[Handle], me: u32) -> Option<HandleId>
-    ensures { result ≡ first_own me handles.now }
+// The first handle that the thread's script opened: of those that are the thread's, the first that is
+// no base handle.
+fn first_own(setup: &Setup, me: u32, handles: &[Handle]) -> Option<HandleId>
+    ensures { result ≡ first_own setup.now me handles.now }
 {
-    match handles.iter().find(|h| h.thread.0 == me) {
+    match handles
+        .iter()
+        .find(|h| h.thread.0 == me && !is_base_handle(setup, h.id))
+    {
         Some(handle) => Some(handle.id),
         None => None,
     }
 }
 
-fn is_of_if_any(me: u32, handle: Option<Handle>) -> bool
-    ensures { result ≡ is_of_if_any me handle }
-{
-    match handle {
-        Some(handle) => handle.thread.0 == me,
-        None => false,
-    }
-}
-
-// Whether the registry lets the thread close it, and no request of it is open.
-fn may_close(me: u32, part: &Part, handles: &[Handle], id: HandleId) -> bool
-    ensures { result ≡ may_close me part.now handles.now id }
-{
-    is_of_if_any(me, handle_of(handles, id)) && open_on(part, id) == 0
-}
-
 impl<'a> Thread<'a> {
+    // Whether the registry lets the thread close the handle, and the thread may ask for that.
+    fn may_close(&self, links: &Links, id: HandleId) -> bool
+        ensures { result ≡ may_close self.now links.now id }
+    {
+        match handle_of(links.registry.handles.as_slice(), id) {
+            Some(handle) => {
+                handle.thread.0 == self.me && self.may_ask(links, &RegEvent::Close { handle: id })
+            }
+            None => false,
+        }
+    }
+
     // The first handle of the thread that is left after Shutdown, where it may be closed.
     fn left_over(&self, links: &Links) -> Option<HandleId>
         ensures { result ≡ left_over self.now links.now }
@@ -47,9 +47,8 @@ impl<'a> Thread<'a> {
         if !links.shut {
             return None;
         }
-        let handles = links.registry.handles.as_slice();
-        let id = first_own(handles, self.me)?;
-        if may_close(self.me, &self.part, handles, id) {
+        let id = first_own(self.setup, self.me, links.registry.handles.as_slice())?;
+        if self.may_close(links, id) {
             Some(id)
         } else {
             None
@@ -65,10 +64,7 @@ impl<'a> Thread<'a> {
         let Some(id) = self.left_over(links) else {
             return Ok(false);
         };
-        let event = RegEvent::Close { handle: id };
-        let answer = Answer::Closed { destruct: None };
-        register(self.alloc, &mut links.registry, self.me, &event, &answer)?;
-        add(&mut links.entries, self.me, Act::Reg { event, answer })?;
+        self.ask(links, RegEvent::Close { handle: id })?;
         Ok(true)
     }
 
@@ -101,15 +97,22 @@ impl<'a> Thread<'a> {
         Ok(())
     }
 
-    /// After Shutdown closes the thread's handles and destructs the devices whose home it is, as
-    /// far as may be.
+    // Whether no Shutdown came, and the thread owes nothing.
+    fn owes_nothing(&self, links: &Links) -> bool
+        ensures { result ≡ owes_nothing self.now links.now }
+    {
+        !links.shut && self.part.owed.len() == 0
+    }
+
+    /// After Shutdown closes the thread's handles, and then, or where the thread was told to, destructs
+    /// the devices whose home it is, as far as may be.
     pub(crate) fn end_all(&mut self, links: &mut Links) -> Result<(), OutOfMemory>
         requires { self.old.me < vec_len links.old.queues }
         ensures acted { OnOk result (Acted self.old links.old self.new links.new) }
         ensures tickets { OnOk result (KeepsTickets self.old → KeepsTickets self.new) }
         ensures quiet { OnOk result (Idles NothingLeft self.old links.old self.new links.new) }
     {
-        if !links.shut {
+        if self.owes_nothing(links) {
             return Ok(());
         }
         self.close_all_left(links)?;

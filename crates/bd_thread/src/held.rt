@@ -5,7 +5,7 @@ ghost use Rattle.bd_thread.specs.Seen.{here_in, Sets};
 
 use bd_base::OutOfMemory;
 use bd_machine::{Id, Kept};
-use bd_rules::same_id;
+use bd_view::same_id;
 
 fn place_of(tokens: &[(Id, Kept)], id: Id) -> Option<usize>
     ensures { result ≡ position (λ token. same_id token.0 id) tokens.now }

@@ -9,16 +9,18 @@ ghost use Rattle.bd_thread.specs.Next.{IsNext, id_of};
 ghost use Rattle.bd_thread.specs.Requests.{KeepsTickets};
 ghost use Rattle.bd_thread.specs.Seen.{here_in};
 ghost use Rattle.bd_thread.specs.Sent.{KeepsRequests};
-ghost use Rattle.bd_thread.specs.Served.{Applies, next_due, next_in};
+ghost use Rattle.bd_thread.specs.Served.{next_due, next_in, Applies};
 
 use crate::held::hold;
-use crate::links::{Links, add};
+use crate::links::Links;
 use crate::thread::Thread;
 use bd_base::{Act, ApplyEnd, DevId, OutOfMemory, ReqId};
-use bd_blocks::{digest_due, is_home, size_of};
+use bd_blocks::{digest_due, find_base, is_home, size_of};
+use bd_changes::destructed;
 use bd_home::{can_serve, first_waiting, serve};
 use bd_machine::{Base, Id, Kept, OpenPiece};
-use bd_rules::{as_piece, is_unused, look_up, may_destruct};
+use bd_rules::{Release, may_destruct, may_hold};
+use bd_view::{as_piece, is_unused, look_up};
 
 // The piece that a thread serves next, by its name, as it is kept here.
 #[derive(Clone, Copy)]
@@ -45,7 +47,7 @@ fn next_in<'t>(bases: &[Base], tokens: &'t [(Id, Kept)], size: u32, dev: DevId) 
 impl<'a> Thread<'a> {
     /// Serves the first piece in the device's queue, and gives its id. None, and nothing changes,
     /// where this thread isn't the device's home, no piece waits there, it isn't here or isn't on
-    /// this device, or the content doesn't have its blocks.
+    /// this device, the content doesn't have its blocks, or the queue holds too many.
     pub(crate) fn apply(&mut self, links: &mut Links, dev: DevId) -> Result<Option<Id>, OutOfMemory>
         requires { self.old.me < vec_len links.old.queues }
         ensures acted { OnOk result (Acted self.old links.old self.new links.new) }
@@ -53,20 +55,24 @@ impl<'a> Thread<'a> {
         ensures keeps { OnOk result (KeepsRequests self.old links.old self.new links.new) }
         ensures applied { IfOk result (Applies self.old links.old self.new links.new dev) }
     {
-        if !is_home(self.setup, self.me, dev) {
+        let setup = self.setup;
+        let bases = self.part.bases.as_slice();
+        if !is_home(setup, self.me, dev) {
             return Ok(None);
         }
-        let size = size_of(self.setup, dev);
-        let Some(next) = next_in(self.part.bases.as_slice(), self.held.as_slice(), size, dev) else {
+        if !may_hold(setup, dev, find_base(bases, dev)) {
+            return Ok(None);
+        }
+        let size = size_of(setup, dev);
+        let Some(next) = next_in(bases, self.held.as_slice(), size, dev) else {
             return Ok(None);
         };
         let req = next.req;
         let k = next.k;
         let piece = serve(self.alloc, &mut self.part.bases, size, dev, next.piece)?;
         hold(&mut self.held, Id::Piece(req, k), Kept::Piece(piece))?;
-        add(
-            &mut links.entries,
-            self.me,
+        self.note(
+            links,
             Act::Apply {
                 req,
                 k,
@@ -77,9 +83,10 @@ impl<'a> Thread<'a> {
         Ok(Some(Id::Piece(req, k)))
     }
 
-    /// Destructs a device whose home this is, once, after Shutdown, when no handle of it is open.
-    /// The entry shows for malloc the digest of its blocks, and for another device none. False, and
-    /// nothing changes, where the device may not go, or it is malloc and its blocks aren't here.
+    /// Destructs a device whose home this is, once: where the thread was told to, or, as yet, after
+    /// Shutdown, when no handle of it is open but base handles. The entry shows for malloc the digest
+    /// of its blocks, and for another device none. False, and nothing changes, where the device may
+    /// not go, or it is malloc and its blocks aren't here.
     pub(crate) fn destruct(&mut self, links: &mut Links, dev: DevId) -> Result<bool, OutOfMemory>
         requires { self.old.me < vec_len links.old.queues }
         ensures acted { OnOk result (Acted self.old links.old self.new links.new) }
@@ -88,16 +95,19 @@ impl<'a> Thread<'a> {
         ensures destructed { IfOk result (Destructs self.old links.old self.new links.new dev) }
     {
         let setup = self.setup;
-        let unused = is_unused(&links.registry, dev);
-        let may = may_destruct(&self.seen(links), setup, self.me, unused, links.shut, dev);
-        if !may {
+        let came = Release {
+            free: true,
+            unused: is_unused(setup, &links.registry, dev),
+            shut: links.shut,
+        };
+        if !may_destruct(&self.seen(links), setup, self.me, came, dev) {
             return Ok(false);
         }
         let Some(digest) = digest_due(setup, self.part.bases.as_slice(), dev) else {
             return Ok(false);
         };
-        self.part.destructed.push(dev)?;
-        add(&mut links.entries, self.me, Act::Destruct { dev, digest })?;
+        destructed(&mut self.part, dev)?;
+        self.note(links, Act::Destruct { dev, digest })?;
         Ok(true)
     }
 }

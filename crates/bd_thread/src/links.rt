@@ -5,7 +5,8 @@ ghost use Rattle.bd_thread.specs.Resting.{are_empty, shut_down};
 ghost use Rattle.bd_thread.specs.Starts.{IsNewLinks, empty_queues};
 ghost use Rattle.bd_thread.specs.Waits.{is_full};
 
-use bd_base::{Act, Entry, OutOfMemory, Rows};
+use bd_base::{Act, Entry, OutOfMemory, Rows, Setup};
+use bd_blocks::registry_at_start;
 use bd_machine::Registry;
 use bd_turns::Message;
 use std::alloc::Global;
@@ -82,15 +83,13 @@ pub struct Links {
 }
 
 impl Links {
-    /// What the threads share before any entry: an empty queue for each.
-    pub fn new(alloc: Global, threads: u32) -> Result<Links, OutOfMemory>
-        ensures { IfOk result (λ links. IsNewLinks threads links) }
+    /// What the threads share before any entry: an empty queue for each, the registry with the base
+    /// handles and the channels of limited devices' homes, and no entry.
+    pub fn new(alloc: Global, setup: &Setup) -> Result<Links, OutOfMemory>
+        ensures { IfOk result (λ links. IsNewLinks setup.now links) }
     {
-        let queues = empty_queues(alloc, threads)?;
-        let registry = Registry {
-            handles: Rows::new(alloc),
-            next: 0,
-        };
+        let queues = empty_queues(alloc, setup.threads)?;
+        let registry = registry_at_start(alloc, setup)?;
         Ok(Links {
             queues,
             registry,

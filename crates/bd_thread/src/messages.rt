@@ -2,47 +2,55 @@
 ghost use Rattle.std.specs.Prelude.{◌≡◌, ◌<◌, true, is_some, length, vec_len, IfOk, OnOk, Some, None};
 ghost use Rattle.bd_machine.specs.Alone.{held_after};
 ghost use Rattle.bd_machine.specs.Guards.{is_built_token};
-ghost use Rattle.bd_machine.specs.Messages.{brings, moves_took};
 ghost use Rattle.bd_thread.specs.Acted.{Acted};
 ghost use Rattle.bd_thread.specs.Requests.{KeepsTickets};
 ghost use Rattle.bd_thread.specs.Seen.{here_in, queues_of, Sets};
-ghost use Rattle.bd_thread.specs.Sent.{first_brought, kept_on_way, may_put, KeepsRequests, Puts, Takes};
+ghost use Rattle.bd_thread.specs.Sent.{first_brought, kept_on_way, landed, may_put, KeepsRequests, Puts, Takes};
 
 use crate::held::{hold, let_go, take_out};
-use crate::links::{Links, Queue, add, pop, push};
+use crate::links::{Links, Queue, pop, push};
 use crate::thread::Thread;
 use bd_base::{Act, OutOfMemory, Token};
-use bd_changes::{progress_put, progress_took, took};
-use bd_machine::{Id, Kept, News};
+use bd_changes::{arrived, news_of, progress_took, sent, took};
+use bd_machine::{Id, Kept};
 use bd_rules::{brings, count_at, id_of, may_go};
 use bd_turns::Message;
 
-// Whether the first message to the thread brings the token that it names.
+// Whether it is a piece or a mark: threads put and take no other tokens yet.
+fn is_built_token(what: &Token) -> bool
+    ensures { result ≡ is_built_token what.now }
+{
+    matches!(what, Token::Piece(_, _) | Token::Mark(_))
+}
+
+// Whether the first message to the thread brings the token that it names, a piece or a mark.
 fn may_take(queues: &[Queue], me: usize) -> bool
     requires { me < length queues.now }
     ensures { result ≡ is_some (first_brought (queues_of queues.now me)) }
 {
     match queues[me].first() {
-        Some(message) => brings(&message.what, Some(&message.kept)),
+        Some(message) => {
+            is_built_token(&message.what) && brings(&message.what, Some(&message.kept))
+        }
         None => false,
     }
 }
 
-// What a message brought is on this thread: a piece, or for a mark nothing.
-fn arrive(tokens: &mut Vec<(Id, Kept)>, id: Id, what: &Token, kept: Kept) -> Result<(), OutOfMemory>
-    requires { brings what.now (Some kept) ≡ true }
-    ensures { OnOk result (here_in tokens.new.items ≡ held_after (moves_took id (Some kept)) (here_in tokens.old.items)) }
+// The token of a message that was taken is on this thread, unless it is sent once alone.
+fn land(tokens: &mut Vec<(Id, Kept)>, id: Id, kept: Kept) -> Result<(), OutOfMemory>
+    ensures { OnOk result (here_in tokens.new.items ≡ held_after (landed id kept) (here_in tokens.old.items)) }
 {
-    match (what, kept) {
-        (Token::Piece(_, _), Kept::Piece(mut piece)) => {
+    match kept {
+        Kept::Piece(mut piece) => {
             piece.progress = progress_took(piece.progress);
             hold(tokens, id, Kept::Piece(piece))
         }
-        (Token::Mark(_), Kept::Notice(_)) => {
+        Kept::Notice(_) => {
             let_go(tokens, id);
             Ok(())
         }
-        _ => unreachable!(),
+        Kept::Request(request) => hold(tokens, id, Kept::Request(request)),
+        Kept::Walk(walk) => hold(tokens, id, Kept::Walk(walk)),
     }
 }
 
@@ -52,36 +60,33 @@ fn leave(tokens: &mut Vec<(Id, Kept)>, id: Id, what: &Token) -> Result<Kept, Out
     ensures kept { IfOk result (λ kept. kept_on_way what.now (here_in tokens.old.items id) ≡ Some kept) }
     ensures gone { OnOk result (Sets tokens.old.items tokens.new.items id None) }
 {
-    match what {
-        Token::Piece(_, _) => {
-            let Some(Kept::Piece(mut piece)) = take_out(tokens, id) else {
-                unreachable!()
-            };
-            piece.progress = progress_put(piece.progress);
-            Ok(Kept::Piece(piece))
-        }
-        Token::Mark(mark) => {
-            let name = mark.copy()?;
-            let_go(tokens, id);
-            Ok(Kept::Notice(News::Mark(name)))
-        }
-        _ => unreachable!(),
+    if let Some(told) = news_of(what)? {
+        let_go(tokens, id);
+        return Ok(Kept::Notice(told));
+    }
+    match take_out(tokens, id) {
+        Some(kept) => Ok(sent(kept)),
+        None => unreachable!(),
     }
 }
 
 fn copy_of(what: &Token) -> Result<Token, OutOfMemory>
-    requires { is_built_token what.now ≡ true }
     ensures { IfOk result (λ token. token ≡ what.now) }
 {
     match what {
+        Token::Request(req) => Ok(Token::Request(*req)),
         Token::Piece(req, k) => Ok(Token::Piece(*req, *k)),
+        Token::Walk(walk) => Ok(Token::Walk(*walk)),
+        Token::Go(req, threads) => Ok(Token::Go(*req, *threads)),
+        Token::Gone(handle) => Ok(Token::Gone(*handle)),
+        Token::Channel(dev) => Ok(Token::Channel(*dev)),
+        Token::Device(dev) => Ok(Token::Device(*dev)),
         Token::Mark(mark) => Ok(Token::Mark(mark.copy()?)),
-        _ => unreachable!(),
     }
 }
 
 impl<'a> Thread<'a> {
-    /// Takes the first message, where it brings the token that it names.
+    /// Takes the first message, where it brings the token that it names, a piece or a mark.
     pub(crate) fn take(&mut self, links: &mut Links) -> Result<Option<Id>, OutOfMemory>
         requires { self.old.me < vec_len links.old.queues }
         ensures acted { OnOk result (Acted self.old links.old self.new links.new) }
@@ -98,12 +103,19 @@ impl<'a> Thread<'a> {
         };
         let Message { sender, what, kept } = message;
         let number = count_at(self.part.taken.as_slice(), sender);
-        took(&mut self.part, sender, number, &what, Some(&kept))?;
-        let id = id_of(sender, self.me, number, &what);
-        arrive(&mut self.held, id, &what, kept)?;
-        add(
-            &mut links.entries,
+        took(&mut self.part, sender, number)?;
+        arrived(
+            self.alloc,
+            &mut self.part,
+            self.setup,
             self.me,
+            &what,
+            Some(&kept),
+        )?;
+        let id = id_of(sender, self.me, number, &what);
+        land(&mut self.held, id, kept)?;
+        self.note(
+            links,
             Act::Took {
                 source: sender,
                 number,
@@ -113,11 +125,12 @@ impl<'a> Thread<'a> {
         Ok(Some(id))
     }
 
-    /// Whether there is a queue to the thread, and the token may go there.
+    /// Whether there is a queue to the thread, and the token, a piece or a mark, may go there.
     pub(crate) fn may_put(&self, links: &Links, to: u32, what: &Token) -> bool
         ensures { result ≡ may_put self.now links.now to what.now }
     {
         (to as usize) < links.queues.len()
+            && is_built_token(what)
             && may_go(&self.seen(links), self.setup, self.me, to, what)
     }
 
@@ -151,7 +164,7 @@ impl<'a> Thread<'a> {
                 kept,
             },
         )?;
-        add(&mut links.entries, self.me, Act::Put { to, number, what })?;
+        self.note(links, Act::Put { to, number, what })?;
         Ok(true)
     }
 }

@@ -23,8 +23,8 @@ pub(crate) fn hold_pieces(
 {
     let mut k: u32 = 0;
     for extent in extents {
-        let kept = Kept::Piece(new_piece(setup, r, k, *extent));
-        hold(tokens, Id::Piece(req, k), kept)?;
+        let piece = new_piece(setup, r, k, *extent)?;
+        hold(tokens, Id::Piece(req, k), Kept::Piece(piece))?;
         let Some(more) = k.checked_add(1) else {
             return Err(OutOfMemory);
         };

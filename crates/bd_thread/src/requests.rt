@@ -2,7 +2,7 @@
 ghost use Rattle.std.specs.Prelude.{◌≡◌, ◌<◌, length, vec_len, Some, None, IfOk, IfErr, IfSome, IfNone, OnOk, true, false};
 ghost use Rattle.bd_msg.specs.Purse.{without};
 ghost use Rattle.bd_machine.specs.Asked.{is_handle_on};
-ghost use Rattle.bd_machine.specs.Completion.{request_here};
+ghost use Rattle.bd_machine.specs.Kept.{request_here};
 ghost use Rattle.bd_machine.specs.Registry.{handle_of};
 ghost use Rattle.bd_machine.specs.Requests.{may_cut};
 ghost use Rattle.bd_thread.specs.Acted.{Acted};
@@ -13,22 +13,25 @@ ghost use Rattle.bd_thread.specs.Seen.{number_of, view_of};
 
 use crate::completion::{Ending, drop_request, ending_of};
 use crate::held::hold;
-use crate::links::{Links, add};
+use crate::links::Links;
 use crate::pieces::{hold_pieces, send_pieces};
 use crate::thread::Thread;
+use bd_asked::{MOST_REQUESTS, next_line};
 use bd_base::{Act, DevId, Errno, HandleId, OutOfMemory, ReqId, Rows, Status};
 use bd_blocks::{extents, home};
-use bd_changes::{accepted, remove_open};
-use bd_machine::{Decided, Extent, Id, Kept, OpenRequest};
+use bd_changes::{accepted, completed};
+use bd_machine::{Decided, Extent, Id, Kept, Open, OpenRequest};
 use bd_msg::{Purse, Ticket};
-use bd_rules::{MOST_REQUESTS, Submission, admit, uncut};
+use bd_rules::{admit, new_request, uncut};
+use bd_view::Submission;
 
 /// Why a submission isn't accepted.
 #[derive(Clone, Copy, Debug, PartialEq, Eq)]
 pub enum Refused {
-    /// It can't be done: `BadDesc` where the handle isn't open, or for a write, zeroes, unmap or
-    /// flush where it is open for reading; then `NotSup` for an unmap of an aio device; then `Inval`
-    /// for no block, more than 262,144 bytes, or a range past the device's end.
+    /// It can't be done: `NoDev` where the handle's device is being removed here; then `BadDesc`
+    /// where the handle isn't open, or for a write, zeroes, unmap or flush where it is open for
+    /// reading; then `NotSup` for an unmap of an aio device; then `Inval` for no block, more than
+    /// 262,144 bytes, or a range past the device's end.
     Errno(Errno),
     /// As many requests are open as a thread may have. Nothing changed.
     Full,
@@ -93,9 +96,9 @@ impl<'a> Thread<'a> {
         ensures { OnOk result (IsRefused errno handle asked self.old links.old self.new links.new) }
     {
         let Submission { op, lba, count } = asked;
-        add(
-            &mut links.entries,
-            self.me,
+        self.part.decided = Some(Decided::Refused(errno));
+        self.note(
+            links,
             Act::Refuse {
                 handle,
                 op,
@@ -104,7 +107,6 @@ impl<'a> Thread<'a> {
                 errno,
             },
         )?;
-        self.part.decided = Some(Decided::Refused(errno));
         Ok(())
     }
 
@@ -155,20 +157,19 @@ impl<'a> Thread<'a> {
         ensures room { OnOk result (length self.old.purse.ids < self.new.purse.capacity) }
     {
         self.purse.reserve(1)?;
+        let kept = Kept::Request(new_request(handle, dev, asked));
+        hold(&mut self.held, Id::Request(req), kept)?;
         let Submission { op, lba, count } = asked;
-        let kept = Kept::Request(OpenRequest {
+        let request = Open {
+            id: req,
             handle,
             dev,
             op,
-            lba,
-            count,
-            pieces: None,
-        });
-        hold(&mut self.held, Id::Request(req), kept)?;
-        accepted(&mut self.part, req, dev, handle, asked)?;
-        add(
-            &mut links.entries,
-            self.me,
+        };
+        let line = next_line(self.setup, self.me, &self.part);
+        accepted(&mut self.part, line, request)?;
+        self.note(
+            links,
             Act::Accept {
                 req,
                 dev,
@@ -177,19 +178,21 @@ impl<'a> Thread<'a> {
                 lba,
                 count,
             },
-        )
+        )?;
+        Ok(())
     }
 
-    /// Cuts a request that is here on its own thread, has a range and isn't cut, and answers into how
-    /// many pieces: they are here, to be put to their home in order. 0 where there is no such request,
-    /// and then nothing changed.
+    /// Cuts a request that may be cut (it is here on its own thread, has a range, every Let and every
+    /// decision, and is neither cut nor aborted nor marked), and answers into how many pieces: they are
+    /// here, to be put to their home in order. 0 where there is no such request, and then nothing
+    /// changed.
     pub fn cut(&mut self, links: &mut Links, req: ReqId) -> Result<u32, OutOfMemory>
         requires me { number_of self.old < vec_len links.old.queues }
         ensures acted { OnOk result (Acted self.old links.old self.new links.new) }
         ensures cut { IfOk result (Cuts req self.old links.old self.new links.new) }
         ensures tickets { OnOk result (KeepsTickets self.old → KeepsTickets self.new) }
     {
-        let Some(r) = uncut(&self.seen(links), self.me, req) else {
+        let Some(r) = uncut(&self.seen(links), self.setup, self.me, req) else {
             return Ok(0);
         };
         self.cut_into(links, req, r)
@@ -203,7 +206,7 @@ impl<'a> Thread<'a> {
         r: OpenRequest,
     ) -> Result<u32, OutOfMemory>
         requires here { request_here (view_of self.old links.old) req ≡ Some r }
-        requires may { may_cut self.old.me req (Some r) ≡ true }
+        requires may { may_cut self.old.setup.now self.old.me (view_of self.old links.old) req (Some r) ≡ true }
         ensures acted { OnOk result (Acted self.old links.old self.new links.new) }
         ensures cut { IfOk result (λ n. IsCut req r n self.old links.old self.new links.new) }
         ensures tickets { OnOk result (KeepsTickets self.old → KeepsTickets self.new) }
@@ -218,21 +221,24 @@ impl<'a> Thread<'a> {
         hold(&mut self.held, Id::Request(req), kept)?;
         hold_pieces(&mut self.held, setup, req, r, found.as_slice())?;
         send_pieces(&mut self.outbox, home(setup, r.dev), req, n)?;
-        add(&mut links.entries, self.me, Act::Cut { req, pieces: n })?;
+        self.note(links, Act::Cut { req, pieces: n })?;
         Ok(n)
     }
 
-    /// Completes a request that is here on its own thread and cut, where every piece of it is back with
-    /// its end: it fails where one has a fault. A read that succeeds shows the first 8 bytes and the
-    /// digest of its data, and completes only where there are as many. Its ticket is spent. Else the
-    /// answer is false, and nothing changed.
+    /// Completes a request that is here and cut, where every piece of it is back with its end and the
+    /// rules let it complete: on its own thread, with no walk of its reset under way and no delay left.
+    /// It fails where a piece has a fault or a failure was injected, and is aborted where an abort
+    /// reached it. A read that succeeds shows the first 8 bytes and the digest of its data, and
+    /// completes only where there are as many. Its ticket is spent. Else the answer is false, and
+    /// nothing changed.
     pub fn complete(&mut self, links: &mut Links, req: ReqId) -> Result<bool, OutOfMemory>
         requires me { number_of self.old < vec_len links.old.queues }
         ensures acted { OnOk result (Acted self.old links.old self.new links.new) }
         ensures completes { IfOk result (Completes req self.old links.old self.new links.new) }
         ensures tickets { OnOk result (KeepsTickets self.old → KeepsTickets self.new) }
     {
-        let Some(ending) = ending_of(self.alloc, &self.seen(links), self.me, req)? else {
+        let Some(ending) = ending_of(self.alloc, &self.seen(links), self.setup, self.me, req)?
+        else {
             return Ok(false);
         };
         self.end(links, req, ending)?;
@@ -241,7 +247,7 @@ impl<'a> Thread<'a> {
 
     // The request completes so.
     fn end(&mut self, links: &mut Links, req: ReqId, ending: Ending) -> Result<(), OutOfMemory>
-        requires { ending_of self.old.me (view_of self.old links.old) req ≡ Some ending }
+        requires { ending_of self.old.setup.now self.old.me (view_of self.old links.old) req ≡ Some ending }
         ensures acted { OnOk result (Acted self.old links.old self.new links.new) }
         ensures completed { OnOk result (IsCompleted req ending self.old links.old self.new links.new) }
         ensures tickets { OnOk result (KeepsTickets self.old → KeepsTickets self.new) }
@@ -252,13 +258,9 @@ impl<'a> Thread<'a> {
             shown,
         } = ending;
         drop_request(&mut self.held, req, pieces);
-        remove_open(self.alloc, &mut self.part.requests, req);
+        completed(self.alloc, &mut self.part, req);
         spend(&mut self.purse, req, status);
-        add(
-            &mut links.entries,
-            self.me,
-            Act::Complete { req, status, shown },
-        )?;
+        self.note(links, Act::Complete { req, status, shown })?;
         Ok(())
     }
 }

@@ -4,10 +4,12 @@ ghost use Rattle.std.specs.List.{list_all, list_any, range_with_len};
 ghost use Rattle.bd_machine.specs.Same.{same_dev};
 ghost use Rattle.bd_thread.specs.Resting.{has_destructed_all, is_blocked, is_done_with, rests};
 
+use crate::links::Links;
 use crate::thread::Thread;
+use bd_asked::is_script_blocked;
 use bd_base::{DevId, Setup};
 use bd_blocks::home;
-use bd_rules::{has_destructed, is_script_blocked};
+use bd_rules::has_destructed;
 
 // Whether another thread is the device's home, or it was destructed.
 fn is_done_with(setup: &Setup, me: u32, destructed: &[DevId], n: u32) -> bool
@@ -29,19 +31,24 @@ fn are_done_with(setup: &Setup, me: u32, destructed: &[DevId], count: u32) -> bo
 }
 
 impl<'a> Thread<'a> {
-    /// Whether no token is on the thread, and no mark of it is still to be put.
+    /// Whether no token is on the thread, nothing is still to be put or done, no remove event came, and
+    /// its last entry took no injection.
     pub fn rests(&self) -> bool
         ensures { result ≡ rests self.now }
     {
-        self.held.len() == 0 && self.part.due.len() == 0
+        self.held.len() == 0
+            && self.part.due.len() == 0
+            && self.part.owed.len() == 0
+            && self.part.gone.len() == 0
+            && self.part.injection.is_none()
     }
 
-    /// Whether its script is at its end, or the next line waits for a mark, for its open requests, or
-    /// for room.
-    pub fn is_blocked(&self) -> bool
-        ensures { result ≡ is_blocked self.now }
+    /// Whether its script is at its end, or the next line waits for a mark, for a remove event, for its
+    /// open requests, or for room.
+    pub fn is_blocked(&self, links: &Links) -> bool
+        ensures { result ≡ is_blocked self.now links.now }
     {
-        is_script_blocked(self.setup, self.me, &self.part)
+        is_script_blocked(&self.seen(links), self.setup, self.me)
     }
 
     /// Whether each device whose home it is was destructed.

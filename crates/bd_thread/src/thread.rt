@@ -1,9 +1,11 @@
 //! A thread: what it holds.
-ghost use Rattle.std.specs.Prelude.{IfOk};
+ghost use Rattle.std.specs.Prelude.{◌≡◌, IfOk, OnOk};
 ghost use Rattle.bd_thread.specs.Requests.{KeepsTickets};
+ghost use Rattle.bd_thread.specs.Seen.{longer, untaken};
 ghost use Rattle.bd_thread.specs.Starts.{IsNew};
 
-use bd_base::{OutOfMemory, Setup, Token};
+use crate::links::{Links, add};
+use bd_base::{Act, OutOfMemory, Setup, Token};
 use bd_blocks::part_at_start;
 use bd_machine::{Id, Kept, Part};
 use bd_msg::Purse;
@@ -41,6 +43,16 @@ impl<'a> Thread<'a> {
             outbox: VecDeque::new(alloc),
             purse: Purse::new(alloc),
         })
+    }
+
+    /// Adds to the list what the thread did, with the next stamp. What the act before took of an error
+    /// device is let go.
+    pub(crate) fn note(&mut self, links: &mut Links, act: Act) -> Result<(), OutOfMemory>
+        ensures thread { OnOk result (self.new ≡ record self.old { part = untaken self.old.part }) }
+        ensures links { OnOk result (links.new ≡ record links.old { entries = longer self.old.me links.old.entries act }) }
+    {
+        self.part.injection = None;
+        add(&mut links.entries, self.me, act)
     }
 
     /// Abandons every ticket, where the run halts.

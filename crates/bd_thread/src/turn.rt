@@ -4,15 +4,17 @@ ghost use Rattle.bd_thread.specs.Acted.{Acted};
 ghost use Rattle.bd_thread.specs.Seen.{number_of};
 ghost use Rattle.bd_thread.specs.Requests.{IsAsked, IsFresh, KeepsTickets};
 ghost use Rattle.bd_thread.specs.Moves.{turned_of, AddsMore, IsNextTicket, SendsFirst, Serves};
-ghost use Rattle.bd_thread.specs.Waits.{first_due, may_send, Idles, IsFilled, NoLine, NoMessage, NoPiece, NoPieceOn, NoSubmission, NothingToPost, NothingToSend, Quiets};
+ghost use Rattle.bd_thread.specs.Waits.{first_due, may_send, token_of, Idles, IsFilled, NoLine, NoMessage, NoPiece, NoPieceOn, NoSubmission, NothingToPost, NothingToSend, Quiets};
 
 use crate::links::{Links, is_full};
 use crate::requests::Refused;
 use crate::thread::Thread;
+use bd_asked::{MOST_REQUESTS, bound_to, undecided_job};
 use bd_base::{DevId, Errno, HandleId, Job, OutOfMemory, ReqId, ThreadId, Token};
 use bd_machine::{Id, News};
 use bd_msg::{Mint, Ticket};
-use bd_rules::{MOST_REQUESTS, Submission, bound_to, has_range, undecided_job};
+use bd_rules::has_range;
+use bd_view::Submission;
 
 /// How many messages a turn takes, pieces of a store it serves, and lines it does, at most (SPDK's
 /// batch of messages).
@@ -50,6 +52,19 @@ pub(crate) fn next_ticket(thread: u32, next: u64) -> Option<Ticket>
         mint.meet(next - 1);
     }
     Some(mint.issue())
+}
+
+// The token that tells the news.
+fn token_of(news: &News) -> Result<Token, OutOfMemory>
+    ensures { IfOk result (λ what. what ≡ token_of news.now) }
+{
+    match news {
+        News::Mark(mark) => Ok(Token::Mark(mark.copy()?)),
+        News::Gone(handle) => Ok(Token::Gone(*handle)),
+        News::Channel(dev) => Ok(Token::Channel(*dev)),
+        News::Device(dev) => Ok(Token::Device(*dev)),
+        News::Go(req, threads) => Ok(Token::Go(*req, *threads)),
+    }
 }
 
 impl<'a> Thread<'a> {
@@ -258,20 +273,21 @@ impl<'a> Thread<'a> {
         }
     }
 
-    // The first mark that is due, and its receiver.
+    // The first message that is due, and its receiver.
     fn first_due(&self) -> Result<Option<(u32, Token)>, OutOfMemory>
         ensures { IfOk result (λ due. due ≡ first_due self.now.part.due) }
     {
         match self.part.due.as_slice().first() {
             Some(due) => {
-                let News::Mark(mark) = &due.news;
-                Ok(Some((due.receiver, Token::Mark(mark.copy()?))))
+                let what = token_of(&due.news)?;
+                Ok(Some((due.receiver, what)))
             }
             None => Ok(None),
         }
     }
 
-    // Puts the first mark that is due on its way, unless the queue that it goes to is full.
+    // Puts the first message that is due on its way, where it is a mark, unless the queue that it
+    // goes to is full.
     fn put_due(&mut self, links: &mut Links) -> Result<bool, OutOfMemory>
         requires { self.old.me < vec_len links.old.queues }
         ensures acted { OnOk result (Acted self.old links.old self.new links.new) }

@@ -4,21 +4,29 @@ ghost use Rattle.bd_thread.specs.Seen.{view_of, view_seen};
 
 use crate::links::Links;
 use crate::thread::Thread;
-use bd_base::HandleId;
-use bd_machine::{Handle, Id, Kept, Part};
-use bd_rules::{Sees, look_up, own_handle};
+use bd_base::{DevId, HandleId};
+use bd_blocks::references;
+use bd_machine::{Handle, Id, Kept, Part, Registry};
+use bd_view::{Sees, look_up, own_handle};
 
-/// What a thread sees: its part, what it holds of tokens, and among all handles its own.
+/// What a thread sees: its part, what it holds of tokens, and of the registry its own handles and
+/// channels.
 #[derive(Clone, Copy)]
 pub(crate) struct Seen<'s> {
     me: u32,
     part: &'s Part,
     held: &'s [(Id, Kept)],
-    handles: &'s [Handle],
+    registry: &'s Registry,
 }
 
 impl<'s> Sees for Seen<'s> {
     ghost view_of = { λ s. view_seen s };
+
+    ghost thread_of = { λ s. s.me };
+
+    fn thread(&self) -> u32 {
+        self.me
+    }
 
     fn part(&self) -> &Part {
         self.part
@@ -29,7 +37,15 @@ impl<'s> Sees for Seen<'s> {
     }
 
     fn handle(&self, id: HandleId) -> Option<Handle> {
-        own_handle(self.handles, self.me, id)
+        own_handle(self.registry.handles.as_slice(), self.me, id)
+    }
+
+    fn handles(&self) -> &[Handle] {
+        self.registry.handles.as_slice()
+    }
+
+    fn channels(&self, dev: DevId) -> Option<u128> {
+        references(self.registry, self.me, dev)
     }
 }
 
@@ -42,7 +58,7 @@ impl<'a> Thread<'a> {
             me: self.me,
             part: &self.part,
             held: self.held.as_slice(),
-            handles: links.registry.handles.as_slice(),
+            registry: &links.registry,
         }
     }
 }

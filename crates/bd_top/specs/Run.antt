@@ -11,7 +11,7 @@ use Rattle.bd_machine.specs.Destruction.{IsAfterLastClose}
 use Rattle.bd_machine.specs.Laws.{IsCompletedOnce, count_of, is_destruct_of}
 use Rattle.bd_machine.specs.Lines.{GoesAsFar}
 use Rattle.bd_machine.specs.Run.{IsCompleteRun}
-use Rattle.bd_machine.specs.Start.{dev_of}
+use Rattle.bd_machine.specs.Users.{dev_of}
 use Rattle.bd_jobs.specs.ScriptGrammar.{scripts_of, IsFirstOutside}
 use Rattle.bd_outside.specs.File.{Told, IsAbsent, Content}
 use Rattle.bd_outside.specs.Host.{HostState, FailsAt, Misses}

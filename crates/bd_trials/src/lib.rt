@@ -5,11 +5,7 @@
 #[cfg(test)]
 mod base;
 #[cfg(test)]
-mod blocks;
-#[cfg(test)]
 mod config;
-#[cfg(test)]
-mod cut;
 #[cfg(test)]
 mod delay;
 #[cfg(test)]
@@ -28,7 +24,5 @@ mod poller;
 mod qos;
 #[cfg(test)]
 mod report;
-#[cfg(test)]
-mod stack;
 #[cfg(test)]
 mod user;

@@ -1,6 +1,7 @@
 -- Act by act: a Put sends its token, a Took takes its token in, and every other act leaves queues and counts.
-use Rattle.std.proofs.Common.{◌≡◌, ℕ, ◌+◌, true, false, List, [], ◌∷◌, Option, Some, None, is_some, refl}
-use Rattle.std.specs.List.{AllByRecursion}
+use Rattle.std.proofs.Common.{◌≡◌, ℕ, Bool, true, false, ◌||◌, ◌==◌, List, [], ◌∷◌, Option, Some, None, is_some, refl, sym, ◌∙◌, ap, subst}
+use Rattle.std.specs.List.{list_any}
+use Rattle.std.proofs.lemmas.Bool.{and_parts}
 use Rattle.bd_base.specs.declared.act.Act.{Act}
 use Rattle.bd_base.specs.declared.act.Act.TheVariants as acts
 use Rattle.bd_base.specs.declared.act.ApplyEnd.{ApplyEnd}
@@ -10,47 +11,107 @@ use Rattle.bd_base.specs.declared.id.DevId.{DevId}
 use Rattle.bd_base.specs.declared.id.ReqId.{ReqId}
 use Rattle.bd_base.specs.declared.setup.Setup.{Setup}
 use Rattle.bd_machine.specs.declared.state.Base.{Base}
-use Rattle.bd_machine.specs.declared.state.Extent.{Extent}
 use Rattle.bd_machine.specs.declared.state.Id.{Id}
-use Rattle.bd_machine.specs.declared.state.Id.TheVariants.{Piece}
 use Rattle.bd_machine.specs.declared.state.Kept.{Kept}
 use Rattle.bd_machine.specs.declared.state.Kept.TheVariants as keeps
-use Rattle.bd_machine.specs.declared.state.News.TheVariants.{Mark}
+use Rattle.bd_machine.specs.declared.state.Due.{Due}
+use Rattle.bd_machine.specs.declared.state.News.{News}
+use Rattle.bd_machine.specs.declared.state.News.TheVariants as news
 use Rattle.bd_machine.specs.declared.state.OpenPiece.{OpenPiece}
-use Rattle.bd_machine.specs.declared.state.OpenRequest.{OpenRequest}
-use Rattle.bd_machine.specs.declared.state.Part.{Part}
+use Rattle.bd_machine.specs.Aborts.{aborted}
 use Rattle.bd_machine.specs.BlockMap.{size_of}
-use Rattle.bd_machine.specs.Completion.{request_here, piece_here}
-use Rattle.bd_machine.specs.Guards.{guards, change}
-use Rattle.bd_machine.specs.Homes.{base_here, change_applied}
-use Rattle.bd_machine.specs.Messages.{part_took, moves_took, moves_put, piece_put, sent, brings, is_token_here, may_go}
-use Rattle.bd_machine.specs.Requests.{cut_into, pieces_made, extents_of, closed_with, pieces_closed, pieces_of}
-use Rattle.bd_machine.specs.View.{View, Came, Change, Move, Going, Here, To, Closed, took, id_of}
+use Rattle.bd_machine.specs.Delays.{held, released}
+use Rattle.bd_machine.specs.Guards.{guards, change, change_by}
+use Rattle.bd_machine.specs.Homes.{base_here, change_applied, refused}
+use Rattle.bd_machine.specs.Injections.{injected, pended}
+use Rattle.bd_machine.specs.Kept.{as_request, as_piece, as_walk, request_here, piece_here, walk_here}
+use Rattle.bd_machine.specs.Limits.{passed as let_pass}
+use Rattle.bd_machine.specs.Messages.{moves_put, token_put, brings, is_token_here, may_go, is_due_to}
+use Rattle.bd_machine.specs.Same.{same_dev, same_news}
+use Rattle.bd_machine.specs.View.{View, Came, Change, Move, To, took, id_of}
+use Rattle.bd_machine.specs.Walks.{marked_by}
 use Rattle.bd_machine.proofs.Acts.{Passes, passed, TakesFrom}
+use Rattle.bd_machine.proofs.Parts.{Core, is_plain, taken_by_act, plain_grows}
 use Rattle.bd_turns.specs.declared.queue.Message.{Message}
+use Rattle.bd_machine.proofs.Tables.{dev_exact}
 use Rattle.bd_turns.specs.Local.{queue_after}
+use Rattle.bd_turns.specs.Told.{is_device, is_device_kept, is_device_due}
+use Rattle.bd_turns.proofs.Homing.{AreHome, walked_if_home, edited_home, piece_home, cut_home, closed_home, applied_home, reg_home}
 
 -- ---- put
 
 abbrev pub put_move : ℕ → ℕ → ℕ → Token → Kept → Move
 put_move t to number what kept = record { id = id_of t to number what; kept = kept; going = To to number }
 
--- the one token that a Put moves
+-- the one token that a Put moves; a device that it tells of was due
 pub record Sends (t : ℕ) (v : View) (to number : ℕ) (what : Token) : Type 0 where
   pub kept : Kept
   pub moves_are : moves_put t v to number what ≡ put_move t to number what kept ∷ []
-
-piece_sends : (t to number : ℕ) (req : ReqId) (k : ℕ) (x : Option OpenPiece) → is_some x ≡ true → (kept : Kept) × (piece_put to number (Piece req k) x ≡ put_move t to number (tokens.Piece req k) kept ∷ [])
-piece_sends t to number req k None h = absurd (let x : false ≡ true = h in cc)
-piece_sends t to number req k (Some p) h = (sent p, refl)
+  pub tells : (dev : DevId) → is_device_kept dev kept ≡ true → list_any (is_device_due dev) v.part.due ≡ true
 
 none_goes : {P : Type 0} → false ≡ true → P
 none_goes h = absurd (let x : false ≡ true = h in cc)
 
+-- a token that is here is sent, and is no notice
+record IsSent (to number : ℕ) (id : Id) (x : Option Kept) : Type 0 where
+  kept : Kept
+  moves_are : token_put to number id x ≡ record { id = id; kept = kept; going = To to number } ∷ []
+  plain : (dev : DevId) → is_device_kept dev kept ≡ false
+
+request_sent : (to number : ℕ) (id : Id) (x : Option Kept) → is_some (as_request x) ≡ true → IsSent to number id x
+request_sent to number id None h = none_goes h
+request_sent to number id (Some (keeps.Request r)) h = record { kept = _; moves_are = refl; plain = λ dev. refl }
+request_sent to number id (Some (keeps.Piece p)) h = none_goes h
+request_sent to number id (Some (keeps.Walk w)) h = none_goes h
+request_sent to number id (Some (keeps.Notice n)) h = none_goes h
+
+piece_sent : (to number : ℕ) (id : Id) (x : Option Kept) → is_some (as_piece x) ≡ true → IsSent to number id x
+piece_sent to number id None h = none_goes h
+piece_sent to number id (Some (keeps.Request r)) h = none_goes h
+piece_sent to number id (Some (keeps.Piece p)) h = record { kept = _; moves_are = refl; plain = λ dev. refl }
+piece_sent to number id (Some (keeps.Walk w)) h = none_goes h
+piece_sent to number id (Some (keeps.Notice n)) h = none_goes h
+
+walk_sent : (to number : ℕ) (id : Id) (x : Option Kept) → is_some (as_walk x) ≡ true → IsSent to number id x
+walk_sent to number id None h = none_goes h
+walk_sent to number id (Some (keeps.Request r)) h = none_goes h
+walk_sent to number id (Some (keeps.Piece p)) h = none_goes h
+walk_sent to number id (Some (keeps.Walk w)) h = record { kept = _; moves_are = refl; plain = λ dev. refl }
+walk_sent to number id (Some (keeps.Notice n)) h = none_goes h
+
+untold : {P : Type 0} (b : Bool) → b ≡ false → b ≡ true → P
+untold true h k = none_goes (sym h)
+untold false h k = none_goes k
+
+-- a device's news that is due
+due_told : (to : ℕ) (d dev : DevId) (due : List Due) → same_dev dev d ≡ true → list_any (is_due_to to (news.Device d)) due ≡ true → list_any (is_device_due dev) due ≡ true
+due_told to d dev [] e h = none_goes h
+due_told to d dev (x ∷ xs) e h = go (is_due_to to (news.Device d) x) refl h (due_told to d dev xs e)
+  where
+    first : (n : News) → same_news n (news.Device d) ≡ true → is_device dev n ≡ true
+    first (news.Device c) k = subst (λ (x : DevId). same_dev dev x ≡ true) (sym (dev_exact c d k)) e
+    first (news.Mark m) k = none_goes k
+    first (news.Gone m) k = none_goes k
+    first (news.Channel m) k = none_goes k
+    first (news.Go m ts) k = none_goes k
+
+    more : (b c : Bool) → c ≡ true → (b || c) ≡ true
+    more true c k = refl
+    more false c k = k
+
+    go : (b : Bool) → is_due_to to (news.Device d) x ≡ b → (b || list_any (is_due_to to (news.Device d)) xs) ≡ true → (list_any (is_due_to to (news.Device d)) xs ≡ true → list_any (is_device_due dev) xs ≡ true) → (is_device_due dev x || list_any (is_device_due dev) xs) ≡ true
+    go true k h rest = ap (λ b. b || list_any (is_device_due dev) xs) (first x.news (and_parts (x.receiver == to) (same_news x.news (news.Device d)) k).1)
+    go false k h rest = more (is_device_due dev x) (list_any (is_device_due dev) xs) (rest h)
+
 sends_by : (setup : Setup) (t : ℕ) (v : View) (to number : ℕ) (what : Token) → is_token_here v what ≡ true → may_go setup t v to what ≡ true → Sends t v to number what
-sends_by setup t v to number (tokens.Piece req k) here goes = let p = piece_sends t to number req k (piece_here v req k) here in record { kept = p.0; moves_are = p.1 }
-sends_by setup t v to number (tokens.Mark mark) here goes = record { kept = keeps.Notice (Mark mark); moves_are = refl }
-sends_by setup t v to number _ here goes = none_goes goes
+sends_by setup t v to number (tokens.Request req) here goes = let i : Id = id_of t to number (tokens.Request req) in let p = request_sent to number i (v.here i) here in record { kept = p.kept; moves_are = p.moves_are; tells = λ dev k. untold (is_device_kept dev p.kept) (p.plain dev) k }
+sends_by setup t v to number (tokens.Piece req k) here goes = let i : Id = id_of t to number (tokens.Piece req k) in let p = piece_sent to number i (v.here i) here in record { kept = p.kept; moves_are = p.moves_are; tells = λ dev k. untold (is_device_kept dev p.kept) (p.plain dev) k }
+sends_by setup t v to number (tokens.Walk walk) here goes = let i : Id = id_of t to number (tokens.Walk walk) in let p = walk_sent to number i (v.here i) here in record { kept = p.kept; moves_are = p.moves_are; tells = λ dev k. untold (is_device_kept dev p.kept) (p.plain dev) k }
+sends_by setup t v to number (tokens.Mark mark) here goes = record { kept = keeps.Notice (news.Mark mark); moves_are = refl; tells = λ dev k. none_goes k }
+sends_by setup t v to number (tokens.Gone handle) here goes = record { kept = keeps.Notice (news.Gone handle); moves_are = refl; tells = λ dev k. none_goes k }
+sends_by setup t v to number (tokens.Channel d) here goes = record { kept = keeps.Notice (news.Channel d); moves_are = refl; tells = λ dev k. none_goes k }
+sends_by setup t v to number (tokens.Device d) here goes = record { kept = keeps.Notice (news.Device d); moves_are = refl; tells = λ dev k. due_told to d dev v.part.due k goes }
+sends_by setup t v to number (tokens.Go req threads) here goes = record { kept = keeps.Notice (news.Go req threads); moves_are = refl; tells = λ dev k. none_goes k }
 
 pub sends : (setup : Setup) (t : ℕ) (v : View) (came : Came) (to number : ℕ) (what : Token) → Passes (guards setup t v (acts.Put to number what) came) → Sends t v to number what
 sends setup t v came to number what h =
@@ -59,47 +120,15 @@ sends setup t v came to number what h =
 
 -- ---- took
 
--- a token comes to a thread or is closed, and goes to none
-abbrev pub IsHome : Going → Type 0
-IsHome Here = Unit {0}
-IsHome (To receiver number) = ⊥
-IsHome Closed = Unit {0}
-
-abbrev pub AreHome : List Move → Type 0
-AreHome ms = AllByRecursion (λ m. IsHome m.going) ms
-
--- the one token that a Took moves
-pub record Takes (id : Id) (kept : Kept) : Type 0 where
-  pub kept_after : Kept
-  pub going : Going
-  pub home : IsHome going
-  pub moves_are : moves_took id (Some kept) ≡ record { id = id; kept = kept_after; going = going } ∷ []
-
-pub takes : (id : Id) (kept : Kept) → Takes id kept
-takes id (keeps.Request r) = record { kept_after = _; going = Here; home = tt; moves_are = refl }
-takes id (keeps.Piece p) = record { kept_after = _; going = Here; home = tt; moves_are = refl }
-takes id (keeps.Notice news) = record { kept_after = _; going = Closed; home = tt; moves_are = refl }
-
 pub brings_some : (what : Token) (o : Option Kept) → brings what o ≡ true → is_some o ≡ true
 brings_some what (Some kept) h = refl
-brings_some (tokens.Request q) None h = none_goes h
-brings_some (tokens.Piece q k) None h = none_goes h
-brings_some (tokens.Walk w) None h = none_goes h
-brings_some (tokens.Go q ts) None h = none_goes h
-brings_some (tokens.Gone g) None h = none_goes h
-brings_some (tokens.Channel d) None h = none_goes h
-brings_some (tokens.Device d) None h = none_goes h
-brings_some (tokens.Mark m) None h = none_goes h
+brings_some what None h = none_goes h
 
-pub took_taken : (part : Part) (what : Token) (x : Option Kept) → (part_took part what x).taken ≡ part.taken
-took_taken part (tokens.Piece req k) (Some (keeps.Piece p)) = refl
-took_taken part (tokens.Mark mark) x = refl
-took_taken part _ _ = refl
+pub took_taken : (setup : Setup) (t : ℕ) (v : View) (came : Came) (source number : ℕ) (what : Token) → (change setup t v (acts.Took source number what) came).part.taken ≡ taken_by_act (acts.Took source number what) v.part.taken
+took_taken setup t v came source number what = ap (λ (c : Core). c.taken) (plain_grows setup t v (acts.Took source number what) came refl).rest
 
-pub took_put : (part : Part) (what : Token) (x : Option Kept) → (part_took part what x).put ≡ part.put
-took_put part (tokens.Piece req k) (Some (keeps.Piece p)) = refl
-took_put part (tokens.Mark mark) x = refl
-took_put part _ _ = refl
+pub took_put : (setup : Setup) (t : ℕ) (v : View) (came : Came) (source number : ℕ) (what : Token) → (change setup t v (acts.Took source number what) came).part.put ≡ v.part.put
+took_put setup t v came source number what = ap (λ (c : Core). c.put) (plain_grows setup t v (acts.Took source number what) came refl).rest
 
 -- ---- every other act
 
@@ -111,26 +140,27 @@ pub record IsQuiet (t : ℕ) (v : View) (act : Act) (c : Change) : Type 0 where
   pub homes : AreHome c.moves
   pub queue_is : (r : ℕ) (queue : List Message) → queue_after t act c.moves r queue ≡ queue
 
-made_home : (setup : Setup) (req : ReqId) (r : OpenRequest) (k : ℕ) (xs : List Extent) → AreHome (pieces_made setup req r k xs)
-made_home setup req r k [] = tt
-made_home setup req r k (x ∷ xs) = (tt, made_home setup req r (k + 1) xs)
+-- one that is plain
+pub record IsStill (t : ℕ) (act : Act) : Type 0 where
+  pub plain : is_plain act ≡ true
+  pub taken : (table : List (ℕ × ℕ)) → taken_by_act act table ≡ table
+  pub none_taken : (a k : ℕ) → TakesFrom (took act) a k → ⊥
+  pub queue_is : (moves : List Move) (r : ℕ) (queue : List Message) → queue_after t act moves r queue ≡ queue
 
-cut_home : (setup : Setup) (req : ReqId) (n : ℕ) (x : Option OpenRequest) → AreHome (cut_into setup req n x)
-cut_home setup req n None = tt
-cut_home setup req n (Some r) = (tt, made_home setup req r 0 (extents_of setup r))
+quiet_if : (setup : Setup) (t : ℕ) (v : View) (came : Came) (act : Act) → IsStill t act → AreHome (change_by setup t v act came).moves → IsQuiet t v act (change setup t v act came)
+quiet_if setup t v came act still homes =
+    let grows = plain_grows setup t v act came still.plain in
+    record {
+      put_is = ap (λ (c : Core). c.put) grows.rest;
+      taken_is = ap (λ (c : Core). c.taken) grows.rest ∙ still.taken v.part.taken;
+      none_taken = still.none_taken;
+      homes = homes;
+      queue_is = λ r queue. still.queue_is (change setup t v act came).moves r queue;
+    }
 
-pieces_home : (req : ReqId) (k : ℕ) (ps : List (Option OpenPiece)) → AreHome (pieces_closed req k ps)
-pieces_home req k [] = tt
-pieces_home req k (None ∷ ps) = pieces_home req (k + 1) ps
-pieces_home req k (Some p ∷ ps) = (tt, pieces_home req (k + 1) ps)
-
-closed_home : (v : View) (req : ReqId) (x : Option OpenRequest) → AreHome (closed_with v req x)
-closed_home v req None = tt
-closed_home v req (Some r) = (tt, pieces_home req 0 (pieces_of v req r))
-
-applied_quiet : (t : ℕ) (v : View) (req : ReqId) (k : ℕ) (dev : DevId) (end : ApplyEnd) (size : ℕ) (x : Option OpenPiece) (b : Option Base) → IsQuiet t v (acts.Apply req k dev end) (change_applied v req k dev end size x b)
-applied_quiet t v req k dev end size (Some p) (Some b) = record { put_is = refl; taken_is = refl; none_taken = λ a n h. h; homes = (tt, tt); queue_is = λ r q. refl }
-applied_quiet t v req k dev end size _ _ = record { put_is = refl; taken_is = refl; none_taken = λ a n h. h; homes = tt; queue_is = λ r q. refl }
+applied_quiet : (setup : Setup) (t : ℕ) (v : View) (req : ReqId) (k : ℕ) (dev : DevId) (end : ApplyEnd) (size : ℕ) (x : Option OpenPiece) (b : Option Base) → ((change_applied v req k dev end size x b).part.put ≡ v.part.put) × ((change_applied v req k dev end size x b).part.taken ≡ v.part.taken)
+applied_quiet setup t v req k dev end size (Some p) (Some b) = (refl, refl)
+applied_quiet setup t v req k dev end size _ _ = (refl, refl)
 
 -- what an act is
 pub data Kind (setup : Setup) (t : ℕ) (v : View) (came : Came) (act : Act) : Type 0 where
@@ -141,8 +171,23 @@ pub data Kind (setup : Setup) (t : ℕ) (v : View) (came : Came) (act : Act) : T
 pub kind_of : (setup : Setup) (t : ℕ) (v : View) (came : Came) (act : Act) → Kind setup t v came act
 kind_of setup t v came (acts.Put to number what) = Puts to number what refl
 kind_of setup t v came (acts.Took source number what) = Tooks source number what refl
-kind_of setup t v came (acts.Accept req dev handle op lba count) = Quiet (record { put_is = refl; taken_is = refl; none_taken = λ a n h. h; homes = (tt, tt); queue_is = λ r q. refl })
-kind_of setup t v came (acts.Cut req n) = Quiet (record { put_is = refl; taken_is = refl; none_taken = λ a n h. h; homes = cut_home setup req n (request_here v req); queue_is = λ r q. refl })
-kind_of setup t v came (acts.Apply req k dev end) = Quiet (applied_quiet t v req k dev end (size_of setup dev) (piece_here v req k) (base_here v dev))
-kind_of setup t v came (acts.Complete req status shown) = Quiet (record { put_is = refl; taken_is = refl; none_taken = λ a n h. h; homes = closed_home v req (request_here v req); queue_is = λ r q. refl })
-kind_of setup t v came _ = Quiet (record { put_is = refl; taken_is = refl; none_taken = λ a n h. h; homes = tt; queue_is = λ r q. refl })
+kind_of setup t v came (acts.Accept req dev handle op lba count) = Quiet (record { put_is = refl; taken_is = refl; none_taken = λ a n h. h; homes = ((tt, refl), tt); queue_is = λ r q. refl })
+kind_of setup t v came (acts.Destruct dev digest) = Quiet (record { put_is = refl; taken_is = refl; none_taken = λ a n h. h; homes = tt; queue_is = λ r q. refl })
+kind_of setup t v came (acts.Apply req k dev end) =
+    let p = applied_quiet setup t v req k dev end (size_of setup dev) (piece_here v req k) (base_here v dev) in
+    Quiet (record { put_is = p.0; taken_is = p.1; none_taken = λ a n h. h; homes = applied_home v req k dev end (size_of setup dev) (piece_here v req k) (base_here v dev); queue_is = λ r q. refl })
+kind_of setup t v came (acts.Reg event answer) = Quiet (quiet_if setup t v came (acts.Reg event answer) (record { plain = refl; taken = λ l. refl; none_taken = λ a n h. h; queue_is = λ ms r q. refl }) (reg_home setup t v came event answer))
+kind_of setup t v came (acts.Inject req dev decision) = Quiet (quiet_if setup t v came (acts.Inject req dev decision) (record { plain = refl; taken = λ l. refl; none_taken = λ a n h. h; queue_is = λ ms r q. refl }) (edited_home req (injected decision) (request_here v req)))
+kind_of setup t v came (acts.Pend req) = Quiet (quiet_if setup t v came (acts.Pend req) (record { plain = refl; taken = λ l. refl; none_taken = λ a n h. h; queue_is = λ ms r q. refl }) (edited_home req pended (request_here v req)))
+kind_of setup t v came (acts.Let req dev now) = Quiet (quiet_if setup t v came (acts.Let req dev now) (record { plain = refl; taken = λ l. refl; none_taken = λ a n h. h; queue_is = λ ms r q. refl }) (edited_home req let_pass (request_here v req)))
+kind_of setup t v came (acts.Cut req pieces) = Quiet (quiet_if setup t v came (acts.Cut req pieces) (record { plain = refl; taken = λ l. refl; none_taken = λ a n h. h; queue_is = λ ms r q. refl }) (cut_home setup req pieces (request_here v req)))
+kind_of setup t v came (acts.NoMem req k dev) = Quiet (quiet_if setup t v came (acts.NoMem req k dev) (record { plain = refl; taken = λ l. refl; none_taken = λ a n h. h; queue_is = λ ms r q. refl }) (piece_home req k refused (piece_here v req k)))
+kind_of setup t v came (acts.Hold req until) = Quiet (quiet_if setup t v came (acts.Hold req until) (record { plain = refl; taken = λ l. refl; none_taken = λ a n h. h; queue_is = λ ms r q. refl }) (edited_home req (held setup v.part until) (request_here v req)))
+kind_of setup t v came (acts.Release req now) = Quiet (quiet_if setup t v came (acts.Release req now) (record { plain = refl; taken = λ l. refl; none_taken = λ a n h. h; queue_is = λ ms r q. refl }) (edited_home req released (request_here v req)))
+kind_of setup t v came (acts.Abort req cause) = Quiet (quiet_if setup t v came (acts.Abort req cause) (record { plain = refl; taken = λ l. refl; none_taken = λ a n h. h; queue_is = λ ms r q. refl }) (edited_home req (aborted cause) (request_here v req)))
+kind_of setup t v came (acts.Complete req status shown) = Quiet (quiet_if setup t v came (acts.Complete req status shown) (record { plain = refl; taken = λ l. refl; none_taken = λ a n h. h; queue_is = λ ms r q. refl }) (closed_home v req (request_here v req)))
+kind_of setup t v came (acts.Visit walk dev kind) = Quiet (quiet_if setup t v came (acts.Visit walk dev kind) (record { plain = refl; taken = λ l. refl; none_taken = λ a n h. h; queue_is = λ ms r q. refl }) (walked_if_home t walk (marked_by setup t v dev kind) (walk_here v walk)))
+kind_of setup t v came (acts.Refuse handle op lba count errno) = Quiet (quiet_if setup t v came (acts.Refuse handle op lba count errno) (record { plain = refl; taken = λ l. refl; none_taken = λ a n h. h; queue_is = λ ms r q. refl }) (tt))
+kind_of setup t v came (acts.Tick dev now slices) = Quiet (record { put_is = refl; taken_is = refl; none_taken = λ a n h. h; homes = tt; queue_is = λ r q. refl })
+kind_of setup t v came (acts.Script line outcome) = Quiet (quiet_if setup t v came (acts.Script line outcome) (record { plain = refl; taken = λ l. refl; none_taken = λ a n h. h; queue_is = λ ms r q. refl }) (tt))
+kind_of setup t v came acts.Shutdown = Quiet (quiet_if setup t v came acts.Shutdown (record { plain = refl; taken = λ l. refl; none_taken = λ a n h. h; queue_is = λ ms r q. refl }) (tt))

@@ -1,12 +1,11 @@
 -- Each token has one place in the list of tokens, so that what look_up shows of them all says what the list has.
-use Rattle.std.proofs.Common.{◌≡◌, ℕ, Bool, true, false, cond, ◌||◌, List, [], ◌∷◌, Option, Some, None, refl, sym, ◌∙◌, ap, subst}
-use Rattle.std.specs.List.{list_any}
+use Rattle.std.proofs.Common.{◌≡◌, ℕ, Bool, true, false, cond, ◌&&◌, ◌||◌, List, [], ◌∷◌, Option, Some, None, refl, sym, ◌∙◌, ap, subst}
+use Rattle.std.specs.List.{list_any, list_all}
 use Rattle.bd_base.specs.declared.act.Entry.{Entry}
 use Rattle.bd_base.specs.declared.setup.Setup.{Setup}
 use Rattle.bd_machine.specs.declared.state.Id.{Id}
 use Rattle.bd_machine.specs.declared.state.State.{State}
 use Rattle.bd_machine.specs.declared.state.Tracked.{Tracked}
-use Rattle.bd_machine.specs.Rest.{is_nowhere}
 use Rattle.bd_machine.specs.Same.{same_id}
 use Rattle.bd_machine.specs.Step.{moved, place_after, change_in, after}
 use Rattle.bd_machine.specs.Table.{look_up, write}
@@ -39,19 +38,27 @@ pub after_keyed : (setup : Setup) (s : State) (e : Entry) → IsKeyed s.tokens �
 unfolding after
 after_keyed setup s e h = moved_keyed e.thread (change_in setup s e.thread e.act).moves s.tokens h
 
--- a token that isn't there, or was closed
-abbrev pub is_closed : Option Tracked → Bool
-is_closed None = true
-is_closed (Some token) = is_nowhere token.place
+-- a test of an id and its token, where there is one
+abbrev pub if_token : Bool → (Id → Tracked → Bool) → Id → Option Tracked → Bool
+if_token other is id None = other
+if_token other is id (Some token) = is id token
 
--- where the token of each id is closed, no token of the list passes a test that no closed one passes
-pub none_such : (is : Id × Tracked → Bool) → ((x : Id × Tracked) → is_nowhere x.1.place ≡ true → is x ≡ false)
-    → (ts : List (Id × Tracked)) → IsKeyed ts → ((id : Id) → is_closed (look_up same_id ts id) ≡ true) → list_any is ts ≡ false
-none_such is still [] keyed h = refl
-none_such is still (x ∷ xs) keyed h =
-    ap (λ b. b || list_any is xs) (still x (sym (ap (λ b. is_closed (cond b (Some x.1) (look_up same_id xs x.0))) (id_same.same_self x.0)) ∙ h x.0))
-    ∙ none_such is still xs keyed.1 (λ id. rest id (same_id x.0 id) refl)
+later : (other : Bool) (is : Id → Tracked → Bool) (x : Id × Tracked) (xs : List (Id × Tracked)) → look_up same_id xs x.0 ≡ None → ((id : Id) → if_token other is id (look_up same_id (x ∷ xs) id) ≡ other) → (id : Id) → if_token other is id (look_up same_id xs id) ≡ other
+later other is x xs fresh h id = go (same_id x.0 id) refl
   where
-    rest : (id : Id) (b : Bool) → same_id x.0 id ≡ b → is_closed (look_up same_id xs id) ≡ true
-    rest id true e = ap is_closed (subst (λ (i : Id). look_up same_id xs i ≡ None) (id_same.exact x.0 id e) keyed.0)
-    rest id false e = ap (λ b. is_closed (cond b (Some x.1) (look_up same_id xs id))) (sym e) ∙ h id
+    go : (b : Bool) → same_id x.0 id ≡ b → if_token other is id (look_up same_id xs id) ≡ other
+    go true e = ap (if_token other is id) (subst (λ (i : Id). look_up same_id xs i ≡ None) (id_same.exact x.0 id e) fresh)
+    go false e = ap (λ b. if_token other is id (cond b (Some x.1) (look_up same_id xs id))) (sym e) ∙ h id
+
+at_head : (other : Bool) (is : Id → Tracked → Bool) (x : Id × Tracked) (xs : List (Id × Tracked)) → ((id : Id) → if_token other is id (look_up same_id (x ∷ xs) id) ≡ other) → is x.0 x.1 ≡ other
+at_head other is x xs h = sym (ap (λ b. if_token other is x.0 (cond b (Some x.1) (look_up same_id xs x.0))) (id_same.same_self x.0)) ∙ h x.0
+
+-- where a test fails of each id's token, it fails of the whole list
+pub none_such : (is : Id → Tracked → Bool) (ts : List (Id × Tracked)) → IsKeyed ts → ((id : Id) → if_token false is id (look_up same_id ts id) ≡ false) → list_any (λ x. is x.0 x.1) ts ≡ false
+none_such is [] keyed h = refl
+none_such is (x ∷ xs) keyed h = ap (λ b. b || list_any (λ y. is y.0 y.1) xs) (at_head false is x xs h) ∙ none_such is xs keyed.1 (later false is x xs keyed.0 h)
+
+-- and where it holds of each, it holds of the whole list
+pub all_such : (is : Id → Tracked → Bool) (ts : List (Id × Tracked)) → IsKeyed ts → ((id : Id) → if_token true is id (look_up same_id ts id) ≡ true) → list_all (λ x. is x.0 x.1) ts ≡ true
+all_such is [] keyed h = refl
+all_such is (x ∷ xs) keyed h = ap (λ b. b && list_all (λ y. is y.0 y.1) xs) (at_head true is x xs h) ∙ all_such is xs keyed.1 (later true is x xs keyed.0 h)

@@ -12,12 +12,12 @@ use Rattle.bd_machine.specs.declared.state.Place.{Place}
 use Rattle.bd_machine.specs.declared.state.Place.TheVariants.{At, Ring, Nowhere}
 use Rattle.bd_machine.specs.declared.state.State.{State}
 use Rattle.bd_machine.specs.declared.state.Tracked.{Tracked}
-use Rattle.bd_machine.specs.Messages.{count_at, brings, moves_took}
+use Rattle.bd_machine.specs.Messages.{count_at, brings, taken_by}
 use Rattle.bd_machine.specs.Placement.{place, place_of}
 use Rattle.bd_machine.specs.Same.{same_id}
 use Rattle.bd_machine.specs.Step.{guards_in, change_in, refusal, moved, after}
 use Rattle.bd_machine.specs.Table.{look_up, write}
-use Rattle.bd_machine.specs.View.{Move, Taking, part_of, message_of, id_of}
+use Rattle.bd_machine.specs.View.{Move, Taking, part_of, message_of, id_of, view, came_for}
 use Rattle.bd_machine.proofs.Acts.{Passes, passed, IsFresh}
 use Rattle.bd_machine.proofs.Laws.{tracked, found-moved}
 use Rattle.bd_machine.proofs.Steps.{allowed_passes, part_is, part_stays}
@@ -25,9 +25,10 @@ use Rattle.bd_machine.proofs.Tables.{id_same}
 use Rattle.bd_turns.specs.declared.queue.Message.{Message}
 use Rattle.bd_turns.specs.Local.{queue_after}
 use Rattle.bd_turns.specs.Tied.{Stand, IsQueued, IsPlaced, count_from}
-use Rattle.bd_turns.proofs.Effects.{Takes, takes, took_taken, took_put}
-use Rattle.bd_turns.proofs.Queues.{one, write_count, First, taken_first, stand_rest, queued_rest}
-use Rattle.bd_turns.proofs.Rings.{AreRings, tokens_are, same_for_each, stand_on, home_placed}
+use Rattle.bd_turns.proofs.Effects.{took_taken, took_put}
+use Rattle.bd_turns.proofs.Homing.{Takes, takes}
+use Rattle.bd_turns.proofs.Queues.{one, write_count, First, stand_rest, queued_rest, moved_keeps}
+use Rattle.bd_turns.proofs.Rings.{AreRings, tokens_are, same_for_each, stand_on, home_placed, all_placed}
 
 module _ (setup : Setup) (s : State) (stamp t source number : ℕ) (what : Token) (fresh : IsFresh s) (allowed : refusal setup s (record { stamp = stamp; thread = t; act = acts.Took source number what }) ≡ None) (queues : ℕ → List Message) (rings : AreRings setup s queues)
     (first : First t (queues t) (record { source = source; number = number; what = what })) where
@@ -52,39 +53,35 @@ module _ (setup : Setup) (s : State) (stamp t source number : ℕ) (what : Token
   passes : Passes (guards_in setup s t (acts.Took source number what))
   passes = allowed_passes setup s e allowed
 
+  guard : ((number == count_at (part_of s t).taken source) ≡ true) × (brings what brought ≡ true)
+  guard = and_parts (number == count_at (part_of s t).taken source) (brings what brought) (passed (guards_in setup s t (acts.Took source number what)) passes).0
+
   number_is : number ≡ count_at (part_of s t).taken source
-  number_is = eqb-true number (count_at (part_of s t).taken source)
-      (and_parts (number == count_at (part_of s t).taken source) (brings what brought) (passed (guards_in setup s t (acts.Took source number what)) passes).0).0
+  number_is = eqb-true number (count_at (part_of s t).taken source) guard.0
 
-  message_is : brought ≡ Some first.m.kept
-  message_is = taken_first s.tokens t (part_of s t).taken (queues t) taking first number_is (rings.stand t)
+  abbrev counted : Part
+  counted = record (part_of s t) { taken = write ◌==◌ (part_of s t).taken source (number + 1) }
 
-  taking_in : Takes id first.m.kept
-  taking_in = takes id first.m.kept
+  taking_in : Takes (id_of source t number what) brought (taken_by setup t what counted brought (id_of source t number what)).moves
+  taking_in = takes setup t source number what counted brought guard.1
 
   abbrev move : Move
-  move = record { id = id; kept = taking_in.kept_after; going = taking_in.going }
+  move = taking_in.first
 
-  moves_are : (change_in setup s t (acts.Took source number what)).moves ≡ move ∷ []
-  moves_are = ap (moves_took id) message_is ∙ taking_in.moves_are
-
-  found : (i : Id) → look_up same_id next.tokens i ≡ cond (same_id id i) (Some (tracked t move)) (look_up same_id s.tokens i)
-  found i =
-      ap (λ (ts : List (Id × Tracked)). look_up same_id ts i) (tokens_are setup s e fresh allowed)
-      ∙ ap (λ (ms : List Move). look_up same_id (moved t ms s.tokens) i) moves_are
-      ∙ found-moved t move s.tokens i
+  moves_are : (change_in setup s t (acts.Took source number what)).moves ≡ move ∷ taking_in.rest
+  moves_are = taking_in.moves_are
 
   abbrev taken_after : List (ℕ × ℕ)
   taken_after = write ◌==◌ (part_of s t).taken source (number + 1)
 
   taken_own : (part_of next t).taken ≡ taken_after
-  taken_own = ap (λ (p : Part). p.taken) (part_is setup s e fresh allowed) ∙ took_taken (record (part_of s t) { taken = write ◌==◌ (part_of s t).taken source (number + 1) }) what brought
+  taken_own = ap (λ (p : Part). p.taken) (part_is setup s e fresh allowed) ∙ took_taken setup t (view s t) (came_for setup s t (acts.Took source number what)) source number what
 
   taken_other : (r : ℕ) → (r ≡ t → ⊥) → (part_of next r).taken ≡ (part_of s r).taken
   taken_other r ne = ap (λ (p : Part). p.taken) (part_stays setup s e fresh allowed r (λ h. ne (sym h)))
 
   put_is : (a : ℕ) → (part_of next a).put ≡ (part_of s a).put
-  put_is = same_for_each setup s e fresh allowed (λ (p : Part). p.put) (took_put (record (part_of s t) { taken = write ◌==◌ (part_of s t).taken source (number + 1) }) what brought)
+  put_is = same_for_each setup s e fresh allowed (λ (p : Part). p.put) (took_put setup t (view s t) (came_for setup s t (acts.Took source number what)) source number what)
 
   queue_own : took_queues t ≡ first.ms
   queue_own = ap (λ b. cond b (drop 1 (queues t)) (queues t)) (eq-eqb t t refl) ∙ ap (drop 1) first.is
@@ -133,30 +130,40 @@ module _ (setup : Setup) (s : State) (stamp t source number : ℕ) (what : Token
       go (inr ne) = sym (ap₂ (λ (x y : ℕ). x + y) (ap (λ (l : List (ℕ × ℕ)). count_at l a) (taken_other r ne)) (ap (count_from a) (queue_other r ne)))
 
   placed : t < setup.threads → (i : Id) → IsPlaced setup next took_queues i (place next i)
-  placed lt i = subst (λ (o : Option Tracked). IsPlaced setup next took_queues i (place_of o)) (sym (found i)) (go (same_id id i) refl)
+  placed lt i =
+      subst (λ (ts : List (Id × Tracked)). IsPlaced setup next took_queues i (place_of (look_up same_id ts i))) (sym tokens_now)
+      (moved_keeps (λ j o. IsPlaced setup next took_queues j (place_of o)) t taking_in.rest (moved t (move ∷ []) s.tokens)
+      (λ j. subst (λ (o : Option Tracked). IsPlaced setup next took_queues j (place_of o)) (sym (found-moved t move s.tokens j)) (first_placed j))
+      (all_placed setup s e fresh allowed took_queues taking_in.rest lt taking_in.homes) i)
     where
+      tokens_now : next.tokens ≡ moved t taking_in.rest (moved t (move ∷ []) s.tokens)
+      tokens_now = tokens_are setup s e fresh allowed ∙ ap (λ (ms : List Move). moved t ms s.tokens) moves_are
+
       differ : true ≡ false → ⊥
       differ h = cc
 
-      other : same_id id i ≡ false → id ≡ i → ⊥
-      other no_hit same = let hit : same_id id i ≡ true = subst (λ (j : Id). same_id id j ≡ true) same (id_same.same_self id) in differ (sym hit ∙ no_hit)
+      other : (i : Id) → same_id id i ≡ false → id ≡ i → ⊥
+      other i no_hit same = let hit : same_id id i ≡ true = subst (λ (j : Id). same_id id j ≡ true) same (id_same.same_self id) in differ (sym hit ∙ no_hit)
 
-      own : same_id id i ≡ false → IsQueued i t (part_of s t).taken (queues t) → IsQueued i t (part_of next t).taken (took_queues t)
-      own no_hit h = subst (λ (l : List (ℕ × ℕ)). IsQueued i t l (took_queues t)) (sym taken_own) (subst (IsQueued i t taken_after) (sym queue_own)
-          (queued_rest i t (part_of s t).taken (queues t) taking first number_is (other no_hit) h))
+      own : (i : Id) → same_id id i ≡ false → IsQueued i t (part_of s t).taken (queues t) → IsQueued i t (part_of next t).taken (took_queues t)
+      own i no_hit h = subst (λ (l : List (ℕ × ℕ)). IsQueued i t l (took_queues t)) (sym taken_own) (subst (IsQueued i t taken_after) (sym queue_own)
+          (queued_rest i t (part_of s t).taken (queues t) taking first number_is (other i no_hit) h))
 
-      keep : same_id id i ≡ false → (p : Place) → IsPlaced setup s queues i p → IsPlaced setup next took_queues i p
-      keep no_hit (At u) h = h
-      keep no_hit (Ring a r n) h = pick (cases_eq r t)
+      keep : (i : Id) → same_id id i ≡ false → (p : Place) → IsPlaced setup s queues i p → IsPlaced setup next took_queues i p
+      keep i no_hit (At u) h = h
+      keep i no_hit (Ring a r n) h = pick (cases_eq r t)
         where
           pick : (r ≡ t) ⊎ (r ≡ t → ⊥) → IsQueued i r (part_of next r).taken (took_queues r)
-          pick (inl same) = subst (λ (u : ℕ). IsQueued i u (part_of next u).taken (took_queues u)) (sym same) (own no_hit (subst (λ (u : ℕ). IsQueued i u (part_of s u).taken (queues u)) same h))
+          pick (inl same) = subst (λ (u : ℕ). IsQueued i u (part_of next u).taken (took_queues u)) (sym same) (own i no_hit (subst (λ (u : ℕ). IsQueued i u (part_of s u).taken (queues u)) same h))
           pick (inr ne) = subst (λ (l : List (ℕ × ℕ)). IsQueued i r l (took_queues r)) (sym (taken_other r ne)) (subst (IsQueued i r (part_of s r).taken) (sym (queue_other r ne)) h)
-      keep no_hit Nowhere h = tt
+      keep i no_hit Nowhere h = tt
 
-      go : (b : Bool) → same_id id i ≡ b → IsPlaced setup next took_queues i (place_of (cond b (Some (tracked t move)) (look_up same_id s.tokens i)))
-      go true is = home_placed setup s e fresh allowed took_queues taking_in.going i lt taking_in.home
-      go false is = keep is (place s i) (rings.placed i)
+      first_placed : (j : Id) → IsPlaced setup next took_queues j (place_of (cond (same_id move.id j) (Some (tracked t move)) (look_up same_id s.tokens j)))
+      first_placed j = subst (λ (k : Id). IsPlaced setup next took_queues j (place_of (cond (same_id k j) (Some (tracked t move)) (look_up same_id s.tokens j)))) (sym taking_in.id_is) (go (same_id id j) refl)
+        where
+          go : (b : Bool) → same_id id j ≡ b → IsPlaced setup next took_queues j (place_of (cond b (Some (tracked t move)) (look_up same_id s.tokens j)))
+          go true is = home_placed setup s e fresh allowed took_queues move.going j lt taking_in.home
+          go false is = keep j is (place s j) (rings.placed j)
 
   pub took_rings : t < setup.threads → AreRings setup next (λ r. queue_after t (acts.Took source number what) (change_in setup s t (acts.Took source number what)).moves r (queues r))
   took_rings lt = record { stand = stand; counts = counts; placed = placed lt }

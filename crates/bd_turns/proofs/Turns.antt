@@ -1,34 +1,40 @@
 -- **The law of turns.** An entry that a thread may make by what it sees and what is shared is allowed in the state, and the state after it is tied again.
-use Rattle.std.proofs.Common.{◌≡◌, ℕ, ◌<◌, Bool, true, false, cond, ◌==◌, ◌⊎◌, inl, inr, nat_lt, List, [], ◌∷◌, ◌++◌, length, Some, None, refl, sym, ◌∙◌, ap, subst, eqb-true, eq-eqb, ne_eqb}
+use Rattle.std.proofs.Common.{◌≡◌, ℕ, ◌<◌, Bool, true, false, not, cond, ◌&&◌, ◌||◌, ◌==◌, ◌⊎◌, inl, inr, nat_lt, List, [], ◌∷◌, ◌++◌, length, Option, Some, None, is_some, refl, sym, ◌∙◌, ap, subst, eqb-true, eq-eqb, ne_eqb}
 use Rattle.std.proofs.lemmas.Bool.{and_parts, cases_eq}
 use mathlib.Core.Path.{fun_ext}
 use Rattle.bd_base.specs.declared.act.Act.{Act}
 use Rattle.bd_base.specs.declared.act.Act.TheVariants as acts
 use Rattle.bd_base.specs.declared.act.Entry.{Entry}
 use Rattle.bd_base.specs.declared.act.Token.{Token}
+use Rattle.bd_base.specs.declared.id.DevId.{DevId}
 use Rattle.bd_base.specs.declared.setup.Setup.{Setup}
-use Rattle.bd_machine.specs.declared.guard.TheConstants.{UNBUILT, IN_ORDER}
+use Rattle.bd_machine.specs.declared.guard.TheConstants.{UNBUILT, IN_ORDER, MAY_DESTRUCT, CONTENT_DIGEST}
 use Rattle.bd_machine.specs.declared.state.State.{State}
 use Rattle.bd_machine.specs.Alone.{view_by}
+use Rattle.bd_machine.specs.AsYet.{as_yet}
 use Rattle.bd_machine.specs.Guards.{guards, change, is_built}
+use Rattle.bd_machine.specs.BlockMap.{home, row_of}
+use Rattle.bd_machine.specs.Homes.{is_home, is_told, is_called_for, is_digest_due, has_destructed}
 use Rattle.bd_machine.specs.Messages.{count_at, brings}
+use Rattle.bd_machine.specs.Registry.{is_free, is_unused}
 use Rattle.bd_machine.specs.Run.{after_all}
 use Rattle.bd_machine.specs.Step.{IsAllowed, first_failing, guards_in, guards_shutdown, is_in_order, is_shutdown, change_in, after}
 use Rattle.bd_machine.specs.View.{View, Came, Change, Taking, view, part_of, came_for, asked}
 use Rattle.bd_machine.proofs.Acts.{Passes, passed, IsFresh}
-use Rattle.bd_machine.proofs.Runs.{threads_stay}
 use Rattle.bd_machine.proofs.Steps.{own, frame, fresh_after}
 use Rattle.bd_turns.specs.declared.queue.Message.{Message}
 use Rattle.bd_turns.specs.Laws.{TurnIsRun, IsTurn, with_view}
 use Rattle.bd_turns.specs.Local.{Shared, Local, first_of, came_local, refusal_local, change_local, queue_after, carried_local, local_after, Leads}
+use Rattle.bd_turns.specs.Told.{IsTold}
 use Rattle.bd_turns.specs.Tied.{Stand, IsTied}
-use Rattle.bd_turns.proofs.Allowed.{all_pass, no_guards_shutdown, in_order}
 use Rattle.bd_turns.proofs.Effects.{Kind, Puts, Tooks, Quiet, kind_of, brings_some}
+use Rattle.bd_turns.proofs.Allowed.{all_pass, no_guards_shutdown, in_order, threads_stay}
 use Rattle.bd_turns.proofs.Ids.{fresh_to, fresh_from}
 use Rattle.bd_turns.proofs.Keys.{after_keyed}
 use Rattle.bd_turns.proofs.PutRings.{put_rings}
 use Rattle.bd_turns.proofs.Queues.{First, first_is, taken_first}
 use Rattle.bd_turns.proofs.Rings.{AreRings, quiet_rings}
+use Rattle.bd_turns.proofs.Told.{told_after, destruct_is_free}
 use Rattle.bd_turns.proofs.TookRings.{took_rings}
 
 -- what a thread sees in a state, with these queues
@@ -59,13 +65,49 @@ module _ (setup : Setup) (s : State) (t : ℕ) (queues : ℕ → List Message) w
       let taking : Taking = record { source = source; number = number; what = what } in
       first_is t (queues t) taking (brings_some what (first_of t (queues t) taking) (took_parts source number what h).1)
 
-  pub came_same : (act : Act) → Stand s.tokens t (part_of s t).taken (queues t) → LocallyPasses act → came_for setup s t act ≡ came_local setup t (local_of s queues t) act
-  came_same (acts.Took source number what) st h =
+  -- what comes to the thread lets it do and change what comes by the state does
+  pub record IsAlike (act : Act) : Type 0 where
+    pub guards_are : guards setup t (view s t) act (came_for setup s t act) ≡ guards setup t (view s t) act (came_local setup t (local_of s queues t) act)
+    pub change_is : change setup t (view s t) act (came_for setup s t act) ≡ change setup t (view s t) act (came_local setup t (local_of s queues t) act)
+
+  alike_of : (act : Act) → came_for setup s t act ≡ came_local setup t (local_of s queues t) act → IsAlike act
+  alike_of act same = record { guards_are = ap (guards setup t (view s t) act) same; change_is = ap (change setup t (view s t) act) same }
+
+  -- the device is called for by the same, whether its home was told to destruct it or not
+  called_same : (dev : DevId) (digest : Option (List ℕ)) → IsTold setup s → LocallyPasses (acts.Destruct dev digest)
+      → is_called_for (view s t) (came_for setup s t (acts.Destruct dev digest)) dev ≡ is_called_for (view s t) (came_local setup t (local_of s queues t) (acts.Destruct dev digest)) dev
+  called_same dev digest told h = go (is_told (view s t) dev) refl
+    where
+      v : View
+      v = view s t
+
+      came : Came
+      came = came_local setup t (local_of s queues t) (acts.Destruct dev digest)
+
+      free_if : is_told v dev ≡ true → is_free setup s.registry dev ≡ true
+      free_if is =
+          let g = and_parts (is_home setup t dev && is_called_for v came dev) (not (has_destructed v dev)) (passed (guards setup t v (acts.Destruct dev digest) came) h).0 in
+          let k = and_parts (is_home setup t dev) (is_called_for v came dev) g.0 in
+          let l = and_parts (is_some (row_of setup dev)) (home setup dev == t) k.0 in
+          destruct_is_free setup s t dev told (eqb-true (home setup dev) t l.1) is g.1
+
+      go : (b : Bool) → is_told v dev ≡ b → ((is_told v dev && is_free setup s.registry dev) || (as_yet && s.shut && is_unused setup s.registry dev)) ≡ ((is_told v dev && true) || (as_yet && s.shut && is_unused setup s.registry dev))
+      go true is = ap (λ f. (is_told v dev && f) || (as_yet && s.shut && is_unused setup s.registry dev)) (free_if is)
+      go false is =
+          ap (λ b. (b && is_free setup s.registry dev) || (as_yet && s.shut && is_unused setup s.registry dev)) is
+          ∙ sym (ap (λ b. (b && true) || (as_yet && s.shut && is_unused setup s.registry dev)) is)
+
+  pub alike : (act : Act) → IsTold setup s → Stand s.tokens t (part_of s t).taken (queues t) → LocallyPasses act → IsAlike act
+  alike (acts.Took source number what) told st h =
       let taking : Taking = record { source = source; number = number; what = what } in
       let first = first_took source number what h in
       let same = taken_first s.tokens t (part_of s t).taken (queues t) taking first (eqb-true number (count_at (part_of s t).taken source) (took_parts source number what h).0) st ∙ sym first.came in
-      λ i. record { message = same i; answer = None; unused = false; shut = s.shut }
-  came_same _ st h = refl
+      alike_of (acts.Took source number what) (λ i. record { message = same i; answer = None; between = None; free = false; unused = false; shut = s.shut })
+  alike (acts.Destruct dev digest) told st h = record {
+    guards_are = ap (λ b. (MAY_DESTRUCT, is_home setup t dev && b && not (has_destructed (view s t) dev)) ∷ (CONTENT_DIGEST, is_digest_due setup (view s t) dev digest) ∷ []) (called_same dev digest told h);
+    change_is = refl;
+  }
+  alike act told st h = alike_of act refl
 
 -- ---- an entry that is allowed
 
@@ -104,10 +146,10 @@ module _ (setup : Setup) (s : State) (views : ℕ → View) (shared : Shared) (e
   below = subst (λ (n : ℕ). e.thread < n) (sym tied.threads_are) lt
 
   -- **After**: an allowed entry leaves a state that is tied to what the thread's own rules say
-  tied_by_state : IsAllowed setup s e → came_for setup s e.thread e.act ≡ came_local setup e.thread (local_of s shared.queues e.thread) e.act → TakesFirst s shared.queues e.thread e.act
+  tied_by_state : IsAllowed setup s e → IsAlike setup s e.thread shared.queues e.act → TakesFirst s shared.queues e.thread e.act
       → IsTied setup (after setup s e) (with_view views e.thread (local_after setup e.thread (local_of s shared.queues e.thread) e).view) (local_after setup e.thread (local_of s shared.queues e.thread) e).shared
   unfolding after local_after
-  tied_by_state allowed came first = record {
+  tied_by_state allowed same first = record {
     stamp_is = refl;
     shut_is = refl;
     registry_is = refl;
@@ -118,31 +160,32 @@ module _ (setup : Setup) (s : State) (views : ℕ → View) (shared : Shared) (e
     placed = now.placed;
     keyed = after_keyed setup s e tied.keyed;
     fresh = fresh_from (after setup s e) (fresh_after setup s e fresh_of allowed);
+    told = told_after setup s e fresh_of allowed tied.told;
   }
     where
       change_same : change_in setup s e.thread e.act ≡ change_local setup e.thread (local_of s shared.queues e.thread) e.act
-      change_same = ap (change setup e.thread (view s e.thread) e.act) came
+      change_same = same.change_is
 
       now : AreRings setup (after setup s e) (λ r. queue_after e.thread e.act (change_local setup e.thread (local_of s shared.queues e.thread) e.act).moves r (shared.queues r))
       now = subst (λ (c : Change). AreRings setup (after setup s e) (λ r. queue_after e.thread e.act c.moves r (shared.queues r))) change_same
           (rings_next setup s shared.queues e.stamp e.thread fresh_of rings_of lt e.act allowed first)
 
-      own_view : view (after setup s e) e.thread ≡ view_by e.thread (view s e.thread) (change_local setup e.thread (local_of s shared.queues e.thread) e.act) (asked e.act)
-      own_view = own setup s e fresh_of allowed ∙ ap (λ (c : Change). view_by e.thread (view s e.thread) c (asked e.act)) change_same
+      own_view : view (after setup s e) e.thread ≡ view_by setup e.thread (view s e.thread) (change_local setup e.thread (local_of s shared.queues e.thread) e.act) (asked e.act)
+      own_view = own setup s e fresh_of allowed ∙ ap (λ (c : Change). view_by setup e.thread (view s e.thread) c (asked e.act)) change_same
 
-      views_now : (u : ℕ) → u < setup.threads → (u ≡ e.thread) ⊎ (u ≡ e.thread → ⊥) → view (after setup s e) u ≡ with_view views e.thread (carried_local e.thread (local_of s shared.queues e.thread) e (change_local setup e.thread (local_of s shared.queues e.thread) e.act)).view u
+      views_now : (u : ℕ) → u < setup.threads → (u ≡ e.thread) ⊎ (u ≡ e.thread → ⊥) → view (after setup s e) u ≡ with_view views e.thread (carried_local setup e.thread (local_of s shared.queues e.thread) e (change_local setup e.thread (local_of s shared.queues e.thread) e.act)).view u
       views_now u u_lt (inl same) =
           ap (view (after setup s e)) same ∙ own_view
-          ∙ sym (ap (λ b. cond b (view_by e.thread (view s e.thread) (change_local setup e.thread (local_of s shared.queues e.thread) e.act) (asked e.act)) (views u)) (eq-eqb u e.thread same))
+          ∙ sym (ap (λ b. cond b (view_by setup e.thread (view s e.thread) (change_local setup e.thread (local_of s shared.queues e.thread) e.act) (asked e.act)) (views u)) (eq-eqb u e.thread same))
       views_now u u_lt (inr ne) =
           frame setup s e fresh_of allowed u (λ h. ne (sym h)) ∙ tied.views_are u u_lt
-          ∙ sym (ap (λ b. cond b (view_by e.thread (view s e.thread) (change_local setup e.thread (local_of s shared.queues e.thread) e.act) (asked e.act)) (views u)) (ne_eqb u e.thread ne))
+          ∙ sym (ap (λ b. cond b (view_by setup e.thread (view s e.thread) (change_local setup e.thread (local_of s shared.queues e.thread) e.act) (asked e.act)) (views u)) (ne_eqb u e.thread ne))
 
-  pub tied_after : IsAllowed setup s e → came_for setup s e.thread e.act ≡ came_local setup e.thread (local_of s shared.queues e.thread) e.act → TakesFirst s shared.queues e.thread e.act
+  pub tied_after : IsAllowed setup s e → IsAlike setup s e.thread shared.queues e.act → TakesFirst s shared.queues e.thread e.act
       → IsTied setup (after setup s e) (with_view views e.thread (local_after setup e.thread (record { view = views e.thread; shared = shared }) e).view) (local_after setup e.thread (record { view = views e.thread; shared = shared }) e).shared
-  tied_after allowed came first =
+  tied_after allowed same first =
       subst (λ (l : Local). IsTied setup (after setup s e) (with_view views e.thread (local_after setup e.thread l e).view) (local_after setup e.thread l e).shared)
-      (local_is setup s views shared e.thread tied lt) (tied_by_state allowed came first)
+      (local_is setup s views shared e.thread tied lt) (tied_by_state allowed same first)
 
   -- **Allowed**: what the thread's own rules allow, the state allows
   module _ (still : is_shutdown e.act ≡ false) (passes : refusal_local setup e.thread (record { view = views e.thread; shared = shared }) e ≡ None) where
@@ -154,8 +197,8 @@ module _ (setup : Setup) (s : State) (views : ℕ → View) (shared : Shared) (e
         let each = passed ((UNBUILT, is_built e.act) ∷ (IN_ORDER, nat_lt s.stamp e.stamp) ∷ guards setup e.thread (view s e.thread) e.act (came_local setup e.thread (local_of s shared.queues e.thread) e.act)) ok in
         ((each.0, each.1.0), all_pass (guards setup e.thread (view s e.thread) e.act (came_local setup e.thread (local_of s shared.queues e.thread) e.act)) each.1.1)
 
-    came_is : came_for setup s e.thread e.act ≡ came_local setup e.thread (local_of s shared.queues e.thread) e.act
-    came_is = came_same setup s e.thread shared.queues e.act (tied.stand e.thread) parts_pass.1
+    alike_here : IsAlike setup s e.thread shared.queues e.act
+    alike_here = alike setup s e.thread shared.queues e.act tied.told (tied.stand e.thread) parts_pass.1
 
     pub allowed_if : IsAllowed setup s e
     allowed_if =
@@ -163,7 +206,7 @@ module _ (setup : Setup) (s : State) (views : ℕ → View) (shared : Shared) (e
         ap (λ b. cond b (cond (is_in_order s e) (first_failing gs) (Some IN_ORDER)) (Some UNBUILT)) parts_pass.0.0
         ∙ ap (λ b. cond b (first_failing gs) (Some IN_ORDER)) (in_order s e below parts_pass.0.1)
         ∙ ap (λ (xs : List (ℕ × Bool)). first_failing (xs ++ guards_in setup s e.thread e.act)) (no_guards_shutdown setup s e.thread e.act still)
-        ∙ ap (λ (c : Came). first_failing (guards setup e.thread (view s e.thread) e.act c)) came_is
+        ∙ ap first_failing alike_here.guards_are
         ∙ parts_pass.1
 
     takes_first : TakesFirst s shared.queues e.thread e.act
@@ -172,7 +215,7 @@ module _ (setup : Setup) (s : State) (views : ℕ → View) (shared : Shared) (e
         (subst (λ (a : Act). Passes (guards setup e.thread (view s e.thread) a (came_local setup e.thread (local_of s shared.queues e.thread) a))) is parts_pass.1)
 
     pub tied_next : IsTied setup (after setup s e) (with_view views e.thread (local_after setup e.thread (record { view = views e.thread; shared = shared }) e).view) (local_after setup e.thread (record { view = views e.thread; shared = shared }) e).shared
-    tied_next = tied_after allowed_if came_is takes_first
+    tied_next = tied_after allowed_if alike_here takes_first
 
 -- ---- a turn
 

@@ -1,19 +1,22 @@
 -- What one thread goes by in its turn: what it sees, and what the threads share. The same rules as the machine's, without the machine's state.
-use Rattle.std.specs.Prelude.{◌≡◌, ℕ, Bool, false, cond, ◌&&◌, ◌||◌, ◌==◌, nat_lt, List, [], ◌∷◌, ◌++◌, drop, map, Option, Some, None, option_and_then}
+use Rattle.std.specs.Prelude.{◌≡◌, ℕ, Bool, false, cond, ◌&&◌, ◌||◌, ◌==◌, nat_lt, List, [], ◌∷◌, ◌++◌, drop, map, Option, Some, None, is_some, option_and_then, option_map}
 use Rattle.bd_base.specs.declared.act.Act.{Act}
 use Rattle.bd_base.specs.declared.act.Act.TheVariants as acts
 use Rattle.bd_base.specs.declared.act.Entry.{Entry}
 use Rattle.bd_base.specs.declared.act.Token.{Token}
+use Rattle.bd_base.specs.declared.event.Answer.{Answer}
+use Rattle.bd_base.specs.declared.id.DevId.{DevId}
 use Rattle.bd_base.specs.declared.setup.Setup.{Setup}
 use Rattle.bd_machine.specs.declared.guard.TheConstants.{UNBUILT, IN_ORDER}
 use Rattle.bd_machine.specs.declared.state.Kept.{Kept}
 use Rattle.bd_machine.specs.declared.state.Registry.{Registry}
 use Rattle.bd_machine.specs.Alone.{view_by}
+use Rattle.bd_machine.specs.Changes.{registry_after}
 use Rattle.bd_machine.specs.Guards.{guards, change, is_built}
-use Rattle.bd_machine.specs.Registry.{answer_to, registry_after}
+use Rattle.bd_machine.specs.Registry.{Question, answer_to, is_unused}
 use Rattle.bd_machine.specs.Same.{same_id}
 use Rattle.bd_machine.specs.Step.{first_failing, is_shutdown}
-use Rattle.bd_machine.specs.View.{View, Came, Change, Move, Taking, is_unused_if_any, took, asked, destructed_by, id_of}
+use Rattle.bd_machine.specs.View.{View, Came, Change, Move, Taking, took, asked, destructed_by, id_of}
 use Rattle.bd_turns.specs.declared.queue.Message.{Message}
 
 -- the stamp of the last entry; whether the Shutdown came; the registry; for each receiver its messages in the order in which they were put
@@ -39,11 +42,22 @@ abbrev pub first_of : ℕ → List Message → Taking → Option Kept
 first_of t [] taking = None
 first_of t (m ∷ ms) taking = cond (is_named t taking m) (Some m.kept) None
 
+abbrev pub answer_by : Setup → Registry → ℕ → Question → Answer
+answer_by setup registry t q = answer_to setup registry t q.event
+
+-- no handle is open, but base handles, of the device that is destructed
+abbrev pub is_unused_by : Setup → Registry → Option DevId → Bool
+is_unused_by setup registry None = false
+is_unused_by setup registry (Some dev) = is_unused setup registry dev
+
+-- what came to the thread; a device that it was told to destruct is free, whatever the others do
 abbrev pub came_local : Setup → ℕ → Local → Act → Came
 came_local setup t l act = record {
   message = option_and_then (first_of t (l.shared.queues t)) (took act);
-  answer = option_and_then (λ q. answer_to setup l.shared.registry t q.event) (asked act);
-  unused = is_unused_if_any l.shared.registry (destructed_by act);
+  answer = option_map (answer_by setup l.shared.registry t) (asked act);
+  between = option_and_then (λ q. l.shared.registry.between) (asked act);
+  free = is_some (destructed_by act);
+  unused = is_unused_by setup l.shared.registry (destructed_by act);
   shut = l.shared.shut;
 }
 
@@ -66,20 +80,20 @@ queue_after t (acts.Put to number what) moves r queue = cond (r == to) (queue ++
 queue_after t (acts.Took source number what) moves r queue = cond (r == t) (drop 1 queue) queue
 queue_after t _ moves r queue = queue
 
-abbrev pub shared_after : ℕ → Shared → Entry → List Move → Shared
-shared_after t shared e moves = record {
+abbrev pub shared_after : Setup → ℕ → Shared → Entry → List Move → Shared
+shared_after setup t shared e moves = record {
   stamp = e.stamp;
   shut = shared.shut || is_shutdown e.act;
-  registry = registry_after shared.registry t (asked e.act);
+  registry = registry_after setup shared.registry t (asked e.act);
   queues = λ r. queue_after t e.act moves r (shared.queues r);
 }
 
-abbrev pub carried_local : ℕ → Local → Entry → Change → Local
-carried_local t l e c = record { view = view_by t l.view c (asked e.act); shared = shared_after t l.shared e c.moves }
+abbrev pub carried_local : Setup → ℕ → Local → Entry → Change → Local
+carried_local setup t l e c = record { view = view_by setup t l.view c (asked e.act); shared = shared_after setup t l.shared e c.moves }
 
 -- what the thread sees, and what is shared, after an entry of the thread
 unfoldable pub local_after : Setup → ℕ → Local → Entry → Local
-local_after setup t l e = carried_local t l e (change_local setup t l e.act)
+local_after setup t l e = carried_local setup t l e (change_local setup t l e.act)
 
 -- the thread's entries lead from one to the other, with no Shutdown among them
 abbrev pub Leads : Setup → ℕ → Local → List Entry → Local → Type 0

@@ -1,9 +1,10 @@
 -- How a state of the machine belongs to what the threads see and share between two turns.
 use Rattle.std.specs.Prelude.{◌≡◌, ℕ, ◌+◌, ◌<◌, ◌≤◌, Bool, false, cond, ◌==◌, ◌⊎◌, List, [], ◌∷◌, length, Option, Some, None, is_some}
 use Rattle.bd_base.specs.declared.id.ReqId.{ReqId}
+use Rattle.bd_base.specs.declared.id.WalkId.{WalkId}
 use Rattle.bd_base.specs.declared.setup.Setup.{Setup}
 use Rattle.bd_machine.specs.declared.state.Id.{Id}
-use Rattle.bd_machine.specs.declared.state.Id.TheVariants.{Request, Piece, Notice}
+use Rattle.bd_machine.specs.declared.state.Id.TheVariants.{Request, Piece, Walk, Notice}
 use Rattle.bd_machine.specs.declared.state.Kept.{Kept}
 use Rattle.bd_machine.specs.declared.state.Kept.TheVariants as keeps
 use Rattle.bd_machine.specs.declared.state.Place.{Place}
@@ -17,6 +18,7 @@ use Rattle.bd_machine.specs.Table.{look_up, write}
 use Rattle.bd_machine.specs.View.{View, view, part_of, message_of, id_of}
 use Rattle.bd_turns.specs.declared.queue.Message.{Message}
 use Rattle.bd_turns.specs.Local.{Shared}
+use Rattle.bd_turns.specs.Told.{IsTold}
 
 -- ---- messages and tokens
 
@@ -68,6 +70,7 @@ is_cut (Some token) = is_cut_kept token.kept
 -- ids that a thread has still to give name no token
 pub record AreFresh (s : State) : Type 0 where
   pub requests : (r : ReqId) → (part_of s r.thread).next_request ≤ r.seq → look_up same_id s.tokens (Request r) ≡ None
+  pub walks : (w : WalkId) → (part_of s w.thread).next_walk ≤ w.seq → look_up same_id s.tokens (Walk w) ≡ None
   pub notices : (sender receiver number : ℕ) → count_at (part_of s sender).put receiver ≤ number → look_up same_id s.tokens (Notice sender receiver number) ≡ None
   pub pieces : (r : ReqId) (k : ℕ) → is_cut (look_up same_id s.tokens (Request r)) ≡ false → look_up same_id s.tokens (Piece r k) ≡ None
 
@@ -87,3 +90,5 @@ pub record IsTied (setup : Setup) (s : State) (views : ℕ → View) (shared : S
   pub placed : (id : Id) → IsPlaced setup s shared.queues id (place s id)
   pub keyed : IsKeyed s.tokens
   pub fresh : AreFresh s
+  -- a device that its home is told to destruct is free
+  pub told : IsTold setup s

@@ -36,16 +36,19 @@ const CONTENT: [u8; 32] = [
 enum Word {
     Open,
     Submit(Op),
+    // A read of the first block past the end.
+    Beyond,
     Wait,
     Close,
 }
 
-const SCRIPT: [Word; 6] = [
+const SCRIPT: [Word; 7] = [
     Word::Open,
     Word::Submit(WRITE),
     Word::Wait,
     Word::Submit(Op::Read),
     Word::Wait,
+    Word::Beyond,
     Word::Close,
 ];
 
@@ -61,6 +64,12 @@ fn job(alloc: Global, word: Word) -> Result<Job, OutOfMemory> {
             handle,
             op,
             lba: 0,
+            count: 1,
+        }),
+        Word::Beyond => Ok(Job::Submit {
+            handle,
+            op: Op::Read,
+            lba: 64,
             count: 1,
         }),
         Word::Wait => Ok(Job::Wait),
@@ -117,7 +126,7 @@ enum Deed {
     Opened(u128),
     Closed,
     Accept(ReqId, u32, Op, u64),
-    Refuse,
+    Refuse(Op, u64),
     Cut(u64, u32),
     Put(u128, u64, u32),
     Took(u128, u64),
@@ -159,10 +168,10 @@ fn act(alloc: Global, deed: Deed) -> Result<Act, OutOfMemory> {
             lba,
             count: 1,
         }),
-        Deed::Refuse => Ok(Act::Refuse {
+        Deed::Refuse(op, lba) => Ok(Act::Refuse {
             handle: Some(HANDLE),
-            op: WRITE,
-            lba: 0,
+            op,
+            lba,
             count: 1,
             errno: Errno::Inval,
         }),
@@ -205,8 +214,10 @@ const ZERO: ReqId = ReqId { thread: 0, seq: 0 };
 
 const ONE: ReqId = ReqId { thread: 0, seq: 1 };
 
+const TWO: ReqId = ReqId { thread: 0, seq: 2 };
+
 // The whole history of the script, with the stamps 1, 2, 3 and so on.
-const TRACE: [Deed; 26] = [
+const TRACE: [Deed; 28] = [
     Deed::Opened(0),
     Deed::Script(1, Outcome::Done),
     Deed::Accept(ZERO, 0, WRITE, 0),
@@ -229,14 +240,16 @@ const TRACE: [Deed; 26] = [
     Deed::Took(3, 1),
     Deed::Complete(1, Status::Success, Some(SHOWN)),
     Deed::Script(5, Outcome::Done),
+    Deed::Refuse(Op::Read, 64),
+    Deed::Script(6, Outcome::Errno(Errno::Inval)),
     Deed::Closed,
-    Deed::Script(6, Outcome::Done),
+    Deed::Script(7, Outcome::Done),
     Deed::Shutdown,
     Deed::Destruct(0, Some(CONTENT)),
 ];
 
 // A guard, and an act that it refuses after the first entries of the trace.
-const REFUSED: [(u32, usize, Deed); 33] = [
+const REFUSED: [(u32, usize, Deed); 34] = [
     // an act that isn't built, a reset
     (0, 0, Deed::Pend),
     (0, 2, Deed::Accept(ZERO, 0, Op::Reset, 0)),
@@ -252,17 +265,18 @@ const REFUSED: [(u32, usize, Deed); 33] = [
     (6, 0, Deed::Opened(7)),
     (7, 2, Deed::Opened(1)),
     (7, 4, Deed::Closed),
-    // a block that the line doesn't name, a device that isn't the handle's, an id of another
-    // thread, an id that is used, a refusal without a cause
+    // a block that the line doesn't name, a device that isn't the handle's, a block past the end, an
+    // id of another thread, an id that is used, a refusal without a cause
     (8, 2, Deed::Accept(ZERO, 0, WRITE, 1)),
-    (9, 2, Deed::Accept(ZERO, 1, WRITE, 0)),
+    (8, 2, Deed::Accept(ZERO, 1, WRITE, 0)),
+    (9, 22, Deed::Accept(TWO, 0, Op::Read, 64)),
     (
         10,
         2,
         Deed::Accept(ReqId { thread: 1, seq: 0 }, 0, WRITE, 0),
     ),
     (10, 12, Deed::Accept(ZERO, 0, Op::Read, 0)),
-    (11, 2, Deed::Refuse),
+    (11, 2, Deed::Refuse(WRITE, 0)),
     // cut twice, cut into two, served twice, a fault of memory
     (17, 5, Deed::Cut(0, 1)),
     (18, 4, Deed::Cut(0, 2)),
@@ -275,10 +289,10 @@ const REFUSED: [(u32, usize, Deed); 33] = [
     (27, 10, Deed::Complete(0, Status::Failed, None)),
     (28, 20, Deed::Complete(1, Status::Success, None)),
     // destructed with a handle open, twice, a device that there isn't, without its digest
-    (31, 22, Deed::Destruct(0, Some(CONTENT))),
-    (31, 26, Deed::Destruct(0, Some(CONTENT))),
-    (31, 25, Deed::Destruct(1, None)),
-    (32, 25, Deed::Destruct(0, None)),
+    (31, 24, Deed::Destruct(0, Some(CONTENT))),
+    (31, 28, Deed::Destruct(0, Some(CONTENT))),
+    (31, 27, Deed::Destruct(1, None)),
+    (32, 27, Deed::Destruct(0, None)),
     // a line out of order, another outcome, a Shutdown with a request open, with a line to do
     (33, 1, Deed::Script(2, Outcome::Done)),
     (34, 1, Deed::Script(1, Outcome::Errno(Errno::Exists))),
@@ -320,7 +334,7 @@ fn answer_after(
 #[test]
 fn first_path_is_a_complete_run(rt: HostRuntime) {
     let alloc = rt.alloc();
-    for row in &[(25, false), (26, true)] {
+    for row in &[(27, false), (28, true)] {
         let (n, complete) = *row;
         let is_complete = match played(alloc, n) {
             Ok(machine) => machine.is_complete() == Ok(complete),

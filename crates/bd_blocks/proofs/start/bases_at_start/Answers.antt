@@ -4,7 +4,8 @@ use Rattle.std.specs.List.{range_with_len}
 use Rattle.std.specs.Prelude.{option_to_list}
 use Rattle.bd_machine.specs.declared.state.Base.{Base}
 use Rattle.bd_machine.specs.BlockMap.{row_of}
-use Rattle.bd_machine.specs.Start.{base_if_here, dev_of}
+use Rattle.bd_machine.specs.Start.{base_if_here}
+use Rattle.bd_machine.specs.Users.{dev_of}
 use Rattle.bd_blocks.proofs.Left.{left_from}
 use Rattle.bd_blocks.proofs.Starting.{next_base}
 use Rattle.bd_blocks.proofs.start.bases_at_start.Goals as goal

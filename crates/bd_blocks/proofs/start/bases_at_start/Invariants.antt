@@ -1,7 +1,8 @@
 use Rattle.std.proofs.Common.{◌≡◌, ◌-◌, ◌++◌, [], length, filter_map}
 use Rattle.std.specs.List.{range_with_len}
 use Rattle.bd_machine.specs.BlockMap.{row_of}
-use Rattle.bd_machine.specs.Start.{base_if_here, bases_at_start, dev_of}
+use Rattle.bd_machine.specs.Start.{base_if_here, bases_at_start}
+use Rattle.bd_machine.specs.Users.{dev_of}
 use Rattle.bd_blocks.proofs.start.bases_at_start.Given as goal
 
 abbrev pub invariant-loop-n : goal.invariant-loop-n

@@ -1,6 +1,6 @@
 use Rattle.std.proofs.Common.{◌≡◌, ◌-◌, map}
 use Rattle.std.specs.List.{range_with_len}
-use Rattle.bd_machine.specs.Completion.{piece_here, pieces_here}
+use Rattle.bd_machine.specs.Kept.{piece_here, pieces_here}
 use Rattle.bd_machine.specs.Requests.{pieces_closed}
 use Rattle.bd_machine.specs.Step.{moved}
 use Rattle.bd_machine.specs.View.{view}

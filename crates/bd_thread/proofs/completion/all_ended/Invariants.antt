@@ -1,6 +1,6 @@
 use Rattle.std.proofs.Common.{◌≡◌, ◌-◌, map}
 use Rattle.std.specs.List.{list_all, range_with_len}
-use Rattle.bd_machine.specs.Completion.{piece_here, pieces_here}
+use Rattle.bd_machine.specs.Kept.{piece_here, pieces_here}
 use Rattle.bd_thread.specs.Completions.{is_ended}
 use Rattle.bd_thread.specs.Seen.{view_seen}
 use Rattle.bd_thread.proofs.completion.all_ended.Given as goal

@@ -1,24 +1,40 @@
-use Rattle.std.proofs.Common.{ℕ, refl, sym, ◌∙◌, ap, subst, length}
+use Rattle.std.proofs.Common.{◌≡◌, Some, length, refl, sym, ◌∙◌, ap}
 use Rattle.std.specs.Option.{option_copied}
 use Rattle.bd_base.specs.declared.act.Act.TheVariants as acts
 use Rattle.bd_machine.specs.declared.state.Part.{Part}
-use Rattle.bd_thread.specs.Seen.{here_in, local_at, queues_of}
-use Rattle.bd_thread.proofs.Ends.{line_steps, length-longer}
-use Rattle.bd_thread.proofs.Going.{Steps, acted_step}
+use Rattle.bd_machine.specs.Asked.{next_line, outcome_by}
+use Rattle.bd_machine.specs.View.{View}
+use Rattle.bd_thread.specs.Acted.{Acted}
+use Rattle.bd_thread.specs.Lines.{done, IsEnded}
+use Rattle.bd_thread.specs.Requests.{KeepsTickets}
+use Rattle.bd_thread.specs.Seen.{here_in, longer, queues_of, untaken, view_of}
+use Rattle.bd_thread.specs.declared.links.Links.{Links}
+use Rattle.bd_thread.specs.declared.thread.Thread.{Thread}
+use Rattle.bd_thread.proofs.Ends.{ended_by, line_steps}
+use Rattle.bd_thread.proofs.Going.{carried}
+use Rattle.bd_thread.proofs.Submissions.{acted_into}
 use Rattle.bd_thread.proofs.Tickets.{same_tickets}
 use Rattle.bd_thread.proofs.thread.Thread.end_line.Goals as goal
 
-pub returns-clause-acted : goal.returns-clause-acted
-returns-clause-acted c =
+pub returns : goal.returns
+returns c =
     let t = c.args.self.now in
     let links = c.args.links.now in
-    let act = acts.Script c.in-Some.line.now.number c.in-Some-2.outcome in
-    let queues = queues_of links.queues.items in
-    let stepped = line_steps t.setup.now t.me t.part (here_in t.held.items) links.registry (length links.entries) queues c.in-Some.line.now.number c.in-Some.line.now.job c.in-Some-2.outcome
-    (sym c.next_line.ensures ∙ ap option_copied c.in-Some.is) (sym c.in_ok-outcome.ensures ∙ c.in-Some-2.is) links.shut c.if-links.false c.line_done.new.part c.in_ok-line_done.ensures in
-    acted_step t links _ _ act refl refl refl c.in_ok-add.ensures
-    (subst (λ (n : ℕ). Steps t.setup.now t.me (local_at t.me t.part (here_in t.held.items) links.registry links.shut (length links.entries) queues) act (local_at t.me c.line_done.new.part (here_in t.held.items) links.registry links.shut n queues))
-    (sym (ap length c.in_ok-add.ensures ∙ length-longer t.me links.entries act)) stepped)
-
-pub returns-clause-tickets : goal.returns-clause-tickets
-returns-clause-tickets c = λ keeps. same_tickets c.args.self.now _ refl (ap (λ (p : Part). p.requests) c.in_ok-line_done.ensures) (ap (λ (p : Part). p.next_request) c.in_ok-line_done.ensures) keeps
+    let line = c.in-Some.line.now in
+    let outcome = c.in-Some-2.outcome in
+    let next : next_line t.setup.now t.me t.part ≡ Some line = sym c.next_line.ensures ∙ ap option_copied c.in-Some.is in
+    let due : outcome_by (view_of t links) t.part.decided line.job ≡ Some outcome =
+    sym (ap (λ (v : View). outcome_by v v.part.decided line.job) c.seen.ensures) ∙ sym c.in_ok-outcome.ensures ∙ c.in-Some-2.is in
+    let new : Thread = record t { part = done t line.job } in
+    let after : Links = record links { entries = longer t.me links.entries (acts.Script line.number outcome) } in
+    let part : record t { part = untaken c.line_done.new.part } ≡ new = ap (λ (p : Part). let n : Thread = record t { part = untaken p } in n) c.in_ok-line_done.ensures in
+    let acted : Acted t links new after =
+    acted_into t links new after (acts.Script line.number outcome) (done t line.job) (here_in t.held.items) refl refl refl refl refl
+    (line_steps t.setup.now t.me t.part (here_in t.held.items) links.registry links.shut (length links.entries) (queues_of links.queues.items) line outcome c.if-links.false next due) in
+    let ended : IsEnded outcome t links new after = record { line = line; next = next; thread = refl; links = refl } in
+    let thread = c.in_ok-note.ensures.thread ∙ part in
+    record {
+      acted = carried (Acted t links) new after _ _ thread c.in_ok-note.ensures.links acted;
+      tickets = carried (λ n l. KeepsTickets t → KeepsTickets n) new after _ _ thread c.in_ok-note.ensures.links (λ keeps. same_tickets t new refl refl refl keeps);
+      ended = ended_by t links _ _ line outcome c.if-links.false next due (carried (IsEnded outcome t links) new after _ _ thread c.in_ok-note.ensures.links ended);
+    }

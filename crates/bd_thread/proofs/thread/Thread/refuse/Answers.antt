@@ -1,7 +1,9 @@
-use Rattle.std.proofs.Common.{◌≡◌, refl, ap}
-use Rattle.bd_thread.specs.declared.links.Links.{Links}
-use Rattle.bd_thread.specs.Requests.{refuse_act}
+use Rattle.std.proofs.Common.{refl}
+use Rattle.bd_thread.specs.Requests.{refuse_act, refused, IsRefused}
 use Rattle.bd_thread.specs.Seen.{longer}
+use Rattle.bd_thread.specs.declared.links.Links.{Links}
+use Rattle.bd_thread.specs.declared.thread.Thread.{Thread}
+use Rattle.bd_thread.proofs.Going.{carried}
 use Rattle.bd_thread.proofs.Submissions.{refused_acted}
 use Rattle.bd_thread.proofs.thread.Thread.refuse.Goals as goal
 
@@ -9,11 +11,12 @@ pub returns : goal.returns
 returns c =
     let old = c.args.self.now in
     let before = c.args.links.now in
-    let after : Links = record before { entries = c.add.new.entries } in
-    let links : after ≡ record before { entries = longer old.me before.entries (refuse_act c.args.handle c.args.asked c.args.errno) } = ap (λ es. let l : Links = record before { entries = es } in l) c.in_ok-add.ensures in
-    record {
+    let new : Thread = record old { part = refused c.args.errno old.part } in
+    let after : Links = record before { entries = longer old.me before.entries (refuse_act c.args.handle c.args.asked c.args.errno) } in
+    let is : IsRefused c.args.errno c.args.handle c.args.asked old before new after = record {
       due = c.requires.due;
-      acted = refused_acted old before _ after c.args.handle c.args.asked c.args.errno c.requires.asked c.requires.due refl links;
+      acted = refused_acted old before new after c.args.handle c.args.asked c.args.errno c.requires.asked c.requires.due refl refl;
       thread = refl;
-      links = links;
-    }
+      links = refl;
+    } in
+    carried (IsRefused c.args.errno c.args.handle c.args.asked old before) new after _ _ c.in_ok-note.ensures.thread c.in_ok-note.ensures.links is

@@ -1,11 +1,20 @@
-use Rattle.std.proofs.Common.{◌≡◌, ℕ, List, length, Some, refl, ◌∙◌, ap, rules}
+use Rattle.std.proofs.Common.{◌≡◌, ℕ, ◌+◌, ◌&&◌, ◌==◌, true, List, length, Some, refl, sym, ◌∙◌, ap, rules, subst}
 use Rattle.bd_base.specs.declared.act.Act.TheVariants as acts
 use Rattle.bd_machine.specs.declared.state.Id.{Id}
+use Rattle.bd_machine.specs.declared.state.Part.{Part}
 use Rattle.bd_machine.specs.Alone.{held_after}
-use Rattle.bd_machine.specs.Messages.{count_at, moves_took}
-use Rattle.bd_thread.specs.Seen.{here_in, queues_of}
-use Rattle.bd_thread.proofs.Going.{acted_by}
-use Rattle.bd_thread.proofs.Took.{took_steps, brought_first}
+use Rattle.bd_machine.specs.Guards.{is_built_token}
+use Rattle.bd_machine.specs.Messages.{brings, count_at, taken_by}
+use Rattle.bd_machine.specs.Table.{write}
+use Rattle.bd_machine.specs.View.{Move, id_of}
+use Rattle.bd_thread.specs.declared.links.Links.{Links}
+use Rattle.bd_thread.specs.declared.thread.Thread.{Thread}
+use Rattle.bd_thread.specs.Acted.{Acted}
+use Rattle.bd_thread.specs.Requests.{KeepsTickets}
+use Rattle.bd_thread.specs.Seen.{here_in, longer, queues_of, untaken}
+use Rattle.bd_thread.specs.Sent.{landed, KeepsRequests}
+use Rattle.bd_thread.proofs.Going.{acted_by, carried}
+use Rattle.bd_thread.proofs.Took.{brought_first, brought_keeps, brought_moves, took_steps}
 use Rattle.bd_thread.proofs.Tickets.{same_tickets}
 use Rattle.bd_thread.proofs.thread.Thread.take.Goals as goal
 
@@ -13,23 +22,60 @@ pub returns-clause-acted : goal.returns-clause-acted
 returns-clause-acted c =
     let t = c.args.self.now in
     let links = c.args.links.now in
+    let setup = t.setup.now in
     let m = c.in-Some.message in
     let number = c.count_at-number.result in
     let queues = queues_of links.queues.items in
     let rest = queues_of c.pop.new.queues.items in
+    let here = here_in t.held.items in
+    let id : Id = id_of m.sender t.me number m.what in
     let first = c.in-Some.ensures.some.first in
+    let brought : is_built_token m.what && brings m.what (Some m.kept) ≡ true = brought_first (queues t.me) m (rest t.me) (search rules) first in
     let next : number ≡ count_at t.part.taken m.sender = c.count_at-number.ensures ∙ ap (λ (counts : List (ℕ × ℕ)). count_at counts m.sender) c.as_slice-2.ensures in
-    acted_by t links _ _ (acts.Took m.sender number m.what) refl refl c.in-Some.ensures.len c.in_ok-add.ensures
-    (took_steps t.setup.now t.me t.part c.took.new.part (here_in t.held.items) (here_in c.arrive.new.tokens.items) links.registry links.shut (length links.entries) queues rest m (rest t.me) number
-    next
-    (brought_first (queues t.me) m (rest t.me) (search rules) first)
-    c.in_ok-took.ensures
-    (c.in_ok-arrive.ensures ∙ ap (λ (id : Id). held_after (moves_took id (Some m.kept)) (here_in t.held.items)) c.id_of-id.ensures)
-    first
-    c.in-Some.ensures.some.rest)
+    let counted : Part = record t.part { taken = write ◌==◌ t.part.taken m.sender (number + 1) } in
+    let part : c.arrived.new.part ≡ (taken_by setup t.me m.what counted (Some m.kept) id).part =
+    c.in_ok-arrived.ensures.part id ∙ ap (λ (p : Part). (taken_by setup t.me m.what p (Some m.kept) id).part) c.in_ok-took.ensures in
+    let held : here_in c.land.new.tokens.items ≡ held_after (taken_by setup t.me m.what counted (Some m.kept) id).moves here =
+    c.in_ok-land.ensures
+    ∙ ap (λ (i : Id). held_after (landed i m.kept) here) c.id_of-id.ensures
+    ∙ ap (λ (ms : List Move). held_after ms here) (sym (brought_moves setup t.me counted id m.what m.kept brought)) in
+    let new : Thread = record t { part = untaken c.arrived.new.part; held = c.land.new.tokens } in
+    let after : Links = record links { queues = c.pop.new.queues; entries = longer t.me links.entries (acts.Took m.sender number m.what) } in
+    carried (Acted t links) new after _ _ c.in_ok-note.ensures.thread c.in_ok-note.ensures.links
+    (acted_by t links new after (acts.Took m.sender number m.what) refl refl c.in-Some.ensures.len refl
+    (took_steps setup t.me t.part here links.registry links.shut (length links.entries) queues m number c.arrived.new.part (here_in c.land.new.tokens.items) rest (rest t.me)
+    next brought part held first c.in-Some.ensures.some.rest))
 
 pub returns-clause-tickets : goal.returns-clause-tickets
 returns-clause-tickets c = λ keeps.
-    let requests : c.took.new.part.requests ≡ c.args.self.now.part.requests = search rules in
-    let next : c.took.new.part.next_request ≡ c.args.self.now.part.next_request = search rules in
-    same_tickets c.args.self.now _ refl requests next keeps
+    let t = c.args.self.now in
+    let m = c.in-Some.message in
+    let rest = queues_of c.pop.new.queues.items in
+    let first = c.in-Some.ensures.some.first in
+    let brought : is_built_token m.what && brings m.what (Some m.kept) ≡ true = brought_first (queues_of c.args.links.now.queues.items t.me) m (rest t.me) (search rules) first in
+    let new : Thread = record t { part = untaken c.arrived.new.part; held = c.land.new.tokens } in
+    let part = c.in_ok-arrived.ensures.part c.id_of-id.result in
+    let kept = brought_keeps t.setup.now t.me c.took.new.part c.id_of-id.result m.what m.kept brought in
+    let requests = ap (λ (p : Part). p.requests) part ∙ kept.0 ∙ ap (λ (p : Part). p.requests) c.in_ok-took.ensures in
+    let next = ap (λ (p : Part). p.next_request) part ∙ kept.1 ∙ ap (λ (p : Part). p.next_request) c.in_ok-took.ensures in
+    subst (λ (n : Thread). KeepsTickets n) (sym c.in_ok-note.ensures.thread) (same_tickets t new refl requests next keeps)
+
+pub returns-clause-keeps : goal.returns-clause-keeps
+returns-clause-keeps c =
+    let t = c.args.self.now in
+    let links = c.args.links.now in
+    let m = c.in-Some.message in
+    let rest = queues_of c.pop.new.queues.items in
+    let first = c.in-Some.ensures.some.first in
+    let brought : is_built_token m.what && brings m.what (Some m.kept) ≡ true = brought_first (queues_of links.queues.items t.me) m (rest t.me) (search rules) first in
+    let new : Thread = record t { part = untaken c.arrived.new.part; held = c.land.new.tokens } in
+    let after : Links = record links { queues = c.pop.new.queues; entries = longer t.me links.entries (acts.Took m.sender c.count_at-number.result m.what) } in
+    let part = c.in_ok-arrived.ensures.part c.id_of-id.result in
+    let kept = brought_keeps t.setup.now t.me c.took.new.part c.id_of-id.result m.what m.kept brought in
+    let keeps : KeepsRequests t links new after = record {
+      thread = refl;
+      requests = ap (λ (p : Part). p.requests) part ∙ kept.0 ∙ ap (λ (p : Part). p.requests) c.in_ok-took.ensures;
+      next_request = ap (λ (p : Part). p.next_request) part ∙ kept.1 ∙ ap (λ (p : Part). p.next_request) c.in_ok-took.ensures;
+      links = refl;
+    } in
+    carried (KeepsRequests t links) new after _ _ c.in_ok-note.ensures.thread c.in_ok-note.ensures.links keeps

@@ -1,0 +1,15 @@
+//! What the registry answers to a thread's event.
+#![tactic(auto)]
+
+mod answer;
+mod bare;
+mod channels;
+mod claims;
+mod devices;
+mod handles;
+mod standing;
+
+pub use answer::answer_to;
+pub use bare::{is_free, threads_of};
+pub use channels::made;
+pub use standing::is_live;

@@ -1,0 +1,154 @@
+//! How a script's line ends, and when it waits.
+ghost use Rattle.std.specs.Prelude.{◌≡◌, ◌&&◌, cond, is_none, IfOk, None, Some};
+ghost use Rattle.bd_machine.specs.Asked.{busy_outcome, claim_outcome, close_outcome, decided_outcome, gone_outcome, is_script_blocked, is_waiting_job, outcome_by, outcome_due, undecided_outcome};
+
+use crate::lines::{MOST_REQUESTS, bound_to, has_mark, is_open_handle, next_line, open_on};
+use bd_base::{Errno, HandleId, Job, OutOfMemory, Outcome, Setup};
+use bd_machine::{Decided, Part};
+use bd_rules::is_gone;
+use bd_view::Sees;
+
+fn decided_outcome(decided: Decided) -> Outcome
+    ensures { result ≡ decided_outcome decided }
+{
+    match decided {
+        Decided::Opened(_) => Outcome::Done,
+        Decided::Closed => Outcome::Done,
+        Decided::Done => Outcome::Done,
+        Decided::Refused(errno) => Outcome::Errno(errno),
+        Decided::Accepted(req) => Outcome::Accepted(req),
+    }
+}
+
+// How a claim ends that no entry decided.
+fn claim_outcome<S: Sees>(seen: &S, handle: Option<HandleId>) -> Option<Outcome>
+    ensures { result ≡ claim_outcome (S.view_of seen.now) handle }
+{
+    let Some(id) = handle else {
+        return Some(Outcome::Errno(Errno::BadDesc));
+    };
+    if seen.handle(id).is_some() {
+        None
+    } else {
+        Some(Outcome::Errno(Errno::NoDev))
+    }
+}
+
+// How a close ends while this number of requests of its handle are open.
+fn busy_outcome(count: usize) -> Result<Option<Outcome>, OutOfMemory>
+    ensures { IfOk result (λ o. o ≡ busy_outcome count) }
+{
+    if count == 0 {
+        return Ok(None);
+    }
+    match u32::try_from(count) {
+        Ok(n) => Ok(Some(Outcome::BusyOpen(n))),
+        Err(_) => Err(OutOfMemory),
+    }
+}
+
+// How a close ends that no entry decided.
+fn close_outcome<S: Sees>(
+    seen: &S,
+    handle: Option<HandleId>,
+) -> Result<Option<Outcome>, OutOfMemory>
+    ensures { IfOk result (λ o. o ≡ close_outcome (S.view_of seen.now) handle) }
+{
+    let Some(id) = handle else {
+        return Ok(Some(Outcome::Errno(Errno::BadDesc)));
+    };
+    if seen.handle(id).is_some() {
+        busy_outcome(open_on(seen.part(), id))
+    } else {
+        Ok(Some(Outcome::Errno(Errno::NoDev)))
+    }
+}
+
+// How a line ends that waits for the remove event of a handle.
+fn gone_outcome(part: &Part, handle: Option<HandleId>) -> Option<Outcome>
+    ensures { result ≡ gone_outcome part.now handle }
+{
+    match handle {
+        Some(id) => done_if(is_gone(part, id)),
+        None => Some(Outcome::Errno(Errno::BadDesc)),
+    }
+}
+
+fn done_if(done: bool) -> Option<Outcome>
+    ensures { result ≡ cond done (Some Outcome.Done) None }
+{
+    if done { Some(Outcome::Done) } else { None }
+}
+
+fn undecided_outcome<S: Sees>(seen: &S, job: &Job) -> Result<Option<Outcome>, OutOfMemory>
+    ensures { IfOk result (λ o. o ≡ undecided_outcome (S.view_of seen.now) job.now) }
+{
+    let part = seen.part();
+    match job {
+        Job::Open { handle, .. } => {
+            if is_open_handle(seen, bound_to(part, handle)) {
+                Ok(Some(Outcome::Errno(Errno::Exists)))
+            } else {
+                Ok(None)
+            }
+        }
+        Job::Close { handle } => close_outcome(seen, bound_to(part, handle)),
+        Job::Claim { handle, .. } => Ok(claim_outcome(seen, bound_to(part, handle))),
+        Job::Submit { .. } | Job::Remove { .. } => Ok(None),
+        Job::Wait => Ok(done_if(part.requests.len() == 0)),
+        Job::Sleep(_) | Job::Post(_) => Ok(Some(Outcome::Done)),
+        Job::Await(mark) => Ok(done_if(has_mark(part, mark))),
+        Job::Gone { handle } => Ok(gone_outcome(part, bound_to(part, handle))),
+    }
+}
+
+/// How a line with this job ends, where it goes on. More open requests of a handle than 32 bits count
+/// are out of memory.
+pub fn outcome_of<S: Sees>(seen: &S, job: &Job) -> Result<Option<Outcome>, OutOfMemory>
+    ensures { IfOk result (λ o. o ≡ outcome_by (S.view_of seen.now) (S.view_of seen.now).part.decided job.now) }
+{
+    match seen.part().decided {
+        Some(decided) => Ok(Some(decided_outcome(decided))),
+        None => undecided_outcome(seen, job),
+    }
+}
+
+/// How the next line of a thread's script ends, where it goes on. More open requests of a handle than
+/// 32 bits count are out of memory.
+pub fn outcome_due<S: Sees>(
+    seen: &S,
+    setup: &Setup,
+    thread: u32,
+) -> Result<Option<Outcome>, OutOfMemory>
+    ensures { IfOk result (λ o. o ≡ outcome_due setup.now thread (S.view_of seen.now)) }
+{
+    match next_line(setup, thread, seen.part()) {
+        Some(line) => outcome_of(seen, &line.job),
+        None => Ok(None),
+    }
+}
+
+// Whether a line with this job, which nothing decided, waits: for the open requests, for a mark, for a
+// remove event, or for room.
+fn is_waiting<S: Sees>(seen: &S, job: &Job) -> bool
+    ensures { result ≡ (is_waiting_job (S.view_of seen.now).part job.now && is_none (undecided_outcome (S.view_of seen.now) job.now)) }
+{
+    let part = seen.part();
+    match job {
+        Job::Wait => part.requests.len() != 0,
+        Job::Await(mark) => !has_mark(part, mark),
+        Job::Gone { handle } => gone_outcome(part, bound_to(part, handle)).is_none(),
+        Job::Submit { .. } => MOST_REQUESTS <= part.requests.len(),
+        _ => false,
+    }
+}
+
+/// Whether a thread's script is at its end, or its next line waits.
+pub fn is_script_blocked<S: Sees>(seen: &S, setup: &Setup, thread: u32) -> bool
+    ensures { result ≡ is_script_blocked setup.now thread (S.view_of seen.now) }
+{
+    match next_line(setup, thread, seen.part()) {
+        None => true,
+        Some(line) => seen.part().decided.is_none() && is_waiting(seen, &line.job),
+    }
+}

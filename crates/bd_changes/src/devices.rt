@@ -1,0 +1,107 @@
+//! The devices in the registry after an event and its answer.
+ghost use Rattle.std.specs.Prelude.{◌≡◌, OnOk};
+ghost use Rattle.bd_machine.specs.Changes.{devices_after, less_injection, with_reset, with_standing, with_waiting, without_next};
+ghost use Rattle.bd_machine.specs.Table.{change_at};
+
+use bd_base::{Answer, DevId, Op, OutOfMemory, RegEvent, ReqId, Rows};
+use bd_error::InjectionCalls;
+use bd_machine::{Device, ResetState, Standing};
+
+#[tactic(auto, using(crate::proofs::Places::set_at, crate::proofs::Places::none_at))]
+fn set_standing(devices: &mut Rows<Device>, dev: DevId, standing: Standing)
+    ensures { devices.new ≡ change_at dev.0 (with_standing standing) devices.old }
+{
+    let place = dev.0 as usize;
+    if place < devices.len() {
+        devices.at_mut(place).standing = standing;
+    }
+}
+
+#[tactic(auto, using(crate::proofs::Places::set_at, crate::proofs::Places::none_at))]
+fn set_reset(devices: &mut Rows<Device>, dev: DevId, reset: ResetState)
+    ensures { devices.new ≡ change_at dev.0 (with_reset reset) devices.old }
+{
+    let place = dev.0 as usize;
+    if place < devices.len() {
+        devices.at_mut(place).reset = reset;
+    }
+}
+
+// A reset waits for those before it.
+#[tactic(auto, using(crate::proofs::Places::set_at, crate::proofs::Places::none_at))]
+fn wait_for_reset(devices: &mut Rows<Device>, dev: DevId, req: ReqId) -> Result<(), OutOfMemory>
+    ensures { OnOk result (devices.new ≡ change_at dev.0 (with_waiting req) devices.old) }
+{
+    let place = dev.0 as usize;
+    if place < devices.len() {
+        devices.at_mut(place).waiting.push(req)?;
+    }
+    Ok(())
+}
+
+fn start_next(device: &mut Device)
+    ensures { device.new ≡ without_next device.old }
+{
+    device.reset = ResetState::Running;
+    if device.waiting.len() != 0 {
+        let _ = device.waiting.remove(0);
+    }
+}
+
+// The next reset of a device runs.
+#[tactic(auto, using(crate::proofs::Places::set_at, crate::proofs::Places::none_at))]
+fn start_next_reset(devices: &mut Rows<Device>, dev: DevId)
+    ensures { devices.new ≡ change_at dev.0 without_next devices.old }
+{
+    let place = dev.0 as usize;
+    if place < devices.len() {
+        start_next(devices.at_mut(place));
+    }
+}
+
+// A request of this type took what a device injects.
+#[tactic(auto, using(crate::proofs::Places::set_at, crate::proofs::Places::none_at))]
+fn take_injection(devices: &mut Rows<Device>, dev: DevId, op: Op)
+    ensures { devices.new ≡ change_at dev.0 (less_injection op) devices.old }
+{
+    let place = dev.0 as usize;
+    if place < devices.len() {
+        let _ = devices.at_mut(place).injections.take(&op);
+    }
+}
+
+/// The devices after an event and its answer. Out of memory leaves them unspecified.
+pub(crate) fn change_devices(
+    devices: &mut Rows<Device>,
+    event: &RegEvent,
+    answer: &Answer,
+) -> Result<(), OutOfMemory>
+    ensures { OnOk result (devices.new ≡ devices_after devices.old event.now answer.now) }
+{
+    match (event, answer) {
+        (_, Answer::Removing { dev, .. }) => set_standing(devices, *dev, Standing::Removing),
+        (RegEvent::Destructed { dev }, Answer::Freed { .. }) => {
+            set_standing(devices, *dev, Standing::Destructed)
+        }
+        (RegEvent::BeginReset { dev, .. }, Answer::ResetStarted { .. }) => {
+            set_reset(devices, *dev, ResetState::Running)
+        }
+        (RegEvent::BeginReset { dev, req }, Answer::ResetQueued) => {
+            return wait_for_reset(devices, *dev, *req);
+        }
+        (RegEvent::EndReset { dev }, Answer::ResetEnded { .. }) => {
+            set_reset(devices, *dev, ResetState::Thawing)
+        }
+        (RegEvent::FinishReset { dev }, Answer::ResetFinished { next: Some(_) }) => {
+            start_next_reset(devices, *dev)
+        }
+        (RegEvent::FinishReset { dev }, Answer::ResetFinished { next: None }) => {
+            set_reset(devices, *dev, ResetState::Idle)
+        }
+        (RegEvent::TakeInjection { dev, op, .. }, Answer::Injected { .. }) => {
+            take_injection(devices, *dev, *op)
+        }
+        _ => {}
+    }
+    Ok(())
+}

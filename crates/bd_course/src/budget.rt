@@ -1,0 +1,185 @@
+//! What is left of a device's limits, over timeslices of 1,000 microseconds.
+ghost use Rattle.std.specs.Prelude.{◌≡◌, ◌≤◌, ◌+◌, ◌*◌, ◌^◌, pos, IfNone, IfOk, IfSome};
+ghost use Rattle.bd_machine.specs.Budget.{bytes_in_slice, charged, charged_by, lets, may_have_passed, may_pass, one_quota, quotas_of, renewed, renewed_by, requests_in_slice, starts_before};
+
+use bd_base::{OutOfMemory, Rates, Way};
+use bd_machine::{Left, Starts};
+
+// ---- quotas
+
+// The requests that a limit per second lets through in a timeslice, rounded up.
+fn requests_in_slice(per_second: u64) -> u128
+    ensures { result ≡ requests_in_slice per_second }
+{
+    (u128::from(per_second) + 999) / 1000
+}
+
+// The bytes that a limit in megabytes per second lets through in a timeslice, rounded down.
+fn bytes_in_slice(megabytes: u64) -> u128
+    ensures { result ≡ bytes_in_slice megabytes }
+{
+    u128::from(megabytes) * 1_048_576 / 1000
+}
+
+/// What is left of each limit of these rates at first: one quota.
+pub fn one_quota(rates: Rates) -> Left
+    ensures { result ≡ one_quota (quotas_of rates) }
+{
+    Left {
+        rw_requests: requests_in_slice(rates.rw_ios_per_sec) as i128,
+        rw_bytes: bytes_in_slice(rates.rw_mbytes_per_sec) as i128,
+        r_bytes: bytes_in_slice(rates.r_mbytes_per_sec) as i128,
+        w_bytes: bytes_in_slice(rates.w_mbytes_per_sec) as i128,
+    }
+}
+
+// ---- a request
+
+// Whether a limit of this quota lets a request through.
+fn lets(quota: u128, left: i128) -> bool
+    ensures { result ≡ lets quota left }
+{
+    quota == 0 || 0 < left
+}
+
+/// Whether a request may pass: each limit that counts its way lets it through.
+pub fn may_pass(rates: Rates, left: Left, way: Way) -> bool
+    ensures { result ≡ may_pass (quotas_of rates) left way }
+{
+    lets(requests_in_slice(rates.rw_ios_per_sec), left.rw_requests)
+        && lets(bytes_in_slice(rates.rw_mbytes_per_sec), left.rw_bytes)
+        && match way {
+            Way::Read => lets(bytes_in_slice(rates.r_mbytes_per_sec), left.r_bytes),
+            Way::Write => lets(bytes_in_slice(rates.w_mbytes_per_sec), left.w_bytes),
+        }
+}
+
+// What is left of a limit that a request was charged to. More than 127 bits count answer out of memory.
+fn charged_by(quota: u128, cost: u64, left: i128) -> Result<i128, OutOfMemory>
+    ensures { IfOk result (λ n. n ≡ charged_by quota cost left) }
+{
+    if quota == 0 {
+        return Ok(left);
+    }
+    match left.checked_sub(i128::from(cost)) {
+        Some(n) => Ok(n),
+        None => Err(OutOfMemory),
+    }
+}
+
+/// What is left after a request of these bytes passed.
+pub fn charged(rates: Rates, way: Way, bytes: u64, left: Left) -> Result<Left, OutOfMemory>
+    ensures { IfOk result (λ l. l ≡ charged (quotas_of rates) way bytes left) }
+{
+    let rw_requests = charged_by(requests_in_slice(rates.rw_ios_per_sec), 1, left.rw_requests)?;
+    let rw_bytes = charged_by(
+        bytes_in_slice(rates.rw_mbytes_per_sec),
+        bytes,
+        left.rw_bytes,
+    )?;
+    match way {
+        Way::Read => {
+            let r_bytes = charged_by(bytes_in_slice(rates.r_mbytes_per_sec), bytes, left.r_bytes)?;
+            Ok(Left {
+                rw_requests,
+                rw_bytes,
+                r_bytes,
+                w_bytes: left.w_bytes,
+            })
+        }
+        Way::Write => {
+            let w_bytes = charged_by(bytes_in_slice(rates.w_mbytes_per_sec), bytes, left.w_bytes)?;
+            Ok(Left {
+                rw_requests,
+                rw_bytes,
+                r_bytes: left.r_bytes,
+                w_bytes,
+            })
+        }
+    }
+}
+
+// ---- timeslices
+
+// These quotas. More than 127 bits count answer out of memory.
+fn quotas(quota: u128, slices: u64) -> Result<i128, OutOfMemory>
+    ensures { IfOk result (λ n. n ≡ pos (slices * quota)) }
+{
+    let Some(all) = u128::from(slices).checked_mul(quota) else {
+        return Err(OutOfMemory);
+    };
+    match i128::try_from(all) {
+        Ok(n) => Ok(n),
+        Err(_) => Err(OutOfMemory),
+    }
+}
+
+// A limit after these timeslices.
+fn renewed_by(quota: u128, slices: u64, left: i128) -> Result<i128, OutOfMemory>
+    ensures { IfOk result (λ n. n ≡ renewed_by quota slices left) }
+{
+    let more = quotas(quota, slices)?;
+    match left.min(0).checked_add(more) {
+        Some(n) => Ok(n),
+        None => Err(OutOfMemory),
+    }
+}
+
+/// What is left after these timeslices: an overrun stays, what was left over goes, and each brings a
+/// quota.
+pub fn renewed(rates: Rates, slices: u64, left: Left) -> Result<Left, OutOfMemory>
+    ensures { IfOk result (λ l. l ≡ renewed (quotas_of rates) slices left) }
+{
+    Ok(Left {
+        rw_requests: renewed_by(
+            requests_in_slice(rates.rw_ios_per_sec),
+            slices,
+            left.rw_requests,
+        )?,
+        rw_bytes: renewed_by(
+            bytes_in_slice(rates.rw_mbytes_per_sec),
+            slices,
+            left.rw_bytes,
+        )?,
+        r_bytes: renewed_by(bytes_in_slice(rates.r_mbytes_per_sec), slices, left.r_bytes)?,
+        w_bytes: renewed_by(bytes_in_slice(rates.w_mbytes_per_sec), slices, left.w_bytes)?,
+    })
+}
+
+// The microseconds of these timeslices, and of all but the last moment of one more; none past 128 bits.
+fn span(slices: u128) -> Option<(u128, u128)>
+    ensures fits { IfSome result (λ s. (s.0 ≡ slices * 1000) × (s.1 ≡ slices * 1000 + 999)) }
+    ensures past { IfNone result (2 ^ 128 ≤ slices * 1000 + 999) }
+{
+    let whole = slices.checked_mul(1000)?;
+    let more = whole.checked_add(999)?;
+    Some((whole, more))
+}
+
+/// The starts from which exactly so many timeslices passed up to a moment (microseconds). Timeslices
+/// whose time is past 128 bits answer out of memory.
+pub fn starts_before(now: u64, slices: u128, starts: Starts) -> Result<Starts, OutOfMemory>
+    ensures { IfOk result (λ s. s ≡ starts_before now slices starts) }
+{
+    let Some((whole, more)) = span(slices) else {
+        return Err(OutOfMemory);
+    };
+    let now = u128::from(now);
+    Ok(Starts {
+        earliest: starts.earliest.max(now.saturating_sub(more) as u64),
+        latest: starts.latest.min(now.saturating_sub(whole) as u64),
+    })
+}
+
+/// Whether so many timeslices may have passed at a moment (microseconds): some start is left.
+pub fn may_have_passed(now: u64, slices: u128, starts: Starts) -> bool
+    ensures { result ≡ may_have_passed now slices starts }
+{
+    let Some((whole, more)) = span(slices) else {
+        return false;
+    };
+    let now = u128::from(now);
+    let earliest = u128::from(starts.earliest).max(now.saturating_sub(more));
+    let latest = u128::from(starts.latest).min(now.saturating_sub(whole));
+    whole <= now && earliest <= latest
+}

@@ -1,0 +1,263 @@
+//! A malloc device of four blocks of 8 bytes, by hand. Bytes and digests are by python.
+use bd_base::{
+    ApplyEnd, Decision, DevId, DevRow, Fill, HandleId, Kind, Name, Op, OutOfMemory, Rates, Rows,
+    Setup, ThreadSet, Way,
+};
+use bd_blocks::{
+    base_place, blocks_of, boundary_of, copy_of_piece, counts_way, device_named, digest_due,
+    extents, find_base, first_of, get_channel, has, home, is_aio, is_digest_due, is_home,
+    is_limited, is_malloc, is_nobody, new_piece, part_at_start, rates_of, references,
+    registry_at_start, serve, set_count, size_of, with_thread, without,
+};
+use bd_machine::{
+    Base, Extent, Hold, Injected, Left, OpenPiece, OpenRequest, Progress, Standing, Trip,
+};
+use std::alloc::Global;
+use std::test::Fail;
+
+const NULL: DevId = DevId(0);
+
+const MALLOC: DevId = DevId(1);
+
+const SIZE: u32 = 8;
+
+// Four blocks: zeros, and seed 5 in the two in the middle with the first byte turned.
+const WRITTEN: [u8; 32] = [
+    0, 0, 0, 0, 0, 0, 0, 0, 219, 43, 50, 57, 64, 71, 78, 85, 67, 74, 81, 88, 95, 102, 109, 116, 0,
+    0, 0, 0, 0, 0, 0, 0,
+];
+
+const DIGEST: [u8; 32] = [
+    169, 230, 174, 130, 232, 206, 156, 222, 75, 123, 49, 142, 118, 55, 246, 129, 173, 42, 194, 207,
+    3, 190, 35, 15, 253, 175, 105, 65, 90, 69, 36, 44,
+];
+
+fn row(alloc: Global, name: &[u8], kind: Kind) -> Result<DevRow, OutOfMemory> {
+    Ok(DevRow {
+        name: Name::from_slice(alloc, name)?,
+        kind,
+        base: None,
+        blocks: 4,
+        size: SIZE,
+        boundary: 2,
+        depth: 128,
+        file: None,
+        group: 0,
+    })
+}
+
+// Device 0 is null, device 1 malloc; their homes are threads 0 and 1 of two.
+fn setup(alloc: Global) -> Result<Setup, OutOfMemory> {
+    let mut devices = Rows::new(alloc);
+    devices.push(row(alloc, b"Null0", Kind::Null)?)?;
+    devices.push(row(alloc, b"Malloc0", Kind::Malloc)?)?;
+    Ok(Setup {
+        threads: 2,
+        devices,
+        rates: Rows::new(alloc),
+        injections: Rows::new(alloc),
+        waiting: Rows::new(alloc),
+        scripts: Rows::new(alloc),
+    })
+}
+
+fn request(op: Op) -> OpenRequest {
+    OpenRequest {
+        handle: HandleId(0),
+        dev: MALLOC,
+        op,
+        lba: 0,
+        count: 4,
+        lets: 0,
+        trip: Trip::Own,
+        injected: Injected {
+            asked: 0,
+            count: 0,
+            last: Decision::Pass,
+            turned: true,
+        },
+        pended: false,
+        aborted: None,
+        pieces: None,
+        hold: Hold::Before,
+    }
+}
+
+#[test]
+fn devices_have_rows_and_homes(rt: HostRuntime) -> Result<(), Fail> {
+    let setup = setup(rt.alloc())?;
+    let name = Name::from_slice(rt.alloc(), b"Malloc0")?;
+    assert!(rt; device_named(&setup, &name) == Some(1));
+    assert_eq!(rt; blocks_of(&setup, MALLOC), 4);
+    assert_eq!(rt; size_of(&setup, DevId(2)), 0);
+    assert_eq!(rt; boundary_of(&setup, NULL), 2);
+    assert_eq!(rt; home(&setup, MALLOC), 1);
+    assert!(rt; is_home(&setup, 1, MALLOC) && !is_home(&setup, 0, DevId(2)));
+    assert!(rt; is_malloc(&setup, MALLOC) && !is_malloc(&setup, NULL) && !is_aio(&setup, NULL));
+    Ok(())
+}
+
+#[test]
+fn a_request_is_cut_at_the_boundary(rt: HostRuntime) -> Result<(), Fail> {
+    let setup = setup(rt.alloc())?;
+    let found = extents(rt.alloc(), &setup, MALLOC, 1, 3)?;
+    let wanted = [Extent { first: 1, count: 1 }, Extent { first: 2, count: 2 }];
+    assert!(rt; found.as_slice() == wanted.as_slice());
+    let fill = Fill {
+        seed: 5,
+        flip: true,
+    };
+    let piece = new_piece(&setup, request(Op::Write(fill)), 1, wanted[1])?;
+    assert!(rt;
+        matches!(
+            piece.op,
+            Op::Write(Fill {
+                seed: 5,
+                flip: false
+            })
+        )
+    );
+    assert!(rt; copy_of_piece(&piece)?.lba == 2);
+    Ok(())
+}
+
+// Serves a piece of these blocks, and tells what it read.
+fn bytes_of(
+    alloc: Global,
+    bases: &mut Rows<Base>,
+    setup: &Setup,
+    op: Op,
+    extent: Extent,
+) -> Result<Option<OpenPiece>, OutOfMemory> {
+    let piece = new_piece(setup, request(op), 0, extent)?;
+    serve(alloc, bases, SIZE, MALLOC, ApplyEnd::Done, &piece)
+}
+
+fn has_read(piece: &Option<OpenPiece>, bytes: &[u8]) -> bool {
+    match piece {
+        Some(
+            OpenPiece {
+                progress: Progress::Served,
+                end: Some(ApplyEnd::Done),
+                read: Some(read),
+                ..
+            },
+        ) => read.as_slice() == bytes,
+        _ => false,
+    }
+}
+
+#[test]
+fn a_write_is_read_back(rt: HostRuntime) -> Result<(), Fail> {
+    let alloc = rt.alloc();
+    let setup = setup(alloc)?;
+    let mut bases = part_at_start(alloc, &setup, 1)?.bases;
+    assert!(rt; base_place(bases.as_slice(), MALLOC) == Some(0));
+    assert!(rt; find_base(bases.as_slice(), NULL).is_none());
+    let fill = Fill {
+        seed: 5,
+        flip: true,
+    };
+    let middle = Extent { first: 1, count: 2 };
+    let all = Extent { first: 0, count: 9 };
+    let written = bytes_of(alloc, &mut bases, &setup, Op::Write(fill), middle)?;
+    assert!(rt; has_read(&written, &[]));
+    let read = bytes_of(alloc, &mut bases, &setup, Op::Read, all)?;
+    assert!(rt; has_read(&read, &WRITTEN));
+    assert!(rt; digest_due(&setup, bases.as_slice(), MALLOC) == Some(Some(DIGEST)));
+    assert!(rt; is_digest_due(&setup, bases.as_slice(), MALLOC, &Some(DIGEST)));
+    assert!(rt; is_digest_due(&setup, bases.as_slice(), NULL, &None));
+    Ok(())
+}
+
+// A malloc device, limited to 4,000 requests a second, and one that passes through to it; their home
+// is thread 1 of two, since device 1 is the base.
+fn limited_setup(alloc: Global) -> Result<Setup, OutOfMemory> {
+    let mut setup = setup(alloc)?;
+    let mut through = row(alloc, b"Through0", Kind::Passthru)?;
+    through.base = Some(MALLOC);
+    setup.devices.push(through)?;
+    for rw_ios_per_sec in [0, 4000, 1] {
+        setup.rates.push(Rates {
+            rw_ios_per_sec,
+            rw_mbytes_per_sec: 0,
+            r_mbytes_per_sec: 3,
+            w_mbytes_per_sec: 0,
+        })?;
+    }
+    Ok(setup)
+}
+
+#[test]
+fn limited_devices_begin_with_a_quota(rt: HostRuntime) -> Result<(), Fail> {
+    let alloc = rt.alloc();
+    let setup = limited_setup(alloc)?;
+    assert!(rt; is_limited(&setup, NULL) && !is_limited(&setup, DevId(3)));
+    let rates = rates_of(&setup, NULL);
+    assert!(rt; counts_way(Way::Read, rates) && !counts_way(Way::Write, rates));
+    let part = part_at_start(alloc, &setup, 1)?;
+    let limited = part.limited.as_slice();
+    assert!(rt; limited.len() == 2 && limited[0].dev == MALLOC && limited[1].dev == DevId(2));
+    // 4,000 a second are 4 in a millisecond; 3,145,728 bytes a second are 3,145
+    let left = Left {
+        rw_requests: 4,
+        rw_bytes: 0,
+        r_bytes: 3145,
+        w_bytes: 0,
+    };
+    assert!(rt; limited[0].left == left && limited[1].left.rw_requests == 1);
+    Ok(())
+}
+
+#[test]
+fn the_first_registry_has_handles_and_channels(rt: HostRuntime) -> Result<(), Fail> {
+    let alloc = rt.alloc();
+    let setup = limited_setup(alloc)?;
+    let registry = registry_at_start(alloc, &setup)?;
+    assert!(rt; registry.devices.len() == 3 && registry.next == 1);
+    assert!(rt; matches!(registry.devices.as_slice()[0].standing, Standing::Live));
+    assert!(rt; registry.handles.len() == 1);
+    let handle = registry.handles.as_slice()[0];
+    assert!(rt; handle.dev == MALLOC && handle.thread.0 == 1);
+    // the device's own channel, and that of the device which passes through to it
+    for row in &[
+        (1, 1, Some(2)),
+        (1, 2, Some(1)),
+        (0, 0, Some(1)),
+        (0, 1, None),
+    ] {
+        let (thread, dev, count) = *row;
+        assert!(rt;
+            references(&registry, thread, DevId(dev)) == count,
+            "{thread}, {dev}"
+        );
+    }
+    Ok(())
+}
+
+#[test]
+fn a_second_get_stops_at_the_channel(rt: HostRuntime) -> Result<(), Fail> {
+    let alloc = rt.alloc();
+    let setup = limited_setup(alloc)?;
+    let mut registry = registry_at_start(alloc, &setup)?;
+    get_channel(alloc, &setup, 0, DevId(2), &mut registry)?;
+    get_channel(alloc, &setup, 0, DevId(2), &mut registry)?;
+    assert!(rt; references(&registry, 0, DevId(2)) == Some(2));
+    assert!(rt; references(&registry, 0, MALLOC) == Some(1));
+    set_count(&mut registry.channels, 0, MALLOC, None)?;
+    assert!(rt; references(&registry, 0, MALLOC).is_none());
+    Ok(())
+}
+
+#[test]
+fn threads_join_and_leave_a_set(rt: HostRuntime) -> Result<(), Fail> {
+    let mut threads = ThreadSet::empty();
+    assert!(rt; is_nobody(threads) && first_of(threads).is_none());
+    for t in 0..16 {
+        threads = with_thread(threads, t, t == 3 || t == 15)?;
+    }
+    assert!(rt; has(threads, 3) && has(threads, 15) && !has(threads, 4) && !has(threads, 16));
+    assert!(rt; first_of(threads) == Some(3) && first_of(without(threads, 3)) == Some(15));
+    assert!(rt; without(threads, 4) == threads && !is_nobody(threads));
+    Ok(())
+}

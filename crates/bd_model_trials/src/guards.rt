@@ -1,0 +1,271 @@
+//! A thread that holds what it sees, by hand: what the guards of acts that no thread makes yet refuse,
+//! and let pass.
+ghost use Rattle.std.specs.Prelude.{filter};
+ghost use Rattle.bd_machine.specs.Registry.{references};
+ghost use Rattle.bd_machine.specs.Same.{same_id};
+ghost use Rattle.bd_machine.specs.Table.{look_up};
+ghost use Rattle.bd_machine.specs.View.{is_of};
+
+use bd_base::{
+    AbortCause, Decision, DevId, DevRow, HandleId, Kind, Name, Op, OutOfMemory, Rates, ReqId, Rows,
+    Setup, ThreadSet, WalkId, WalkKind,
+};
+use bd_blocks::{part_at_start, references, registry_at_start};
+use bd_course::{
+    refused_abort, refused_hold, refused_inject, refused_let, refused_pend, refused_release,
+    refused_tick,
+};
+use bd_machine::{Handle, Id, Kept, Open, OpenWalk, Part, Registry, Trip};
+use bd_rules::new_request;
+use bd_view::{Sees, Submission, look_up, own_handle};
+use bd_walks::refused_visit;
+use std::alloc::Global;
+
+const DEV: DevId = DevId(0);
+
+const HANDLE: HandleId = HandleId(0);
+
+const REQ: ReqId = ReqId { thread: 0, seq: 3 };
+
+const OTHER: ReqId = ReqId { thread: 0, seq: 4 };
+
+const WALK: WalkId = WalkId { thread: 0, seq: 0 };
+
+const READ: Submission = Submission {
+    op: Op::Read,
+    lba: 0,
+    count: 1,
+};
+
+// What a thread holds.
+#[derive(Drop)]
+struct Holder {
+    part: Part,
+    held: Vec<(Id, Kept)>,
+    registry: Registry,
+}
+
+impl Sees for Holder {
+    ghost view_of = { λ h. record {
+      part = h.part;
+      here = λ id. look_up same_id h.held.items id;
+      handles = filter (is_of 0) h.registry.handles;
+      channels = references h.registry 0;
+    } };
+
+    ghost thread_of = { λ h. 0 };
+
+    fn thread(&self) -> u32 {
+        0
+    }
+
+    fn part(&self) -> &Part {
+        &self.part
+    }
+
+    fn kept(&self, id: Id) -> Option<&Kept> {
+        look_up(self.held.as_slice(), id)
+    }
+
+    fn handle(&self, id: HandleId) -> Option<Handle> {
+        own_handle(self.registry.handles.as_slice(), 0, id)
+    }
+
+    fn handles(&self) -> &[Handle] {
+        self.registry.handles.as_slice()
+    }
+
+    fn channels(&self, dev: DevId) -> Option<u128> {
+        references(&self.registry, 0, dev)
+    }
+}
+
+fn row(alloc: Global) -> Result<DevRow, OutOfMemory> {
+    Ok(DevRow {
+        name: Name::from_slice(alloc, b"Malloc0")?,
+        kind: Kind::Malloc,
+        base: None,
+        blocks: 4,
+        size: 512,
+        boundary: 0,
+        depth: 128,
+        file: None,
+        group: 0,
+    })
+}
+
+// One thread, and a memory device that lets 1,000 requests a second pass: one in a timeslice.
+fn setup(alloc: Global) -> Result<Setup, OutOfMemory> {
+    let mut devices = Rows::new(alloc);
+    devices.push(row(alloc)?)?;
+    let mut rates = Rows::new(alloc);
+    rates.push(Rates {
+        rw_ios_per_sec: 1000,
+        rw_mbytes_per_sec: 0,
+        r_mbytes_per_sec: 0,
+        w_mbytes_per_sec: 0,
+    })?;
+    Ok(Setup {
+        threads: 1,
+        devices,
+        rates,
+        injections: Rows::new(alloc),
+        waiting: Rows::new(alloc),
+        scripts: Rows::new(alloc),
+    })
+}
+
+// What the thread has: one read, open there or elsewhere, on its own way or out to the limits of its
+// device, where it may wait with so many requests left; and a walk that came here for a drain.
+#[derive(Clone, Copy)]
+struct Case {
+    open: bool,
+    trip: Trip,
+    waits: bool,
+    left: i128,
+    walks: bool,
+}
+
+// The read is open, on its own way.
+const OPEN: Case = Case {
+    open: true,
+    trip: Trip::Own,
+    waits: false,
+    left: 1,
+    walks: false,
+};
+
+// It waits for the limits of its device.
+const WAITING: Case = Case {
+    open: true,
+    trip: Trip::Out,
+    waits: true,
+    left: 1,
+    walks: false,
+};
+
+fn part(alloc: Global, setup: &Setup, case: Case) -> Result<Part, OutOfMemory> {
+    let mut part = part_at_start(alloc, setup, 0)?;
+    if case.open {
+        part.requests.push(Open {
+            id: REQ,
+            handle: HANDLE,
+            dev: DEV,
+            op: Op::Read,
+        })?;
+    }
+    if part.limited.len() == 1 {
+        let limited = part.limited.at_mut(0);
+        limited.left.rw_requests = case.left;
+        if case.waits {
+            limited.waiting.push(REQ)?;
+        }
+    }
+    Ok(part)
+}
+
+fn held(alloc: Global, case: Case) -> Result<Vec<(Id, Kept)>, OutOfMemory> {
+    let mut request = new_request(HANDLE, DEV, READ);
+    request.trip = case.trip;
+    let mut held = Vec::new(alloc);
+    held.push((Id::Request(REQ), Kept::Request(request)))?;
+    if case.walks {
+        let walk = OpenWalk {
+            dev: DEV,
+            kind: WalkKind::Drain,
+            left: ThreadSet(1),
+            request: None,
+            taken: true,
+        };
+        held.push((Id::Walk(WALK), Kept::Walk(walk)))?;
+    }
+    Ok(held)
+}
+
+// An act of the thread, on the read or on one that isn't here.
+#[derive(Clone, Copy)]
+enum Deed {
+    Let,
+    // with this moment
+    Tick(u64),
+    Inject,
+    Pend,
+    Hold,
+    Release,
+    Abort(ReqId),
+    Visit,
+}
+
+fn refused(seen: &Holder, setup: &Setup, deed: Deed) -> Result<Option<u32>, OutOfMemory> {
+    let cause = AbortCause::Removed(DEV);
+    match deed {
+        Deed::Let => Ok(refused_let(seen, setup, 0, REQ, DEV, 7)),
+        Deed::Tick(now) => refused_tick(seen, setup, 0, DEV, now, 1),
+        Deed::Inject => Ok(refused_inject(seen, REQ, DEV, Decision::Fail)),
+        Deed::Pend => Ok(refused_pend(seen, 0, REQ)),
+        Deed::Hold => refused_hold(seen, setup, 0, REQ, 9),
+        Deed::Release => refused_release(seen, setup, 0, REQ, 9),
+        Deed::Abort(req) => Ok(refused_abort(seen, setup, 0, req, cause)),
+        Deed::Visit => { Ok(refused_visit(seen, setup, 0, WALK, DEV, WalkKind::Drain)) }
+    }
+}
+
+// The guard that refuses the act in this case, if one does.
+fn answer(alloc: Global, case: Case, deed: Deed) -> Result<Option<u32>, OutOfMemory> {
+    let setup = setup(alloc)?;
+    let seen = Holder {
+        part: part(alloc, &setup, case)?,
+        held: held(alloc, case)?,
+        registry: registry_at_start(alloc, &setup)?,
+    };
+    refused(&seen, &setup, deed)
+}
+
+const ROWS: [(Case, Deed, Option<u32>); 15] = [
+    // a read that waits for the limits passes them, unless it isn't the first there or nothing is left
+    (WAITING, Deed::Let, None),
+    (OPEN, Deed::Let, Some(14)),
+    (Case { left: 0, ..WAITING }, Deed::Let, Some(15)),
+    // a timeslice of 1,000 microseconds passed, not 999, and somebody waits
+    (WAITING, Deed::Tick(1000), None),
+    (WAITING, Deed::Tick(999), Some(16)),
+    (OPEN, Deed::Tick(1000), Some(16)),
+    // nothing was taken of an error device, and no decision keeps the read
+    (OPEN, Deed::Inject, Some(12)),
+    (OPEN, Deed::Pend, Some(13)),
+    // no delay device is below, and nothing is held
+    (OPEN, Deed::Hold, Some(22)),
+    (OPEN, Deed::Release, Some(23)),
+    // a request that isn't here, and one whose device carries no mark
+    (OPEN, Deed::Abort(OTHER), Some(24)),
+    (OPEN, Deed::Abort(REQ), Some(25)),
+    // no walk is here; a drain waits for the open read, and goes on without one
+    (OPEN, Deed::Visit, Some(29)),
+    (
+        Case {
+            walks: true,
+            ..OPEN
+        },
+        Deed::Visit,
+        Some(30),
+    ),
+    (
+        Case {
+            open: false,
+            walks: true,
+            ..OPEN
+        },
+        Deed::Visit,
+        None,
+    ),
+];
+
+#[test]
+fn guards_of_acts_that_no_thread_makes(rt: HostRuntime) {
+    let alloc = rt.alloc();
+    for row in &ROWS {
+        let (case, deed, guard) = *row;
+        let refused = answer(alloc, case, deed);
+        assert!(rt; refused == Ok(guard), "{guard:?}");
+    }
+}

@@ -1,0 +1,133 @@
+//! Devices: their rows and kinds.
+ghost use Rattle.std.specs.Prelude.{◌≡◌, option_copied};
+ghost use Rattle.bd_machine.specs.BlockMap.{
+  blocks_of,
+  boundary_of,
+  depth_of,
+  is_delay,
+  is_error,
+  is_malloc,
+  row_of,
+  shift_of_kind,
+  shift_of_row,
+  size_of,
+  stands_on,
+};
+ghost use Rattle.bd_machine.specs.Registry.{device_named};
+
+use bd_base::{DevId, DevRow, Kind, Name, Setup};
+
+/// The row of a device; none where the setup doesn't have the device.
+pub fn row_of(setup: &Setup, dev: DevId) -> Option<&DevRow>
+    ensures { option_copied result ≡ row_of setup.now dev }
+{
+    setup.devices.as_slice().get(dev.0 as usize)
+}
+
+/// The place of the device of this name among the devices; none where there is no such device.
+pub fn device_named(setup: &Setup, name: &Name) -> Option<usize>
+    ensures { result ≡ device_named setup.now name.now }
+{
+    setup
+        .devices
+        .as_slice()
+        .iter()
+        .position(|row| row.name.is(name))
+}
+
+/// How many blocks a device has; 0 where the setup doesn't have the device.
+pub fn blocks_of(setup: &Setup, dev: DevId) -> u64
+    ensures { result ≡ blocks_of setup.now dev }
+{
+    match row_of(setup, dev) {
+        Some(row) => row.blocks,
+        None => 0,
+    }
+}
+
+/// How many bytes a block of a device has; 0 where the setup doesn't have the device.
+pub fn size_of(setup: &Setup, dev: DevId) -> u32
+    ensures { result ≡ size_of setup.now dev }
+{
+    match row_of(setup, dev) {
+        Some(row) => row.size,
+        None => 0,
+    }
+}
+
+/// The boundary of a device in blocks: its requests are cut at the multiples of it; 0 for no cut.
+pub fn boundary_of(setup: &Setup, dev: DevId) -> u64
+    ensures { result ≡ boundary_of setup.now dev }
+{
+    match row_of(setup, dev) {
+        Some(row) => row.boundary,
+        None => 0,
+    }
+}
+
+/// How many pieces the work queue of a device takes; 0 where the setup doesn't have the device.
+pub fn depth_of(setup: &Setup, dev: DevId) -> u32
+    ensures { result ≡ depth_of setup.now dev }
+{
+    match row_of(setup, dev) {
+        Some(row) => row.depth,
+        None => 0,
+    }
+}
+
+/// The device that a device stands on; none for a base device, and where the setup doesn't have it.
+pub fn stands_on(setup: &Setup, dev: DevId) -> Option<DevId>
+    ensures { result ≡ stands_on setup.now dev }
+{
+    row_of(setup, dev)?.base
+}
+
+// The block of its base at which a device of this kind begins.
+fn shift_of_kind(kind: Kind) -> u64
+    ensures { result ≡ shift_of_kind kind }
+{
+    match kind {
+        Kind::Part { shift } => shift,
+        _ => 0,
+    }
+}
+
+/// The block at which a device begins on the one that it stands on.
+pub(crate) fn shift_of(setup: &Setup, dev: DevId) -> u64
+    ensures { result ≡ shift_of_row (row_of setup.now dev) }
+{
+    match row_of(setup, dev) {
+        Some(row) => shift_of_kind(row.kind),
+        None => 0,
+    }
+}
+
+/// Whether it is a malloc device of the setup.
+pub fn is_malloc(setup: &Setup, dev: DevId) -> bool
+    ensures { result ≡ is_malloc setup.now dev }
+{
+    match row_of(setup, dev) {
+        Some(row) => matches!(row.kind, Kind::Malloc),
+        None => false,
+    }
+}
+
+/// Whether requests on it take injected errors.
+pub fn is_error(setup: &Setup, dev: DevId) -> bool
+    ensures { result ≡ is_error setup.now dev }
+{
+    match row_of(setup, dev) {
+        Some(row) => matches!(row.kind, Kind::Error),
+        None => false,
+    }
+}
+
+/// Whether reads and writes on it wait a latency.
+pub fn is_delay(setup: &Setup, dev: DevId) -> bool
+    ensures { result ≡ is_delay setup.now dev }
+{
+    match row_of(setup, dev) {
+        Some(row) => matches!(row.kind, Kind::Delay { .. }),
+        None => false,
+    }
+}
