@@ -1,8 +1,8 @@
 //! The registry's answers, one after another.
+use crate::setups::one_device;
 use bd_answers::answer_to;
 use bd_base::{
-    Answer, ClaimKind, DevId, DevRow, Dropped, Errno, HandleId, Kind, Name, OutOfMemory, RegEvent,
-    ReqId, Rows, Setup,
+    Answer, ClaimKind, DevId, Dropped, Errno, HandleId, Name, OutOfMemory, RegEvent, ReqId, Setup,
 };
 use bd_blocks::registry_at_start;
 use bd_changes::register;
@@ -12,35 +12,6 @@ use std::alloc::Global;
 use std::test::Fail;
 
 const DEV: DevId = DevId(0);
-
-// A memory device of four blocks.
-fn row(alloc: Global) -> Result<DevRow, OutOfMemory> {
-    Ok(DevRow {
-        name: Name::from_slice(alloc, b"Malloc0")?,
-        kind: Kind::Malloc,
-        base: None,
-        blocks: 4,
-        size: 512,
-        boundary: 0,
-        depth: 128,
-        file: None,
-        group: 0,
-    })
-}
-
-// A memory device and three threads.
-fn setup(alloc: Global) -> Result<Setup, OutOfMemory> {
-    let mut devices = Rows::new(alloc);
-    devices.push(row(alloc)?)?;
-    Ok(Setup {
-        threads: 3,
-        devices,
-        rates: Rows::new(alloc),
-        injections: Rows::new(alloc),
-        waiting: Rows::new(alloc),
-        scripts: Rows::new(alloc),
-    })
-}
 
 // The answer to an event of a thread, which the registry then has taken.
 fn ask(
@@ -120,7 +91,7 @@ fn second_claim(
 #[test]
 fn every_pair_of_kinds(rt: HostRuntime) -> Result<(), Fail> {
     use ClaimKind::{Exclusive, Shared, WriteNone, WriteOne};
-    let setup = setup(rt.alloc())?;
+    let setup = one_device(rt.alloc(), 3, None)?;
     let seconds = [Exclusive, WriteOne, WriteNone, Shared(7), Shared(8)];
     for row in &[
         (false, None, [true, true, true, true, true]),
@@ -174,7 +145,7 @@ fn is_held(
 
 #[test]
 fn what_a_claim_does_and_a_close_frees(rt: HostRuntime) -> Result<(), Fail> {
-    let setup = setup(rt.alloc())?;
+    let setup = one_device(rt.alloc(), 3, None)?;
     for row in &[
         (ClaimKind::Exclusive, true),
         (ClaimKind::WriteOne, true),
@@ -231,7 +202,7 @@ fn said_to(
 
 #[test]
 fn a_channel_lasts_until_it_is_dropped(rt: HostRuntime) -> Result<(), Fail> {
-    let setup = setup(rt.alloc())?;
+    let setup = one_device(rt.alloc(), 3, None)?;
     let mut registry = registry_at_start(rt.alloc(), &setup)?;
     for row in &[
         (2, b'+', Said::Got(true)),
@@ -300,7 +271,7 @@ fn letter_at(
 
 #[test]
 fn resets_wait_for_each_other(rt: HostRuntime) -> Result<(), Fail> {
-    let setup = setup(rt.alloc())?;
+    let setup = one_device(rt.alloc(), 3, None)?;
     let mut registry = registry_at_start(rt.alloc(), &setup)?;
     for row in &[
         (b'b', (b's', 0)),
@@ -320,7 +291,7 @@ fn resets_wait_for_each_other(rt: HostRuntime) -> Result<(), Fail> {
 
 #[test]
 fn a_removed_device_is_out_of_reach(rt: HostRuntime) -> Result<(), Fail> {
-    let setup = setup(rt.alloc())?;
+    let setup = one_device(rt.alloc(), 3, None)?;
     let mut registry = registry_at_start(rt.alloc(), &setup)?;
     for row in &[
         (b'r', (b'r', 0)),

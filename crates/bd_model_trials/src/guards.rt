@@ -6,14 +6,19 @@ ghost use Rattle.bd_machine.specs.Same.{same_id};
 ghost use Rattle.bd_machine.specs.Table.{look_up};
 ghost use Rattle.bd_machine.specs.View.{is_of};
 
+use crate::setups::one_device;
 use bd_base::{
-    AbortCause, Decision, DevId, DevRow, HandleId, Kind, Name, Op, OutOfMemory, Rates, ReqId, Rows,
-    Setup, ThreadSet, WalkId, WalkKind,
+    AbortCause, Decision, DevId, HandleId, Op, OutOfMemory, Rates, ReqId, Setup, ThreadSet, WalkId,
+    WalkKind,
 };
 use bd_blocks::{part_at_start, references, registry_at_start};
 use bd_course::{
     refused_abort, refused_hold, refused_inject, refused_let, refused_pend, refused_release,
     refused_tick,
+};
+use bd_machine::guard::{
+    ABORT_CAUSE, DRAINED, FIRST_IN_LINE, HOLD_OVER, INJECTION_TAKEN, MAY_ABORT, MAY_HOLD, MAY_PEND,
+    NEXT_VISIT, TICK_DUE, WITHIN_LIMITS,
 };
 use bd_machine::{Handle, Id, Kept, Open, OpenWalk, Part, Registry, Trip};
 use bd_rules::new_request;
@@ -80,40 +85,13 @@ impl Sees for Holder {
     }
 }
 
-fn row(alloc: Global) -> Result<DevRow, OutOfMemory> {
-    Ok(DevRow {
-        name: Name::from_slice(alloc, b"Malloc0")?,
-        kind: Kind::Malloc,
-        base: None,
-        blocks: 4,
-        size: 512,
-        boundary: 0,
-        depth: 128,
-        file: None,
-        group: 0,
-    })
-}
-
-// One thread, and a memory device that lets 1,000 requests a second pass: one in a timeslice.
-fn setup(alloc: Global) -> Result<Setup, OutOfMemory> {
-    let mut devices = Rows::new(alloc);
-    devices.push(row(alloc)?)?;
-    let mut rates = Rows::new(alloc);
-    rates.push(Rates {
-        rw_ios_per_sec: 1000,
-        rw_mbytes_per_sec: 0,
-        r_mbytes_per_sec: 0,
-        w_mbytes_per_sec: 0,
-    })?;
-    Ok(Setup {
-        threads: 1,
-        devices,
-        rates,
-        injections: Rows::new(alloc),
-        waiting: Rows::new(alloc),
-        scripts: Rows::new(alloc),
-    })
-}
+// What the device lets pass: 1,000 requests a second, one in a timeslice.
+const RATES: Rates = Rates {
+    rw_ios_per_sec: 1000,
+    rw_mbytes_per_sec: 0,
+    r_mbytes_per_sec: 0,
+    w_mbytes_per_sec: 0,
+};
 
 // What the thread has: one read, open there or elsewhere, on its own way or out to the limits of its
 // device, where it may wait with so many requests left; and a walk that came here for a drain.
@@ -212,7 +190,7 @@ fn refused(seen: &Holder, setup: &Setup, deed: Deed) -> Result<Option<u32>, OutO
 
 // The guard that refuses the act in this case, if one does.
 fn answer(alloc: Global, case: Case, deed: Deed) -> Result<Option<u32>, OutOfMemory> {
-    let setup = setup(alloc)?;
+    let setup = one_device(alloc, 1, Some(RATES))?;
     let seen = Holder {
         part: part(alloc, &setup, case)?,
         held: held(alloc, case)?,
@@ -224,30 +202,30 @@ fn answer(alloc: Global, case: Case, deed: Deed) -> Result<Option<u32>, OutOfMem
 const ROWS: [(Case, Deed, Option<u32>); 15] = [
     // a read that waits for the limits passes them, unless it isn't the first there or nothing is left
     (WAITING, Deed::Let, None),
-    (OPEN, Deed::Let, Some(14)),
-    (Case { left: 0, ..WAITING }, Deed::Let, Some(15)),
+    (OPEN, Deed::Let, Some(FIRST_IN_LINE)),
+    (Case { left: 0, ..WAITING }, Deed::Let, Some(WITHIN_LIMITS)),
     // a timeslice of 1,000 microseconds passed, not 999, and somebody waits
     (WAITING, Deed::Tick(1000), None),
-    (WAITING, Deed::Tick(999), Some(16)),
-    (OPEN, Deed::Tick(1000), Some(16)),
+    (WAITING, Deed::Tick(999), Some(TICK_DUE)),
+    (OPEN, Deed::Tick(1000), Some(TICK_DUE)),
     // nothing was taken of an error device, and no decision keeps the read
-    (OPEN, Deed::Inject, Some(12)),
-    (OPEN, Deed::Pend, Some(13)),
+    (OPEN, Deed::Inject, Some(INJECTION_TAKEN)),
+    (OPEN, Deed::Pend, Some(MAY_PEND)),
     // no delay device is below, and nothing is held
-    (OPEN, Deed::Hold, Some(22)),
-    (OPEN, Deed::Release, Some(23)),
+    (OPEN, Deed::Hold, Some(MAY_HOLD)),
+    (OPEN, Deed::Release, Some(HOLD_OVER)),
     // a request that isn't here, and one whose device carries no mark
-    (OPEN, Deed::Abort(OTHER), Some(24)),
-    (OPEN, Deed::Abort(REQ), Some(25)),
+    (OPEN, Deed::Abort(OTHER), Some(MAY_ABORT)),
+    (OPEN, Deed::Abort(REQ), Some(ABORT_CAUSE)),
     // no walk is here; a drain waits for the open read, and goes on without one
-    (OPEN, Deed::Visit, Some(29)),
+    (OPEN, Deed::Visit, Some(NEXT_VISIT)),
     (
         Case {
             walks: true,
             ..OPEN
         },
         Deed::Visit,
-        Some(30),
+        Some(DRAINED),
     ),
     (
         Case {

@@ -9,4 +9,6 @@ mod blocks;
 #[cfg(test)]
 mod guards;
 #[cfg(test)]
+mod setups;
+#[cfg(test)]
 mod stack;
