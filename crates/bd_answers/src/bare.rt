@@ -1,49 +1,56 @@
 //! What stands against a destruction: open handles and channels.
 ghost use Rattle.std.specs.Prelude.{◌≡◌, ◌==◌, filter, length, not, IfOk};
-ghost use Rattle.bd_machine.specs.Registry.{freed_by_close, handles_on, if_so, is_bare, is_free, is_own, is_removing_standing, other_threads_of, standing_of, threads_of};
+ghost use Rattle.std.specs.List.{list_all};
+ghost use Rattle.bd_machine.specs.Registry.{freed_by_close, handles_on, if_so, is_bare, is_free, is_out_of_use, is_own, is_removing_standing, other_threads_of, standing_of, threads_of};
+ghost use Rattle.bd_machine.specs.Users.{is_base_handle};
 ghost use Rattle.bd_machine.specs.Threads.{is_nobody};
 
 use crate::standing::standing_of;
 use bd_base::{DevId, HandleId, OutOfMemory, Setup, ThreadSet};
-use bd_blocks::{references, with_thread};
-use bd_machine::{Registry, Standing};
+use bd_blocks::{is_base_handle, with_thread};
+use bd_machine::Standing;
+use bd_view::Records;
 
 /// The threads that have a channel of the device. A thread of 16 or more among them counts as out of
 /// memory.
-pub fn threads_of(setup: &Setup, registry: &Registry, dev: DevId) -> Result<ThreadSet, OutOfMemory>
-    ensures { IfOk result (λ threads. threads ≡ threads_of setup.now registry.now dev) }
+pub fn threads_of<R: Records>(
+    setup: &Setup,
+    registry: &R,
+    dev: DevId,
+) -> Result<ThreadSet, OutOfMemory>
+    ensures { IfOk result (λ threads. threads ≡ threads_of setup.now (R.registry_of registry.now) dev) }
 {
     let mut threads = ThreadSet::empty();
     for t in 0..setup.threads {
-        threads = with_thread(threads, t, references(registry, t, dev).is_some())?;
+        threads = with_thread(threads, t, registry.references(t, dev).is_some())?;
     }
     Ok(threads)
 }
 
 /// The threads but this one that have a channel of the device. A thread of 16 or more among them
 /// counts as out of memory.
-pub(crate) fn other_threads_of(
+pub(crate) fn other_threads_of<R: Records>(
     setup: &Setup,
-    registry: &Registry,
+    registry: &R,
     thread: u32,
     dev: DevId,
 ) -> Result<ThreadSet, OutOfMemory>
-    ensures { IfOk result (λ threads. threads ≡ other_threads_of setup.now registry.now thread dev) }
+    ensures { IfOk result (λ threads. threads ≡ other_threads_of setup.now (R.registry_of registry.now) thread dev) }
 {
     let mut threads = ThreadSet::empty();
     for t in 0..setup.threads {
-        let has_one = thread != t && references(registry, t, dev).is_some();
+        let has_one = thread != t && registry.references(t, dev).is_some();
         threads = with_thread(threads, t, has_one)?;
     }
     Ok(threads)
 }
 
 /// Whether no thread has a channel of the device.
-pub(crate) fn has_no_channel(setup: &Setup, registry: &Registry, dev: DevId) -> bool
-    ensures { result ≡ is_nobody (threads_of setup.now registry.now dev) }
+pub(crate) fn has_no_channel<R: Records>(setup: &Setup, registry: &R, dev: DevId) -> bool
+    ensures { result ≡ is_nobody (threads_of setup.now (R.registry_of registry.now) dev) }
 {
     for t in (0..setup.threads).rev() {
-        if references(registry, t, dev).is_some() {
+        if registry.references(t, dev).is_some() {
             return false;
         }
     }
@@ -51,16 +58,16 @@ pub(crate) fn has_no_channel(setup: &Setup, registry: &Registry, dev: DevId) -> 
 }
 
 /// Whether no thread but this one has a channel of the device.
-pub(crate) fn has_no_other_channel(
+pub(crate) fn has_no_other_channel<R: Records>(
     setup: &Setup,
-    registry: &Registry,
+    registry: &R,
     thread: u32,
     dev: DevId,
 ) -> bool
-    ensures { result ≡ is_nobody (other_threads_of setup.now registry.now thread dev) }
+    ensures { result ≡ is_nobody (other_threads_of setup.now (R.registry_of registry.now) thread dev) }
 {
     for t in (0..setup.threads).rev() {
-        if thread != t && references(registry, t, dev).is_some() {
+        if thread != t && registry.references(t, dev).is_some() {
             return false;
         }
     }
@@ -68,10 +75,10 @@ pub(crate) fn has_no_other_channel(
 }
 
 /// Whether no handle of the device is open.
-pub(crate) fn has_no_handle(registry: &Registry, dev: DevId) -> bool
-    ensures { result ≡ (length (handles_on registry.now dev) == 0) }
+pub(crate) fn has_no_handle<R: Records>(registry: &R, dev: DevId) -> bool
+    ensures { result ≡ (length (handles_on (R.registry_of registry.now) dev) == 0) }
 {
-    for h in registry.handles.as_slice() {
+    for h in registry.handles_of(dev) {
         if h.dev.0 == dev.0 {
             return false;
         }
@@ -80,10 +87,10 @@ pub(crate) fn has_no_handle(registry: &Registry, dev: DevId) -> bool
 }
 
 // Whether no handle of the device is open but this thread's of this number.
-fn has_no_other_handle(registry: &Registry, thread: u32, id: HandleId, dev: DevId) -> bool
-    ensures { result ≡ (length (filter (λ h. not (is_own thread id h)) (handles_on registry.now dev)) == 0) }
+fn has_no_other_handle<R: Records>(registry: &R, thread: u32, id: HandleId, dev: DevId) -> bool
+    ensures { result ≡ (length (filter (λ h. not (is_own thread id h)) (handles_on (R.registry_of registry.now) dev)) == 0) }
 {
-    for h in registry.handles.as_slice() {
+    for h in registry.handles_of(dev) {
         let is_own = h.id.0 == id.0 && h.thread.0 == thread;
         if h.dev.0 == dev.0 && !is_own {
             return false;
@@ -92,30 +99,52 @@ fn has_no_other_handle(registry: &Registry, thread: u32, id: HandleId, dev: DevI
     true
 }
 
-fn is_removing(registry: &Registry, dev: DevId) -> bool
-    ensures { result ≡ is_removing_standing (standing_of registry.now dev) }
+fn is_removing<R: Records>(registry: &R, dev: DevId) -> bool
+    ensures { result ≡ is_removing_standing (standing_of (R.registry_of registry.now) dev) }
 {
     matches!(standing_of(registry, dev), Standing::Removing)
 }
 
 /// Whether the device may be destructed: it is being removed, with neither handle nor channel.
-pub fn is_free(setup: &Setup, registry: &Registry, dev: DevId) -> bool
-    ensures { result ≡ is_free setup.now registry.now dev }
+pub fn is_free<R: Records>(setup: &Setup, registry: &R, dev: DevId) -> bool
+    ensures { result ≡ is_free setup.now (R.registry_of registry.now) dev }
 {
     is_removing(registry, dev)
         && has_no_handle(registry, dev)
         && has_no_channel(setup, registry, dev)
 }
 
+// Whether no handle of the device is open but base handles.
+fn has_base_handles_alone<R: Records>(setup: &Setup, registry: &R, dev: DevId) -> bool
+    ensures { result ≡ list_all (λ h. is_base_handle setup.now h.id) (handles_on (R.registry_of registry.now) dev) }
+{
+    for h in registry.handles_of(dev) {
+        if h.dev.0 == dev.0 && !is_base_handle(setup, h.id) {
+            return false;
+        }
+    }
+    true
+}
+
+/// Whether the device is out of use: it has neither a channel nor a handle but base handles, and no
+/// thread is between an open and its channel, or between a put and its close.
+pub fn is_out_of_use<R: Records>(setup: &Setup, registry: &R, dev: DevId) -> bool
+    ensures { result ≡ is_out_of_use setup.now (R.registry_of registry.now) dev }
+{
+    registry.between().is_none()
+        && has_base_handles_alone(setup, registry, dev)
+        && has_no_channel(setup, registry, dev)
+}
+
 /// The device, where the close of this thread's handle of it leaves it to be destructed.
-pub(crate) fn freed_by_close(
+pub(crate) fn freed_by_close<R: Records>(
     setup: &Setup,
-    registry: &Registry,
+    registry: &R,
     thread: u32,
     id: HandleId,
     dev: DevId,
 ) -> Option<DevId>
-    ensures { result ≡ freed_by_close setup.now registry.now thread id dev }
+    ensures { result ≡ freed_by_close setup.now (R.registry_of registry.now) thread id dev }
 {
     let is_bare = is_removing(registry, dev)
         && has_no_other_handle(registry, thread, id, dev)
@@ -124,13 +153,13 @@ pub(crate) fn freed_by_close(
 }
 
 /// The device, where the drop of this thread's channel of it leaves it to be destructed.
-pub(crate) fn freed_by_drop(
+pub(crate) fn freed_by_drop<R: Records>(
     setup: &Setup,
-    registry: &Registry,
+    registry: &R,
     thread: u32,
     dev: DevId,
 ) -> Option<DevId>
-    ensures { result ≡ if_so (is_bare registry.now dev (handles_on registry.now dev) (other_threads_of setup.now registry.now thread dev)) dev }
+    ensures { result ≡ if_so (is_bare (R.registry_of registry.now) dev (handles_on (R.registry_of registry.now) dev) (other_threads_of setup.now (R.registry_of registry.now) thread dev)) dev }
 {
     let is_bare = is_removing(registry, dev)
         && has_no_handle(registry, dev)

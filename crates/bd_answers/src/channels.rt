@@ -4,17 +4,18 @@ ghost use Rattle.bd_machine.specs.BlockMap.{below};
 ghost use Rattle.bd_machine.specs.Registry.{drop_answer, get_answer, is_born_frozen, is_count, made, put_answer, references, zero_by_drop};
 
 use crate::bare::{freed_by_drop, has_no_other_channel, if_so};
-use crate::standing::{are_live, device_of};
+use crate::standing::are_live;
 use bd_base::{Answer, DevId, DevList, Dropped, Errno, OutOfMemory, Rows, Setup};
-use bd_blocks::{below, references, stands_on};
-use bd_machine::{Registry, ResetState};
+use bd_blocks::{below, stands_on};
+use bd_machine::ResetState;
+use bd_view::Records;
 use std::alloc::Global;
 
 // Whether a new channel of the device is born frozen: a reset of it runs.
-fn is_born_frozen(registry: &Registry, dev: DevId) -> bool
-    ensures { result ≡ is_born_frozen (slice_get registry.now.devices dev.0) }
+fn is_born_frozen<R: Records>(registry: &R, dev: DevId) -> bool
+    ensures { result ≡ is_born_frozen (slice_get (R.registry_of registry.now).devices dev.0) }
 {
-    match device_of(registry, dev) {
+    match registry.device(dev) {
         Some(device) => matches!(device.reset, ResetState::Running),
         None => false,
     }
@@ -22,18 +23,18 @@ fn is_born_frozen(registry: &Registry, dev: DevId) -> bool
 
 /// The devices, from the top down, whose channels a get of the device's channel by a thread makes:
 /// those down to the first that has one.
-pub fn made(
+pub fn made<R: Records>(
     alloc: Global,
     setup: &Setup,
-    registry: &Registry,
+    registry: &R,
     thread: u32,
     dev: DevId,
 ) -> Result<DevList, OutOfMemory>
-    ensures { IfOk result (λ devs. devs ≡ made (references registry.now thread) (below setup.now dev)) }
+    ensures { IfOk result (λ devs. devs ≡ made (references (R.registry_of registry.now) thread) (below setup.now dev)) }
 {
     let mut devs = Rows::new(alloc);
     for d in below(setup, dev) {
-        if references(registry, thread, d).is_some() {
+        if registry.references(thread, d).is_some() {
             break;
         }
         devs.push(d)?;
@@ -42,8 +43,12 @@ pub fn made(
 }
 
 // Those of the devices whose new channels are born frozen.
-fn born_frozen(alloc: Global, registry: &Registry, devs: &[DevId]) -> Result<DevList, OutOfMemory>
-    ensures { IfOk result (λ frozen. frozen ≡ filter (λ d. is_born_frozen (slice_get registry.now.devices d.0)) devs.now) }
+fn born_frozen<R: Records>(
+    alloc: Global,
+    registry: &R,
+    devs: &[DevId],
+) -> Result<DevList, OutOfMemory>
+    ensures { IfOk result (λ frozen. frozen ≡ filter (λ d. is_born_frozen (slice_get (R.registry_of registry.now).devices d.0)) devs.now) }
 {
     let mut frozen = Rows::new(alloc);
     for d in devs {
@@ -55,19 +60,19 @@ fn born_frozen(alloc: Global, registry: &Registry, devs: &[DevId]) -> Result<Dev
 }
 
 /// The answer to a get of the device's channel by a thread.
-pub(crate) fn get_answer(
+pub(crate) fn get_answer<R: Records>(
     alloc: Global,
     setup: &Setup,
-    registry: &Registry,
+    registry: &R,
     thread: u32,
     dev: DevId,
 ) -> Result<Answer, OutOfMemory>
-    ensures { IfOk result (λ a. a ≡ get_answer setup.now registry.now thread dev) }
+    ensures { IfOk result (λ a. a ≡ get_answer setup.now (R.registry_of registry.now) thread dev) }
 {
     if !are_live(setup, registry, dev) {
         return Ok(Answer::Refused(Errno::NoDev));
     }
-    let fresh = references(registry, thread, dev).is_none();
+    let fresh = registry.references(thread, dev).is_none();
     let new = made(alloc, setup, registry, thread, dev)?;
     let frozen = born_frozen(alloc, registry, new.as_slice())?;
     Ok(Answer::Got { fresh, frozen })
@@ -84,11 +89,11 @@ pub(crate) fn put_answer(references: Option<u128>) -> Answer
 }
 
 // The base whose references by the thread come to zero where a channel above it goes.
-fn zero_by_drop(registry: &Registry, thread: u32, base: Option<DevId>) -> Option<DevId>
-    ensures { result ≡ zero_by_drop registry.now thread base }
+fn zero_by_drop<R: Records>(registry: &R, thread: u32, base: Option<DevId>) -> Option<DevId>
+    ensures { result ≡ zero_by_drop (R.registry_of registry.now) thread base }
 {
     let base = base?;
-    if_so(is_count(1, references(registry, thread, base)), base)
+    if_so(is_count(1, registry.references(thread, base)), base)
 }
 
 fn is_count(n: u128, count: Option<u128>) -> bool
@@ -101,10 +106,15 @@ fn is_count(n: u128, count: Option<u128>) -> bool
 }
 
 /// The answer to a drop of the device's channel by a thread: one without references is dropped.
-pub(crate) fn drop_answer(setup: &Setup, registry: &Registry, thread: u32, dev: DevId) -> Answer
-    ensures { result ≡ drop_answer setup.now registry.now thread dev }
+pub(crate) fn drop_answer<R: Records>(
+    setup: &Setup,
+    registry: &R,
+    thread: u32,
+    dev: DevId,
+) -> Answer
+    ensures { result ≡ drop_answer setup.now (R.registry_of registry.now) thread dev }
 {
-    if !is_count(0, references(registry, thread, dev)) {
+    if !is_count(0, registry.references(thread, dev)) {
         return Answer::Dropped {
             what: Dropped::Kept,
             zero: None,

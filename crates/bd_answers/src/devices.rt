@@ -5,22 +5,26 @@ ghost use Rattle.bd_machine.specs.Users.{base_handle};
 ghost use Rattle.bd_machine.specs.declared.state.Standing.TheVariants as standings;
 
 use crate::bare::{has_no_channel, has_no_handle, if_so, is_free, threads_of};
-use crate::standing::{device_of, standing_of};
+use crate::standing::standing_of;
 use bd_base::{
     Answer, DevId, Errno, HandleId, HandleList, Op, OutOfMemory, ReqId, Rows, Setup, ThreadSet,
 };
 use bd_blocks::{base_handle, is_error, users};
 use bd_error::InjectionCalls;
-use bd_machine::{Device, Registry, ResetState, Standing};
-use bd_view::handle_of;
+use bd_machine::{Device, ResetState, Standing};
+use bd_view::Records;
 use std::alloc::Global;
 
 // The open handles of a device, with their threads.
-fn openers_of(alloc: Global, registry: &Registry, dev: DevId) -> Result<HandleList, OutOfMemory>
-    ensures { IfOk result (λ hs. hs ≡ map opener_of (handles_on registry.now dev)) }
+fn openers_of<R: Records>(
+    alloc: Global,
+    registry: &R,
+    dev: DevId,
+) -> Result<HandleList, OutOfMemory>
+    ensures { IfOk result (λ hs. hs ≡ map opener_of (handles_on (R.registry_of registry.now) dev)) }
 {
     let mut openers = Rows::new(alloc);
-    for h in registry.handles.as_slice() {
+    for h in registry.handles_of(dev) {
         if h.dev.0 == dev.0 {
             openers.push((h.id, h.thread))?;
         }
@@ -29,13 +33,13 @@ fn openers_of(alloc: Global, registry: &Registry, dev: DevId) -> Result<HandleLi
 }
 
 // The answer to a removal of a live device.
-fn removing(
+fn removing<R: Records>(
     alloc: Global,
     setup: &Setup,
-    registry: &Registry,
+    registry: &R,
     dev: DevId,
 ) -> Result<Answer, OutOfMemory>
-    ensures { IfOk result (λ a. a ≡ remove_answer_at setup.now registry.now dev standings.Live) }
+    ensures { IfOk result (λ a. a ≡ remove_answer_at setup.now (R.registry_of registry.now) dev standings.Live) }
 {
     let threads = threads_of(setup, registry, dev)?;
     let handles = openers_of(alloc, registry, dev)?;
@@ -50,13 +54,13 @@ fn removing(
 
 /// The answer to a removal of the device at this place, or of none. A place that passes 32 bits
 /// counts as out of memory.
-pub(crate) fn remove_answer(
+pub(crate) fn remove_answer<R: Records>(
     alloc: Global,
     setup: &Setup,
-    registry: &Registry,
+    registry: &R,
     place: Option<usize>,
 ) -> Result<Answer, OutOfMemory>
-    ensures { IfOk result (λ a. a ≡ remove_answer setup.now registry.now place) }
+    ensures { IfOk result (λ a. a ≡ remove_answer setup.now (R.registry_of registry.now) place) }
 {
     let Some(place) = place else {
         return Ok(Answer::Refused(Errno::NoDev));
@@ -138,21 +142,21 @@ pub(crate) fn injection_answer(setup: &Setup, dev: DevId, op: Op, device: Option
     }
 }
 
-fn is_destructed(registry: &Registry, dev: DevId) -> bool
-    ensures { result ≡ is_destructed_standing (standing_of registry.now dev) }
+fn is_destructed<R: Records>(registry: &R, dev: DevId) -> bool
+    ensures { result ≡ is_destructed_standing (standing_of (R.registry_of registry.now) dev) }
 {
     matches!(standing_of(registry, dev), Standing::Destructed)
 }
 
 // Whether every user of a base handle but this one was destructed.
-fn is_last_user(
+fn is_last_user<R: Records>(
     alloc: Global,
     setup: &Setup,
-    registry: &Registry,
+    registry: &R,
     dev: DevId,
     handle: HandleId,
 ) -> Result<bool, OutOfMemory>
-    ensures { IfOk result (λ last. last ≡ is_last_user setup.now registry.now dev handle) }
+    ensures { IfOk result (λ last. last ≡ is_last_user setup.now (R.registry_of registry.now) dev handle) }
 {
     let users = users(alloc, setup, handle)?;
     for user in users.as_slice() {
@@ -164,18 +168,18 @@ fn is_last_user(
 }
 
 // The base handle of a device, where it is open and the device is its last user.
-fn left_open(
+fn left_open<R: Records>(
     alloc: Global,
     setup: &Setup,
-    registry: &Registry,
+    registry: &R,
     dev: DevId,
 ) -> Result<Option<HandleId>, OutOfMemory>
-    ensures { IfOk result (λ h. h ≡ left_open setup.now registry.now dev (base_handle setup.now dev)) }
+    ensures { IfOk result (λ h. h ≡ left_open setup.now (R.registry_of registry.now) dev (base_handle setup.now dev)) }
 {
     let Some(handle) = base_handle(setup, dev) else {
         return Ok(None);
     };
-    if handle_of(registry.handles.as_slice(), handle).is_none() {
+    if registry.handle(handle).is_none() {
         return Ok(None);
     }
     if is_last_user(alloc, setup, registry, dev, handle)? {
@@ -186,13 +190,13 @@ fn left_open(
 }
 
 /// The answer to the report that a device was destructed.
-pub(crate) fn destructed_answer(
+pub(crate) fn destructed_answer<R: Records>(
     alloc: Global,
     setup: &Setup,
-    registry: &Registry,
+    registry: &R,
     dev: DevId,
 ) -> Result<Answer, OutOfMemory>
-    ensures { IfOk result (λ a. a ≡ destructed_answer setup.now registry.now dev) }
+    ensures { IfOk result (λ a. a ≡ destructed_answer setup.now (R.registry_of registry.now) dev) }
 {
     if !is_free(setup, registry, dev) {
         return Ok(Answer::Refused(Errno::Inval));

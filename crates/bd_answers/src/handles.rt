@@ -3,10 +3,11 @@ ghost use Rattle.std.specs.Prelude.{◌≡◌, IfOk};
 ghost use Rattle.bd_machine.specs.Registry.{claim_answer, close_answer, open_answer, refused_or};
 
 use crate::bare::freed_by_close;
-use crate::claims::{claim_refusal, open_refusal};
 use crate::standing::{are_live, is_live};
 use bd_base::{Answer, ClaimKind, DevId, Errno, HandleId, OutOfMemory, Setup};
-use bd_machine::{Handle, Registry};
+use bd_claim::{claim_refusal, open_refusal};
+use bd_machine::Handle;
+use bd_view::Records;
 
 fn refused_or(errno: Option<Errno>, answer: Answer) -> Answer
     ensures { result ≡ refused_or errno answer }
@@ -19,13 +20,13 @@ fn refused_or(errno: Option<Errno>, answer: Answer) -> Answer
 
 /// The answer to an open of the device at this place, or of none. A place that passes 32 bits counts
 /// as out of memory.
-pub(crate) fn open_answer(
+pub(crate) fn open_answer<R: Records>(
     setup: &Setup,
-    registry: &Registry,
+    registry: &R,
     write: bool,
     place: Option<usize>,
 ) -> Result<Answer, OutOfMemory>
-    ensures { IfOk result (λ a. a ≡ open_answer setup.now registry.now write place) }
+    ensures { IfOk result (λ a. a ≡ open_answer setup.now (R.registry_of registry.now) write place) }
 {
     let Some(place) = place else {
         return Ok(Answer::Refused(Errno::NoDev));
@@ -37,20 +38,20 @@ pub(crate) fn open_answer(
     if !are_live(setup, registry, dev) {
         return Ok(Answer::Refused(Errno::NoDev));
     }
-    let handle = HandleId(registry.next);
+    let handle = HandleId(registry.next());
     let opened = Answer::Opened { handle, dev };
-    Ok(refused_or(open_refusal(registry, dev, write), opened))
+    Ok(refused_or(open_refusal(registry.handles_of(dev), dev, write), opened))
 }
 
 /// The answer to a close of this handle by a thread.
-pub(crate) fn close_answer(
+pub(crate) fn close_answer<R: Records>(
     setup: &Setup,
-    registry: &Registry,
+    registry: &R,
     thread: u32,
     id: HandleId,
     handle: Option<Handle>,
 ) -> Answer
-    ensures { result ≡ close_answer setup.now registry.now thread id handle }
+    ensures { result ≡ close_answer setup.now (R.registry_of registry.now) thread id handle }
 {
     let Some(h) = handle else {
         return Answer::Refused(Errno::NoDev);
@@ -65,13 +66,13 @@ pub(crate) fn close_answer(
 }
 
 /// The answer to a claim of this kind for this handle by a thread.
-pub(crate) fn claim_answer(
-    registry: &Registry,
+pub(crate) fn claim_answer<R: Records>(
+    registry: &R,
     thread: u32,
     kind: ClaimKind,
     handle: Option<Handle>,
 ) -> Answer
-    ensures { result ≡ claim_answer registry.now thread kind handle }
+    ensures { result ≡ claim_answer (R.registry_of registry.now) thread kind handle }
 {
     let Some(h) = handle else {
         return Answer::Refused(Errno::BadDesc);
@@ -81,6 +82,7 @@ pub(crate) fn claim_answer(
     } else if !is_live(registry, h.dev) {
         Answer::Refused(Errno::NoDev)
     } else {
-        refused_or(claim_refusal(registry, h.dev, h.id, kind), Answer::Claimed)
+        let handles = registry.handles_of(h.dev);
+        refused_or(claim_refusal(handles, h.dev, h.id, kind), Answer::Claimed)
     }
 }

@@ -1,7 +1,7 @@
 //! Which events are asked of the registry.
 ghost use Rattle.std.specs.Prelude.{◌≡◌, ◌&&◌, ◌==◌, is_some, not};
 ghost use Rattle.std.specs.List.{list_any};
-ghost use Rattle.bd_machine.specs.Asked.{asks_as_yet, asks_between, asks_event, asks_freely, has_reset_at, is_asked_remove, is_close_on, is_get_of, is_handle_on, is_new_reset, may_close, may_close_as_yet, may_close_on, open_on, owes_it, owes_removal};
+ghost use Rattle.bd_machine.specs.Asked.{asks_between, asks_event, asks_freely, has_reset_at, is_asked_remove, is_close_on, is_get_of, is_handle_on, is_new_reset, may_close, may_close_on, open_on, owes_it, owes_removal};
 ghost use Rattle.bd_machine.specs.Registry.{handle_of};
 ghost use Rattle.bd_machine.specs.Same.{same_dev, same_owed, same_request};
 ghost use Rattle.bd_machine.specs.Users.{is_base_handle};
@@ -33,7 +33,7 @@ fn is_closable<S: Sees>(seen: &S, setup: &Setup, id: HandleId) -> bool
 }
 
 /// Whether a thread may close a script's handle: it has no open requests, and the next line closes it
-/// or its remove event was taken.
+/// or its remove event was taken; as yet also after the Shutdown.
 pub fn may_close<S: Sees>(seen: &S, setup: &Setup, thread: u32, shut: bool, id: HandleId) -> bool
     ensures { result ≡ may_close setup.now thread (S.view_of seen.now) (came_shut shut) id }
 {
@@ -41,14 +41,14 @@ pub fn may_close<S: Sees>(seen: &S, setup: &Setup, thread: u32, shut: bool, id: 
         return false;
     }
     let part = seen.part();
-    is_gone(part, id) || closes(part, id, job_now(seen, setup, thread, shut))
+    is_gone(part, id) || (AS_YET && shut) || closes(part, id, job_now(seen, setup, thread, shut))
 }
 
 // Whether a thread may close some handle of the device so.
 fn may_close_on<S: Sees>(seen: &S, setup: &Setup, thread: u32, shut: bool, dev: DevId) -> bool
     ensures { result ≡ may_close_on setup.now thread (S.view_of seen.now) (came_shut shut) dev }
 {
-    for h in seen.handles() {
+    for h in seen.handles_of(dev) {
         if h.thread.0 == seen.thread()
             && h.dev.0 == dev.0
             && may_close(seen, setup, thread, shut, h.id)
@@ -213,28 +213,6 @@ fn asks_between<S: Sees>(
     }
 }
 
-// Whether a thread may close a handle without putting its channel: by the next line, or after the
-// Shutdown.
-fn may_close_as_yet<S: Sees>(seen: &S, setup: &Setup, thread: u32, shut: bool, id: HandleId) -> bool
-    ensures { result ≡ may_close_as_yet setup.now thread (S.view_of seen.now) (came_shut shut) id }
-{
-    is_closable(seen, setup, id)
-        && (shut || closes(seen.part(), id, job_now(seen, setup, thread, shut)))
-}
-
-// Whether an event is asked while threads have no channels.
-fn asks_as_yet<S: Sees>(seen: &S, setup: &Setup, thread: u32, shut: bool, event: &RegEvent) -> bool
-    ensures { result ≡ asks_as_yet setup.now thread (S.view_of seen.now) (came_shut shut) event.now }
-{
-    match event {
-        RegEvent::Open { name, write } => {
-            opens(seen, name, *write, job_now(seen, setup, thread, shut))
-        }
-        RegEvent::Close { handle } => may_close_as_yet(seen, setup, thread, shut, *handle),
-        _ => false,
-    }
-}
-
 /// Whether an event is asked of the registry, where this has to follow there (`between`) and it is
 /// after the Shutdown or not (`shut`).
 pub fn asks_event<S: Sees>(
@@ -248,5 +226,4 @@ pub fn asks_event<S: Sees>(
     ensures { result ≡ asks_event setup.now thread (S.view_of seen.now) (came_between between shut) event.now }
 {
     asks_between(seen, setup, thread, shut, between, event)
-        || (AS_YET && asks_as_yet(seen, setup, thread, shut, event))
 }

@@ -1,5 +1,5 @@
 //! The devices in the registry after an event and its answer.
-ghost use Rattle.std.specs.Prelude.{◌≡◌, OnOk};
+ghost use Rattle.std.specs.Prelude.{◌≡◌, OnOk, OnErr};
 ghost use Rattle.bd_machine.specs.Changes.{devices_after, less_injection, with_reset, with_standing, with_waiting, without_next};
 ghost use Rattle.bd_machine.specs.Table.{change_at};
 
@@ -30,7 +30,8 @@ fn set_reset(devices: &mut Rows<Device>, dev: DevId, reset: ResetState)
 // A reset waits for those before it.
 #[tactic(auto, using(crate::proofs::Places::set_at, crate::proofs::Places::none_at))]
 fn wait_for_reset(devices: &mut Rows<Device>, dev: DevId, req: ReqId) -> Result<(), OutOfMemory>
-    ensures { OnOk result (devices.new ≡ change_at dev.0 (with_waiting req) devices.old) }
+    ensures ok { OnOk result (devices.new ≡ change_at dev.0 (with_waiting req) devices.old) }
+    ensures err { OnErr result (devices.new ≡ devices.old) }
 {
     let place = dev.0 as usize;
     if place < devices.len() {
@@ -70,13 +71,14 @@ fn take_injection(devices: &mut Rows<Device>, dev: DevId, op: Op)
     }
 }
 
-/// The devices after an event and its answer. Out of memory leaves them unspecified.
-pub(crate) fn change_devices(
+/// The devices after an event and its answer. Out of memory leaves them as they were.
+pub fn change_devices(
     devices: &mut Rows<Device>,
     event: &RegEvent,
     answer: &Answer,
 ) -> Result<(), OutOfMemory>
-    ensures { OnOk result (devices.new ≡ devices_after devices.old event.now answer.now) }
+    ensures ok { OnOk result (devices.new ≡ devices_after devices.old event.now answer.now) }
+    ensures err { OnErr result (devices.new ≡ devices.old) }
 {
     match (event, answer) {
         (_, Answer::Removing { dev, .. }) => set_standing(devices, *dev, Standing::Removing),

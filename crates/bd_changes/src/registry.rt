@@ -1,16 +1,15 @@
 //! The registry after an event and its answer.
-ghost use Rattle.std.specs.Prelude.{◌≡◌, ◌++◌, ◌∷◌, [], None, Some, filter, map, not, cond, IfOk, OnOk};
-ghost use Rattle.bd_machine.specs.BlockMap.{stands_on};
-ghost use Rattle.bd_machine.specs.Changes.{base_put, between_after, counts_after, counts_set, handles_after, next_after, one_less, registry_after, with_claim};
+ghost use Rattle.std.specs.Prelude.{◌≡◌, Some, filter, map, not, cond, IfOk, OnOk, OnErr};
+ghost use Rattle.bd_iodev.specs.Counts.{count_for};
+ghost use Rattle.bd_machine.specs.Changes.{between_after, counts_after, counts_set, handles_after, next_after, registry_after, with_claim};
 ghost use Rattle.bd_machine.specs.Claims.{makes_writing};
 ghost use Rattle.bd_machine.specs.Registry.{is_own, references};
 
 use crate::devices::change_devices;
-use bd_base::{
-    Answer, ClaimKind, DevId, Dropped, HandleId, OutOfMemory, RegEvent, Rows, Setup, ThreadId,
-};
-use bd_blocks::{get_channel, references, set_count, stands_on};
-use bd_machine::{Between, Handle, Registry};
+use bd_base::{Answer, ClaimKind, DevId, HandleId, OutOfMemory, RegEvent, Rows, Setup, ThreadId};
+use bd_blocks::set_count;
+use bd_iodev::counts_after;
+use bd_machine::{Between, Channel, Handle, Registry};
 use std::alloc::Global;
 use std::mem::replace;
 
@@ -56,14 +55,17 @@ fn claim(handles: &mut Rows<Handle>, thread: u32, id: HandleId, kind: ClaimKind)
     }
 }
 
-fn change_handles(
+/// The handles after an event and its answer; those of other devices than the handle's may be missing.
+/// Out of memory leaves them as they were.
+pub fn change_handles(
     alloc: Global,
     handles: &mut Rows<Handle>,
     thread: u32,
     event: &RegEvent,
     answer: &Answer,
 ) -> Result<(), OutOfMemory>
-    ensures { OnOk result (handles.new ≡ handles_after thread handles.old event.now answer.now) }
+    ensures ok { OnOk result (handles.new ≡ handles_after thread handles.old event.now answer.now) }
+    ensures err { OnErr result (handles.new ≡ handles.old) }
 {
     match (event, answer) {
         (RegEvent::Open { write, .. }, Answer::Opened { handle, dev }) => handles.push(Handle {
@@ -97,33 +99,18 @@ fn next_after(next: u128, answer: &Answer) -> Result<u128, OutOfMemory>
 
 // ---- channels
 
-fn one_less(count: Option<u128>) -> Option<u128>
-    ensures { result ≡ one_less count }
-{
-    match count {
-        Some(n) => Some(n.saturating_sub(1)),
-        None => None,
-    }
-}
-
-// A thread's channel of a device is gone, and the device below has one reference less.
-fn drop_channel(
-    registry: &mut Registry,
-    setup: &Setup,
+// Sets these counts of a thread, one after another.
+fn set_counts(
+    channels: &mut Rows<(Channel, Option<u128>)>,
     thread: u32,
-    dev: DevId,
+    counts: &[(DevId, Option<u128>)],
 ) -> Result<(), OutOfMemory>
-    ensures { OnOk result (registry.new ≡ record registry.old {
-      channels = counts_set thread
-          (base_put (references registry.old thread) (stands_on setup.now dev) ++ record { dev = dev; count = None } ∷ [])
-          registry.old.channels;
-    }) }
+    ensures { OnOk result (channels.new ≡ counts_set thread (map count_for counts.now) channels.old) }
 {
-    if let Some(base) = stands_on(setup, dev) {
-        let left = one_less(references(registry, thread, base));
-        set_count(&mut registry.channels, thread, base, left)?;
+    for count in counts {
+        set_count(channels, thread, count.0, count.1)?;
     }
-    set_count(&mut registry.channels, thread, dev, None)
+    Ok(())
 }
 
 fn change_channels(
@@ -138,30 +125,15 @@ fn change_channels(
       channels = counts_set thread (counts_after setup.now (references registry.old thread) event.now answer.now) registry.old.channels;
     }) }
 {
-    match (event, answer) {
-        (RegEvent::GetChannel { dev }, Answer::Got { .. }) => {
-            get_channel(alloc, setup, thread, *dev, registry)
-        }
-        (RegEvent::PutChannel { dev, .. }, Answer::PutDown { left }) => {
-            set_count(&mut registry.channels, thread, *dev, Some(*left))
-        }
-        (
-            RegEvent::DropChannel { .. },
-            Answer::Dropped {
-                what: Dropped::Kept,
-                ..
-            },
-        ) => Ok(()),
-        (RegEvent::DropChannel { dev }, Answer::Dropped { .. }) => {
-            drop_channel(registry, setup, thread, *dev)
-        }
-        _ => Ok(()),
-    }
+    let counts = counts_after(alloc, setup, registry, thread, event, answer)?;
+    set_counts(&mut registry.channels, thread, counts.as_slice())?;
+    Ok(())
 }
 
 // ---- what has to follow
 
-fn between_after(thread: u32, event: &RegEvent, answer: &Answer) -> Option<Between>
+/// What has to follow an event and its answer at once.
+pub fn between_after(thread: u32, event: &RegEvent, answer: &Answer) -> Option<Between>
     ensures { result ≡ between_after thread event.now answer.now }
 {
     match (event, answer) {

@@ -1,8 +1,7 @@
-//! The claim table of a device: which open and which claim is refused, and what a claim makes of its
-//! handle.
+//! The claims of one device, by SPDK's rules for descriptors: which open and which claim is refused.
 #![tactic(auto)]
 
 mod claims;
 mod holder;
 
-pub use claims::Claims;
+pub use claims::{claim_refusal, open_refusal};

@@ -1,212 +1,186 @@
-//! The channels of all devices and threads, by SPDK's rules for I/O channels.
-ghost use Rattle.std.specs.Prelude.{◌≡◌, ℕ, ◌+◌, ◌-◌, ◌<◌, ◌≤◌, ◌↔◌, Some, None, length, replicate, unwrap_or, is_some, IsSome, IfOk, MatchOption, slice_index_or, if◌then◌else◌};
-ghost use Rattle.std.specs.Option.{ForSome};
-ghost use Rattle.bd_base.specs.ThreadSet.{Has};
-ghost use Rattle.bd_machine.specs.Channels.{after_drop, counts_of, drops, has_channel, references, with_references};
+//! The counts of all channels.
+ghost use Rattle.std.specs.Prelude.{◌≡◌, ◌<◌, ◌++◌, ◌∷◌, [], None, List, ℕ, Option, true, length, map, position, slice_set, IfOk, OnOk, OnErr};
+ghost use Rattle.bd_base.specs.declared.id.DevId.{DevId};
+ghost use Rattle.bd_machine.specs.Changes.{counts_set};
+ghost use Rattle.bd_machine.specs.Same.{same_channel};
+ghost use Rattle.bd_machine.specs.declared.state.Channel.{Channel};
 
-use bd_base::{DevId, Dropped, OutOfMemory, Rows, ThreadId, ThreadSet};
+use crate::by_device::place_of;
+use bd_base::{DevId, OutOfMemory, Rows};
+use bd_machine::Channel;
 use std::alloc::Global;
 use std::marker::Model;
 
-/// What a get found.
-#[derive(Clone, Copy, Debug, PartialEq, Eq)]
-pub enum Got {
-    /// No channel: one was made, with one reference.
-    Fresh,
-    /// A channel, which has one reference more now.
-    Again,
-}
-
-/// What a put left.
-#[derive(Clone, Copy, Debug, PartialEq, Eq)]
-pub enum Put {
-    /// This number of references, at least one.
-    Left(u128),
-    /// None: the channel is to be dropped, unless it is got again before.
-    Zero,
-}
-
-/// The counts of all channels, seen as a `Table`: the number of threads, and for each device the
-/// references by thread, where no number means no channel.
+/// How many references each thread has to each device, seen as a `Table`: for each device entries with
+/// the count of a channel, or none where the thread has no channel.
 #[derive(Debug, Drop)]
 pub struct Channels {
-    threads: u32,
-    counts: Rows<Rows<Option<u128>>>,
+    rows: Rows<Rows<(Channel, Option<u128>)>>,
 }
 
 impl Model for Channels {
-    ghost use Rattle.bd_iodev.specs.Channels.{Table, IsTable};
+    ghost use Rattle.std.specs.Prelude.{◌<◌, length};
+    ghost use Rattle.bd_iodev.specs.Counts.{Table};
 
     ghost Value = { Table };
 
-    ghost view = { λ c. record { threads = c.threads; counts = c.counts } };
+    ghost view = { λ c. c.rows };
 
-    ghost invariant = { λ c. IsTable c.threads c.counts };
+    ghost invariant = { λ c. 0 < length c.rows };
 }
 
 impl Channels {
-    ghost use Rattle.bd_iodev.specs.Channels.{put_answer};
+    ghost use Rattle.bd_iodev.specs.ByDevice.{row_at, with_row};
+    ghost use Rattle.bd_iodev.specs.Counts.{Has, HasPlaces, HaveSame, IsSet, PlacesStay, channel_of, count_for, count_in, has_place};
 
-    /// No channels yet, for these numbers of devices and threads. Only this call takes memory.
-    pub fn new(alloc: Global, devices: u32, threads: u32) -> Result<Channels, OutOfMemory>
-        requires { threads ≤ 16 }
-        ensures threads { IfOk result (λ c. c.threads ≡ threads) }
-        ensures counts { IfOk result (λ c. c.counts ≡ replicate devices (replicate threads None)) }
+    /// No channels yet. There is a row for each of so many devices, and one for all others.
+    pub fn new(alloc: Global, devices: usize) -> Result<Channels, OutOfMemory>
+        ensures { IfOk result (λ c. Has c []) }
     {
-        let counts = no_counts(alloc, devices, threads)?;
-        Ok(Channels { threads, counts })
+        let mut rows = Rows::new(alloc);
+        rows.push(Rows::new(alloc))?;
+        for _device in 0..devices {
+            rows.push(Rows::new(alloc))?;
+        }
+        Ok(Channels { rows })
     }
 
-    /// The references that a thread has to a device; None where it has no channel.
-    pub fn references(&self, dev: DevId, thread: ThreadId) -> Option<u128>
-        requires dev { dev.0 < length self.now.counts }
-        requires thread { thread.0 < self.now.threads }
-        ensures { result ≡ references self.now.counts dev.0 thread.0 }
+    /// The counts of this list of channels, where the first entry of a channel counts. There is a row for
+    /// each of so many devices, and one for all others.
+    pub fn of(
+        alloc: Global,
+        devices: usize,
+        channels: &[(Channel, Option<u128>)],
+    ) -> Result<Channels, OutOfMemory>
+        ensures { IfOk result (λ c. Has c channels.now) }
     {
-        self.row(dev)[thread.0 as usize]
+        let mut table = Channels::new(alloc, devices)?;
+        for i in (0..channels.len()).rev() {
+            let entry = channels[i];
+            table.put(entry.0, entry.1)?;
+        }
+        Ok(table)
     }
 
-    /// Gets a thread's channel of a device: one reference more, or a new channel with one.
-    pub fn get(&mut self, dev: DevId, thread: ThreadId) -> Got
-        requires dev { dev.0 < length self.old.counts }
-        requires thread { thread.0 < self.old.threads }
-        requires few { ForSome (references self.old.counts dev.0 thread.0) (λ n. n < u128.MAX) }
-        ensures found { MatchOption (references self.old.counts dev.0 thread.0) (result ≡ Got.Fresh) (λ _. result ≡ Got.Again) }
-        ensures counted { self.new ≡ record self.old {
-          counts = with_references self.old.counts dev.0 thread.0 (Some (unwrap_or (references self.old.counts dev.0 thread.0) 0 + 1));
-        } }
-        ensures size { length self.new.counts ≡ length self.old.counts }
+    // The entries of a device.
+    fn row(&self, dev: DevId) -> &[(Channel, Option<u128>)]
+        ensures value { result.now ≡ row_at self.now dev }
+        ensures some { 0 < length self.now }
     {
-        match self.references(dev, thread) {
+        self.rows.as_slice()[place_of(self.rows.len(), dev)].as_slice()
+    }
+
+    /// How many references a thread has to a device; none where it has no channel.
+    pub fn references(&self, thread: u32, dev: DevId) -> Option<u128>
+        ensures { result ≡ count_in self.now thread dev }
+    {
+        let row = self.row(dev);
+        match entry_of(row, thread, dev) {
+            Some(place) => row[place].1,
+            None => None,
+        }
+    }
+
+    // Adds an entry without a count.
+    fn add(&mut self, thread: u32, dev: DevId) -> Result<(), OutOfMemory>
+        ensures ok { OnOk result (self.new ≡ with_row self.old dev (row_at self.old dev ++ (channel_of dev thread, None) ∷ [])) }
+        ensures err { OnErr result (self.new ≡ self.old) }
+    {
+        let place = place_of(self.rows.len(), dev);
+        let channel = Channel { dev, thread };
+        self.rows.at_mut(place).push((channel, None))?;
+        Ok(())
+    }
+
+    // Makes room for the count of a thread, which is none where it had no room.
+    fn make_room(&mut self, thread: u32, dev: DevId) -> Result<(), OutOfMemory>
+        ensures same { HaveSame self.old self.new }
+        ensures stays { PlacesStay self.old self.new }
+        ensures ok { OnOk result (has_place self.new thread dev ≡ true) }
+    {
+        match entry_of(self.row(dev), thread, dev) {
+            Some(_) => Ok(()),
             None => {
-                self.set(dev, thread, Some(1));
-                Got::Fresh
-            }
-            Some(n) => {
-                self.set(dev, thread, Some(n + 1));
-                Got::Again
+                self.add(thread, dev)?;
+                Ok(())
             }
         }
     }
 
-    /// Takes one reference away. At zero the channel stays until it is dropped.
-    pub fn put(&mut self, dev: DevId, thread: ThreadId) -> Put
-        requires dev { dev.0 < length self.old.counts }
-        requires thread { thread.0 < self.old.threads }
-        requires some { 0 < unwrap_or (references self.old.counts dev.0 thread.0) 0 }
-        ensures left { result ≡ put_answer (unwrap_or (references self.old.counts dev.0 thread.0) 0 - 1) }
-        ensures counted { self.new ≡ record self.old {
-          counts = with_references self.old.counts dev.0 thread.0 (Some (unwrap_or (references self.old.counts dev.0 thread.0) 0 - 1));
-        } }
-        ensures size { length self.new.counts ≡ length self.old.counts }
+    // Puts the count of a channel in the place of an entry.
+    fn put_at(&mut self, entry: usize, channel: Channel, count: Option<u128>)
+        requires { entry < length (row_at self.old channel.dev) }
+        ensures { self.new ≡ with_row self.old channel.dev (slice_set (row_at self.old channel.dev) entry (channel, count)) }
     {
-        let left = self.references(dev, thread).unwrap_or(0) - 1;
-        self.set(dev, thread, Some(left));
-        if left == 0 {
-            Put::Zero
-        } else {
-            Put::Left(left)
+        let place = place_of(self.rows.len(), channel.dev);
+        self.rows.at_mut(place).set(entry, (channel, count));
+    }
+
+    // Sets the count of a thread for which there is room.
+    fn set(&mut self, thread: u32, dev: DevId, count: Option<u128>)
+        requires { has_place self.old thread dev ≡ true }
+        ensures counts { IsSet self.old thread dev count self.new }
+        ensures stays { PlacesStay self.old self.new }
+    {
+        if let Some(entry) = entry_of(self.row(dev), thread, dev) {
+            self.put_at(entry, Channel { dev, thread }, count);
         }
     }
 
-    /// Drops a channel that has no reference. `Kept` where it has one, or there is no channel: then
-    /// nothing changed. `Last` where no thread has a channel of the device any more, else `Gone`.
-    pub fn drop_if_zero(&mut self, dev: DevId, thread: ThreadId) -> Dropped
-        requires dev { dev.0 < length self.old.counts }
-        requires thread { thread.0 < self.old.threads }
-        ensures counts { self.new ≡ record self.old { counts = after_drop self.old.counts dev.0 thread.0 } }
-        ensures size { length self.new.counts ≡ length self.old.counts }
-        ensures what { result ≡ (if drops (references self.old.counts dev.0 thread.0)
-            then (if has_channel self.new.counts dev.0 then Dropped.Gone else Dropped.Last)
-            else Dropped.Kept) }
+    // Sets the count of a channel.
+    fn put(&mut self, channel: Channel, count: Option<u128>) -> Result<(), OutOfMemory>
+        ensures { OnOk result (IsSet self.old channel.thread channel.dev count self.new) }
     {
-        if !is_zero(self.references(dev, thread)) {
-            return Dropped::Kept;
+        self.make_room(channel.thread, channel.dev)?;
+        self.set(channel.thread, channel.dev, count);
+        Ok(())
+    }
+
+    // Makes room for these counts of a thread.
+    fn make_all_room(
+        &mut self,
+        thread: u32,
+        counts: &[(DevId, Option<u128>)],
+    ) -> Result<(), OutOfMemory>
+        ensures same { HaveSame self.old self.new }
+        ensures ok { OnOk result (HasPlaces self.new thread counts.now) }
+    {
+        for count in counts {
+            self.make_room(thread, count.0)?;
         }
-        self.set(dev, thread, None);
-        if self.has_channel(dev) {
-            Dropped::Gone
-        } else {
-            Dropped::Last
-        }
+        Ok(())
     }
 
-    /// The threads that have a channel of the device, with references or not.
-    pub fn threads_of(&self, dev: DevId) -> ThreadSet
-        requires { dev.0 < length self.now.counts }
-        ensures { (t : ℕ) → Has result.0 t ↔ IsSome (references self.now.counts dev.0 t) }
+    // Sets these counts of a thread, one after another.
+    fn set_all(&mut self, thread: u32, counts: &[(DevId, Option<u128>)])
+        requires { HasPlaces self.old thread counts.now }
+        ensures { (cs : List (Channel × Option ℕ)) → Has self.old cs → Has self.new (counts_set thread (map count_for counts.now) cs) }
     {
-        set_of(self.row(dev))
-    }
-
-    // The references of a device by thread.
-    fn row(&self, dev: DevId) -> &[Option<u128>]
-        requires { dev.0 < length self.now.counts }
-        ensures value { result.now ≡ counts_of self.now.counts dev.0 }
-        ensures len { length result.now ≡ self.now.threads }
-        ensures few { self.now.threads ≤ 16 }
-    {
-        self.counts.as_slice()[dev.0 as usize].as_slice()
-    }
-
-    fn set(&mut self, dev: DevId, thread: ThreadId, count: Option<u128>)
-        requires dev { dev.0 < length self.old.counts }
-        requires thread { thread.0 < self.old.threads }
-        ensures { self.new ≡ record self.old { counts = with_references self.old.counts dev.0 thread.0 count } }
-    {
-        self.counts
-            .at_mut(dev.0 as usize)
-            .set(thread.0 as usize, count);
-    }
-
-    fn has_channel(&self, dev: DevId) -> bool
-        requires { dev.0 < length self.now.counts }
-        ensures { result ≡ has_channel self.now.counts dev.0 }
-    {
-        self.row(dev).iter().any(|count| count.is_some())
-    }
-}
-
-fn is_zero(count: Option<u128>) -> bool
-    ensures { result ≡ drops count }
-{
-    match count {
-        None => false,
-        Some(n) => n == 0,
-    }
-}
-
-fn no_counts(
-    alloc: Global,
-    devices: u32,
-    threads: u32,
-) -> Result<Rows<Rows<Option<u128>>>, OutOfMemory>
-    ensures { IfOk result (λ counts. counts ≡ replicate devices (replicate threads None)) }
-{
-    let mut counts = Rows::new(alloc);
-    for _device in 0..devices {
-        counts.push(no_count(alloc, threads)?)?;
-    }
-    Ok(counts)
-}
-
-fn no_count(alloc: Global, threads: u32) -> Result<Rows<Option<u128>>, OutOfMemory>
-    ensures { IfOk result (λ row. row ≡ replicate threads None) }
-{
-    let row = vec![in alloc; None; threads as usize]?;
-    Ok(Rows::from_vec(row))
-}
-
-// The threads that have a number.
-fn set_of(row: &[Option<u128>]) -> ThreadSet
-    requires { length row.now ≤ 16 }
-    ensures { (t : ℕ) → Has result.0 t ↔ IsSome (slice_index_or row.now t None) }
-{
-    let mut set = ThreadSet::empty();
-    for (t, count) in row.iter().enumerate() {
-        if count.is_some() {
-            set.insert(ThreadId(t as u32));
+        for count in counts {
+            self.set(thread, count.0, count.1);
         }
     }
-    set
+
+    /// Sets these counts of a thread, one after another; none is for no channel. Out of memory, every
+    /// count stays as it was.
+    pub fn change(
+        &mut self,
+        thread: u32,
+        counts: &[(DevId, Option<u128>)],
+    ) -> Result<(), OutOfMemory>
+        ensures ok { OnOk result ((cs : List (Channel × Option ℕ)) → Has self.old cs → Has self.new (counts_set thread (map count_for counts.now) cs)) }
+        ensures err { OnErr result (HaveSame self.old self.new) }
+    {
+        self.make_all_room(thread, counts)?;
+        self.set_all(thread, counts);
+        Ok(())
+    }
+}
+
+// The place of a channel among the entries.
+fn entry_of(row: &[(Channel, Option<u128>)], thread: u32, dev: DevId) -> Option<usize>
+    ensures { result ≡ position (λ e. same_channel e.0 (record { dev = dev; thread = thread })) row.now }
+{
+    row.iter()
+        .position(|(c, _)| c.dev.0 == dev.0 && c.thread == thread)
 }

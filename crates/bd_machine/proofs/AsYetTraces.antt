@@ -1,8 +1,9 @@
 -- Traces of what is built as yet, computed: each is a run from its start, and most are complete.
-use Rattle.std.proofs.Common.{◌≡◌, ℕ, Bool, true, false, ◌+◌, List, [], ◌∷◌, Option, Some, None, refl, codes}
+use Rattle.std.proofs.Common.{◌≡◌, ℕ, Bool, true, false, ◌+◌, List, [], ◌∷◌, ◌++◌, take, Option, Some, None, refl, codes}
 use Rattle.bd_base.specs.declared.id.DevId.{DevId}
 use Rattle.bd_base.specs.declared.act.Act.TheVariants as acts
 use Rattle.bd_base.specs.declared.event.Answer.TheVariants as answers
+use Rattle.bd_base.specs.declared.event.Dropped.TheVariants as dropped
 use Rattle.bd_base.specs.declared.act.ApplyEnd.TheVariants as ends
 use Rattle.bd_base.specs.declared.act.Entry.{Entry}
 use Rattle.bd_base.specs.declared.act.Outcome.TheVariants as outcomes
@@ -27,6 +28,7 @@ use Rattle.bd_machine.specs.Start.{start}
 use Rattle.bd_machine.specs.Step.{after, refusal}
 use Rattle.bd_machine.specs.View.{part_of}
 use Rattle.bd_machine.proofs.Words.{at, line, script, dev, handle, req, write}
+use Rattle.bd_machine.proofs.ClaimTraces.{claims_refused, claims_refused_setup}
 
 abbrev pub device : DevId
 device = dev 0
@@ -65,31 +67,36 @@ one_thread = setup_of 1 (script 0 (
 abbrev pub first_path : List Entry
 first_path =
     at 1 0 (acts.Reg (events.Open (codes "Malloc0") true) (answers.Opened (handle 0) device)) ∷
-    at 2 0 (acts.Script 1 outcomes.Done) ∷
-    at 3 0 (acts.Accept (req 0 0) device (handle 0) (write 5) 0 1) ∷
-    at 4 0 (acts.Script 2 (outcomes.Accepted (req 0 0))) ∷
-    at 5 0 (acts.Cut (req 0 0) 1) ∷
-    at 6 0 (acts.Put 0 0 (tokens.Piece (req 0 0) 0)) ∷
-    at 7 0 (acts.Took 0 0 (tokens.Piece (req 0 0) 0)) ∷
-    at 8 0 (acts.Apply (req 0 0) 0 device ends.Done) ∷
-    at 9 0 (acts.Put 0 1 (tokens.Piece (req 0 0) 0)) ∷
-    at 10 0 (acts.Took 0 1 (tokens.Piece (req 0 0) 0)) ∷
-    at 11 0 (acts.Complete (req 0 0) Success None) ∷
-    at 12 0 (acts.Script 3 outcomes.Done) ∷
-    at 13 0 (acts.Accept (req 0 1) device (handle 0) ops.Read 0 1) ∷
-    at 14 0 (acts.Script 4 (outcomes.Accepted (req 0 1))) ∷
-    at 15 0 (acts.Cut (req 0 1) 1) ∷
-    at 16 0 (acts.Put 0 2 (tokens.Piece (req 0 1) 0)) ∷
-    at 17 0 (acts.Took 0 2 (tokens.Piece (req 0 1) 0)) ∷
-    at 18 0 (acts.Apply (req 0 1) 0 device ends.Done) ∷
-    at 19 0 (acts.Put 0 3 (tokens.Piece (req 0 1) 0)) ∷
-    at 20 0 (acts.Took 0 3 (tokens.Piece (req 0 1) 0)) ∷
-    at 21 0 (acts.Complete (req 0 1) Success (Some shown)) ∷
-    at 22 0 (acts.Script 5 outcomes.Done) ∷
-    at 23 0 (acts.Reg (events.Close (handle 0)) (answers.Closed None)) ∷
-    at 24 0 (acts.Script 6 outcomes.Done) ∷
-    at 25 0 acts.Shutdown ∷
-    at 26 0 (acts.Destruct device (Some (38 ∷ 12 ∷ 148 ∷ 118 ∷ 209 ∷ 66 ∷ 200 ∷ 45 ∷ 247 ∷ 250 ∷ 128 ∷ 105 ∷ 165 ∷ 209 ∷ 10 ∷ 248 ∷ 214 ∷ 72 ∷ 129 ∷ 214 ∷ 117 ∷ 8 ∷ 85 ∷ 217 ∷ 67 ∷ 255 ∷ 240 ∷ 134 ∷ 2 ∷ 88 ∷ 11 ∷ 4 ∷ []))) ∷ []
+    at 2 0 (acts.Reg (events.GetChannel device) (answers.Got true [])) ∷
+    at 3 0 (acts.Script 1 outcomes.Done) ∷
+    at 4 0 (acts.Accept (req 0 0) device (handle 0) (write 5) 0 1) ∷
+    at 5 0 (acts.Script 2 (outcomes.Accepted (req 0 0))) ∷
+    at 6 0 (acts.Cut (req 0 0) 1) ∷
+    at 7 0 (acts.Put 0 0 (tokens.Piece (req 0 0) 0)) ∷
+    at 8 0 (acts.Took 0 0 (tokens.Piece (req 0 0) 0)) ∷
+    at 9 0 (acts.Apply (req 0 0) 0 device ends.Done) ∷
+    at 10 0 (acts.Put 0 1 (tokens.Piece (req 0 0) 0)) ∷
+    at 11 0 (acts.Took 0 1 (tokens.Piece (req 0 0) 0)) ∷
+    at 12 0 (acts.Complete (req 0 0) Success None) ∷
+    at 13 0 (acts.Script 3 outcomes.Done) ∷
+    at 14 0 (acts.Accept (req 0 1) device (handle 0) ops.Read 0 1) ∷
+    at 15 0 (acts.Script 4 (outcomes.Accepted (req 0 1))) ∷
+    at 16 0 (acts.Cut (req 0 1) 1) ∷
+    at 17 0 (acts.Put 0 2 (tokens.Piece (req 0 1) 0)) ∷
+    at 18 0 (acts.Took 0 2 (tokens.Piece (req 0 1) 0)) ∷
+    at 19 0 (acts.Apply (req 0 1) 0 device ends.Done) ∷
+    at 20 0 (acts.Put 0 3 (tokens.Piece (req 0 1) 0)) ∷
+    at 21 0 (acts.Took 0 3 (tokens.Piece (req 0 1) 0)) ∷
+    at 22 0 (acts.Complete (req 0 1) Success (Some shown)) ∷
+    at 23 0 (acts.Script 5 outcomes.Done) ∷
+    at 24 0 (acts.Reg (events.PutChannel device true) (answers.PutDown 0)) ∷
+    at 25 0 (acts.Reg (events.Close (handle 0)) (answers.Closed None)) ∷
+    at 26 0 (acts.Script 6 outcomes.Done) ∷
+    at 27 0 (acts.Put 0 4 (tokens.Channel device)) ∷
+    at 28 0 (acts.Took 0 4 (tokens.Channel device)) ∷
+    at 29 0 (acts.Reg (events.DropChannel device) (answers.Dropped dropped.Last None None)) ∷
+    at 30 0 acts.Shutdown ∷
+    at 31 0 (acts.Destruct device (Some (38 ∷ 12 ∷ 148 ∷ 118 ∷ 209 ∷ 66 ∷ 200 ∷ 45 ∷ 247 ∷ 250 ∷ 128 ∷ 105 ∷ 165 ∷ 209 ∷ 10 ∷ 248 ∷ 214 ∷ 72 ∷ 129 ∷ 214 ∷ 117 ∷ 8 ∷ 85 ∷ 217 ∷ 67 ∷ 255 ∷ 240 ∷ 134 ∷ 2 ∷ 88 ∷ 11 ∷ 4 ∷ []))) ∷ []
 
 first_path_runs : refused_in one_thread (start one_thread []) first_path ≡ None
 unfolding after sha256 digest_bytes hash_after compress rounds schedule first_words
@@ -130,55 +137,65 @@ two_threads = setup_of 2 (script 0 (lines_of_thread 1 (codes "a") 0 5) ∷ scrip
 abbrev pub reads_beside : List Entry
 reads_beside =
     at 1 0 (acts.Reg (events.Open (codes "Malloc0") true) (answers.Opened (handle 0) device)) ∷
-    at 2 1 (acts.Reg (events.Open (codes "Malloc0") true) (answers.Opened (handle 1) device)) ∷
-    at 3 0 (acts.Script 1 outcomes.Done) ∷
-    at 4 1 (acts.Script 7 outcomes.Done) ∷
-    at 5 0 (acts.Accept (req 0 0) device (handle 0) (write 5) 0 1) ∷
-    at 6 0 (acts.Script 2 (outcomes.Accepted (req 0 0))) ∷
-    at 7 1 (acts.Accept (req 1 0) device (handle 1) (write 9) 1 1) ∷
-    at 8 0 (acts.Cut (req 0 0) 1) ∷
-    at 9 1 (acts.Script 8 (outcomes.Accepted (req 1 0))) ∷
-    at 10 1 (acts.Cut (req 1 0) 1) ∷
-    at 11 0 (acts.Put 0 0 (tokens.Piece (req 0 0) 0)) ∷
-    at 12 1 (acts.Put 0 0 (tokens.Piece (req 1 0) 0)) ∷
-    at 13 0 (acts.Took 1 0 (tokens.Piece (req 1 0) 0)) ∷
-    at 14 0 (acts.Took 0 0 (tokens.Piece (req 0 0) 0)) ∷
-    at 15 0 (acts.Apply (req 1 0) 0 device ends.Done) ∷
-    at 16 0 (acts.Apply (req 0 0) 0 device ends.Done) ∷
-    at 17 0 (acts.Put 0 1 (tokens.Piece (req 0 0) 0)) ∷
-    at 18 0 (acts.Put 1 0 (tokens.Piece (req 1 0) 0)) ∷
-    at 19 1 (acts.Took 0 0 (tokens.Piece (req 1 0) 0)) ∷
-    at 20 1 (acts.Complete (req 1 0) Success None) ∷
-    at 21 1 (acts.Script 9 outcomes.Done) ∷
-    at 22 0 (acts.Took 0 1 (tokens.Piece (req 0 0) 0)) ∷
-    at 23 0 (acts.Complete (req 0 0) Success None) ∷
-    at 24 0 (acts.Script 3 outcomes.Done) ∷
-    at 25 0 (acts.Accept (req 0 1) device (handle 0) ops.Read 0 1) ∷
-    at 26 0 (acts.Script 4 (outcomes.Accepted (req 0 1))) ∷
-    at 27 1 (acts.Accept (req 1 1) device (handle 1) ops.Read 1 1) ∷
-    at 28 0 (acts.Cut (req 0 1) 1) ∷
-    at 29 1 (acts.Script 10 (outcomes.Accepted (req 1 1))) ∷
-    at 30 1 (acts.Cut (req 1 1) 1) ∷
-    at 31 0 (acts.Put 0 2 (tokens.Piece (req 0 1) 0)) ∷
-    at 32 1 (acts.Put 0 1 (tokens.Piece (req 1 1) 0)) ∷
-    at 33 0 (acts.Took 1 1 (tokens.Piece (req 1 1) 0)) ∷
-    at 34 0 (acts.Took 0 2 (tokens.Piece (req 0 1) 0)) ∷
-    at 35 0 (acts.Apply (req 1 1) 0 device ends.Done) ∷
-    at 36 0 (acts.Apply (req 0 1) 0 device ends.Done) ∷
-    at 37 0 (acts.Put 0 3 (tokens.Piece (req 0 1) 0)) ∷
-    at 38 0 (acts.Put 1 1 (tokens.Piece (req 1 1) 0)) ∷
-    at 39 1 (acts.Took 0 1 (tokens.Piece (req 1 1) 0)) ∷
-    at 40 1 (acts.Complete (req 1 1) Success (Some shown_to_other)) ∷
-    at 41 1 (acts.Script 11 outcomes.Done) ∷
-    at 42 0 (acts.Took 0 3 (tokens.Piece (req 0 1) 0)) ∷
-    at 43 0 (acts.Complete (req 0 1) Success (Some shown)) ∷
-    at 44 0 (acts.Script 5 outcomes.Done) ∷
-    at 45 1 (acts.Reg (events.Close (handle 1)) (answers.Closed None)) ∷
-    at 46 1 (acts.Script 12 outcomes.Done) ∷
-    at 47 0 (acts.Reg (events.Close (handle 0)) (answers.Closed None)) ∷
-    at 48 0 (acts.Script 6 outcomes.Done) ∷
-    at 49 0 (acts.Shutdown) ∷
-    at 50 0 (acts.Destruct device (Some (16 ∷ 60 ∷ 129 ∷ 164 ∷ 193 ∷ 59 ∷ 142 ∷ 133 ∷ 150 ∷ 94 ∷ 232 ∷ 165 ∷ 17 ∷ 27 ∷ 81 ∷ 181 ∷ 178 ∷ 29 ∷ 220 ∷ 4 ∷ 32 ∷ 237 ∷ 232 ∷ 40 ∷ 190 ∷ 165 ∷ 179 ∷ 70 ∷ 122 ∷ 174 ∷ 255 ∷ 23 ∷ []))) ∷ []
+    at 2 0 (acts.Reg (events.GetChannel device) (answers.Got true [])) ∷
+    at 3 1 (acts.Reg (events.Open (codes "Malloc0") true) (answers.Opened (handle 1) device)) ∷
+    at 4 1 (acts.Reg (events.GetChannel device) (answers.Got true [])) ∷
+    at 5 0 (acts.Script 1 outcomes.Done) ∷
+    at 6 1 (acts.Script 7 outcomes.Done) ∷
+    at 7 0 (acts.Accept (req 0 0) device (handle 0) (write 5) 0 1) ∷
+    at 8 0 (acts.Script 2 (outcomes.Accepted (req 0 0))) ∷
+    at 9 1 (acts.Accept (req 1 0) device (handle 1) (write 9) 1 1) ∷
+    at 10 0 (acts.Cut (req 0 0) 1) ∷
+    at 11 1 (acts.Script 8 (outcomes.Accepted (req 1 0))) ∷
+    at 12 1 (acts.Cut (req 1 0) 1) ∷
+    at 13 0 (acts.Put 0 0 (tokens.Piece (req 0 0) 0)) ∷
+    at 14 1 (acts.Put 0 0 (tokens.Piece (req 1 0) 0)) ∷
+    at 15 0 (acts.Took 1 0 (tokens.Piece (req 1 0) 0)) ∷
+    at 16 0 (acts.Took 0 0 (tokens.Piece (req 0 0) 0)) ∷
+    at 17 0 (acts.Apply (req 1 0) 0 device ends.Done) ∷
+    at 18 0 (acts.Apply (req 0 0) 0 device ends.Done) ∷
+    at 19 0 (acts.Put 0 1 (tokens.Piece (req 0 0) 0)) ∷
+    at 20 0 (acts.Put 1 0 (tokens.Piece (req 1 0) 0)) ∷
+    at 21 1 (acts.Took 0 0 (tokens.Piece (req 1 0) 0)) ∷
+    at 22 1 (acts.Complete (req 1 0) Success None) ∷
+    at 23 1 (acts.Script 9 outcomes.Done) ∷
+    at 24 0 (acts.Took 0 1 (tokens.Piece (req 0 0) 0)) ∷
+    at 25 0 (acts.Complete (req 0 0) Success None) ∷
+    at 26 0 (acts.Script 3 outcomes.Done) ∷
+    at 27 0 (acts.Accept (req 0 1) device (handle 0) ops.Read 0 1) ∷
+    at 28 0 (acts.Script 4 (outcomes.Accepted (req 0 1))) ∷
+    at 29 1 (acts.Accept (req 1 1) device (handle 1) ops.Read 1 1) ∷
+    at 30 0 (acts.Cut (req 0 1) 1) ∷
+    at 31 1 (acts.Script 10 (outcomes.Accepted (req 1 1))) ∷
+    at 32 1 (acts.Cut (req 1 1) 1) ∷
+    at 33 0 (acts.Put 0 2 (tokens.Piece (req 0 1) 0)) ∷
+    at 34 1 (acts.Put 0 1 (tokens.Piece (req 1 1) 0)) ∷
+    at 35 0 (acts.Took 1 1 (tokens.Piece (req 1 1) 0)) ∷
+    at 36 0 (acts.Took 0 2 (tokens.Piece (req 0 1) 0)) ∷
+    at 37 0 (acts.Apply (req 1 1) 0 device ends.Done) ∷
+    at 38 0 (acts.Apply (req 0 1) 0 device ends.Done) ∷
+    at 39 0 (acts.Put 0 3 (tokens.Piece (req 0 1) 0)) ∷
+    at 40 0 (acts.Put 1 1 (tokens.Piece (req 1 1) 0)) ∷
+    at 41 1 (acts.Took 0 1 (tokens.Piece (req 1 1) 0)) ∷
+    at 42 1 (acts.Complete (req 1 1) Success (Some shown_to_other)) ∷
+    at 43 1 (acts.Script 11 outcomes.Done) ∷
+    at 44 0 (acts.Took 0 3 (tokens.Piece (req 0 1) 0)) ∷
+    at 45 0 (acts.Complete (req 0 1) Success (Some shown)) ∷
+    at 46 0 (acts.Script 5 outcomes.Done) ∷
+    at 47 1 (acts.Reg (events.PutChannel device true) (answers.PutDown 0)) ∷
+    at 48 1 (acts.Reg (events.Close (handle 1)) (answers.Closed None)) ∷
+    at 49 1 (acts.Script 12 outcomes.Done) ∷
+    at 50 1 (acts.Put 1 0 (tokens.Channel device)) ∷
+    at 51 1 (acts.Took 1 0 (tokens.Channel device)) ∷
+    at 52 1 (acts.Reg (events.DropChannel device) (answers.Dropped dropped.Gone None None)) ∷
+    at 53 0 (acts.Reg (events.PutChannel device true) (answers.PutDown 0)) ∷
+    at 54 0 (acts.Reg (events.Close (handle 0)) (answers.Closed None)) ∷
+    at 55 0 (acts.Script 6 outcomes.Done) ∷
+    at 56 0 (acts.Put 0 4 (tokens.Channel device)) ∷
+    at 57 0 (acts.Took 0 4 (tokens.Channel device)) ∷
+    at 58 0 (acts.Reg (events.DropChannel device) (answers.Dropped dropped.Last None None)) ∷
+    at 59 0 (acts.Shutdown) ∷
+    at 60 0 (acts.Destruct device (Some (16 ∷ 60 ∷ 129 ∷ 164 ∷ 193 ∷ 59 ∷ 142 ∷ 133 ∷ 150 ∷ 94 ∷ 232 ∷ 165 ∷ 17 ∷ 27 ∷ 81 ∷ 181 ∷ 178 ∷ 29 ∷ 220 ∷ 4 ∷ 32 ∷ 237 ∷ 232 ∷ 40 ∷ 190 ∷ 165 ∷ 179 ∷ 70 ∷ 122 ∷ 174 ∷ 255 ∷ 23 ∷ []))) ∷ []
 
 reads_beside_runs : refused_in two_threads (start two_threads []) reads_beside ≡ None
 unfolding after sha256 digest_bytes hash_after compress rounds schedule first_words
@@ -217,21 +234,22 @@ bounded = record (setup_of 2 (script 1 (line 1 (opens (codes "b") (codes "Malloc
 abbrev pub two_pieces : List Entry
 two_pieces =
     at 1 1 (acts.Reg (events.Open (codes "Malloc0") true) (answers.Opened (handle 0) device)) ∷
-    at 2 1 (acts.Script 1 outcomes.Done) ∷
-    at 3 1 (acts.Accept (req 1 0) device (handle 0) (write 9) 6 4) ∷
-    at 4 1 (acts.Script 2 (outcomes.Accepted (req 1 0))) ∷
-    at 5 1 (acts.Cut (req 1 0) 2) ∷
-    at 6 1 (acts.Put 0 0 (tokens.Piece (req 1 0) 1)) ∷
-    at 7 1 (acts.Put 0 1 (tokens.Piece (req 1 0) 0)) ∷
-    at 8 0 (acts.Took 1 0 (tokens.Piece (req 1 0) 1)) ∷
-    at 9 0 (acts.Apply (req 1 0) 1 device ends.Done) ∷
-    at 10 0 (acts.Put 1 0 (tokens.Piece (req 1 0) 1)) ∷
-    at 11 1 (acts.Took 0 0 (tokens.Piece (req 1 0) 1)) ∷
-    at 12 0 (acts.Took 1 1 (tokens.Piece (req 1 0) 0)) ∷
-    at 13 0 (acts.Apply (req 1 0) 0 device ends.Done) ∷
-    at 14 0 (acts.Put 1 1 (tokens.Piece (req 1 0) 0)) ∷
-    at 15 1 (acts.Took 0 1 (tokens.Piece (req 1 0) 0)) ∷
-    at 16 1 (acts.Complete (req 1 0) Success None) ∷ []
+    at 2 1 (acts.Reg (events.GetChannel device) (answers.Got true [])) ∷
+    at 3 1 (acts.Script 1 outcomes.Done) ∷
+    at 4 1 (acts.Accept (req 1 0) device (handle 0) (write 9) 6 4) ∷
+    at 5 1 (acts.Script 2 (outcomes.Accepted (req 1 0))) ∷
+    at 6 1 (acts.Cut (req 1 0) 2) ∷
+    at 7 1 (acts.Put 0 0 (tokens.Piece (req 1 0) 1)) ∷
+    at 8 1 (acts.Put 0 1 (tokens.Piece (req 1 0) 0)) ∷
+    at 9 0 (acts.Took 1 0 (tokens.Piece (req 1 0) 1)) ∷
+    at 10 0 (acts.Apply (req 1 0) 1 device ends.Done) ∷
+    at 11 0 (acts.Put 1 0 (tokens.Piece (req 1 0) 1)) ∷
+    at 12 1 (acts.Took 0 0 (tokens.Piece (req 1 0) 1)) ∷
+    at 13 0 (acts.Took 1 1 (tokens.Piece (req 1 0) 0)) ∷
+    at 14 0 (acts.Apply (req 1 0) 0 device ends.Done) ∷
+    at 15 0 (acts.Put 1 1 (tokens.Piece (req 1 0) 0)) ∷
+    at 16 1 (acts.Took 0 1 (tokens.Piece (req 1 0) 0)) ∷
+    at 17 1 (acts.Complete (req 1 0) Success None) ∷ []
 
 two_pieces_run : refused_in bounded (start bounded []) two_pieces ≡ None
 unfolding after
@@ -255,22 +273,23 @@ on_disk = record (setup_of 1 (script 0 (line 1 (opens (codes "h") (codes "A") tr
 abbrev pub faulted : List Entry
 faulted =
     at 1 0 (acts.Reg (events.Open (codes "A") true) (answers.Opened (handle 0) device)) ∷
-    at 2 0 (acts.Script 1 outcomes.Done) ∷
-    at 3 0 (acts.Accept (req 0 0) device (handle 0) ops.Read 0 1) ∷
-    at 4 0 (acts.Script 2 (outcomes.Accepted (req 0 0))) ∷
-    at 5 0 (acts.Cut (req 0 0) 1) ∷
-    at 6 0 (acts.Put 0 0 (tokens.Piece (req 0 0) 0)) ∷
-    at 7 0 (acts.Took 0 0 (tokens.Piece (req 0 0) 0)) ∷
-    at 8 0 (acts.Apply (req 0 0) 0 device ends.Fault) ∷
-    at 9 0 (acts.Put 0 1 (tokens.Piece (req 0 0) 0)) ∷
-    at 10 0 (acts.Took 0 1 (tokens.Piece (req 0 0) 0)) ∷
-    at 11 0 (acts.Complete (req 0 0) Failed None) ∷ []
+    at 2 0 (acts.Reg (events.GetChannel device) (answers.Got true [])) ∷
+    at 3 0 (acts.Script 1 outcomes.Done) ∷
+    at 4 0 (acts.Accept (req 0 0) device (handle 0) ops.Read 0 1) ∷
+    at 5 0 (acts.Script 2 (outcomes.Accepted (req 0 0))) ∷
+    at 6 0 (acts.Cut (req 0 0) 1) ∷
+    at 7 0 (acts.Put 0 0 (tokens.Piece (req 0 0) 0)) ∷
+    at 8 0 (acts.Took 0 0 (tokens.Piece (req 0 0) 0)) ∷
+    at 9 0 (acts.Apply (req 0 0) 0 device ends.Fault) ∷
+    at 10 0 (acts.Put 0 1 (tokens.Piece (req 0 0) 0)) ∷
+    at 11 0 (acts.Took 0 1 (tokens.Piece (req 0 0) 0)) ∷
+    at 12 0 (acts.Complete (req 0 0) Failed None) ∷ []
 
 faulted_runs : refused_in on_disk (start on_disk []) faulted ≡ None
 unfolding after
 faulted_runs = refl
 
--- ---- a handle that its script left open is closed after the Shutdown, and then its device is destructed
+-- ---- a handle that its script left open is closed after the Shutdown, its channel dropped, and then its device is destructed
 
 abbrev pub left_open : Setup
 left_open = record (setup_of 1 (script 0 (line 1 (opens (codes "h") (codes "Malloc0") false) ∷ line 2 (jobs.Await (codes "never")) ∷ line 3 (jobs.Close (codes "h")) ∷ []) ∷ [])) {
@@ -280,10 +299,15 @@ left_open = record (setup_of 1 (script 0 (line 1 (opens (codes "h") (codes "Mall
 abbrev pub left_entries : List Entry
 left_entries =
     at 1 0 (acts.Reg (events.Open (codes "Malloc0") false) (answers.Opened (handle 0) device)) ∷
-    at 2 0 (acts.Script 1 outcomes.Done) ∷
-    at 3 0 acts.Shutdown ∷
-    at 4 0 (acts.Reg (events.Close (handle 0)) (answers.Closed None)) ∷
-    at 5 0 (acts.Destruct device (Some (175 ∷ 85 ∷ 112 ∷ 245 ∷ 161 ∷ 129 ∷ 11 ∷ 122 ∷ 247 ∷ 140 ∷ 175 ∷ 75 ∷ 199 ∷ 10 ∷ 102 ∷ 15 ∷ 13 ∷ 245 ∷ 30 ∷ 66 ∷ 186 ∷ 249 ∷ 29 ∷ 77 ∷ 229 ∷ 178 ∷ 50 ∷ 141 ∷ 224 ∷ 232 ∷ 61 ∷ 252 ∷ []))) ∷ []
+    at 2 0 (acts.Reg (events.GetChannel device) (answers.Got true [])) ∷
+    at 3 0 (acts.Script 1 outcomes.Done) ∷
+    at 4 0 acts.Shutdown ∷
+    at 5 0 (acts.Reg (events.PutChannel device true) (answers.PutDown 0)) ∷
+    at 6 0 (acts.Reg (events.Close (handle 0)) (answers.Closed None)) ∷
+    at 7 0 (acts.Put 0 0 (tokens.Channel device)) ∷
+    at 8 0 (acts.Took 0 0 (tokens.Channel device)) ∷
+    at 9 0 (acts.Reg (events.DropChannel device) (answers.Dropped dropped.Last None None)) ∷
+    at 10 0 (acts.Destruct device (Some (175 ∷ 85 ∷ 112 ∷ 245 ∷ 161 ∷ 129 ∷ 11 ∷ 122 ∷ 247 ∷ 140 ∷ 175 ∷ 75 ∷ 199 ∷ 10 ∷ 102 ∷ 15 ∷ 13 ∷ 245 ∷ 30 ∷ 66 ∷ 186 ∷ 249 ∷ 29 ∷ 77 ∷ 229 ∷ 178 ∷ 50 ∷ 141 ∷ 224 ∷ 232 ∷ 61 ∷ 252 ∷ []))) ∷ []
 
 left_runs : refused_in left_open (start left_open []) left_entries ≡ None
 unfolding after sha256 digest_bytes hash_after compress rounds schedule first_words
@@ -293,7 +317,7 @@ left_is_complete : is_finished left_open (after_all left_open (start left_open [
 unfolding after
 left_is_complete = refl
 
--- ---- a write to a split device's second part goes in two pieces; the base handle is open at the end, and the devices are destructed all the same
+-- ---- a write to a split device's second part goes in two pieces; the channel of the base goes after that of the part; the base handle is open at the end, and the devices are destructed all the same
 
 abbrev pub parted : Setup
 parted = record (setup_of 1 (script 0 (line 1 (opens (codes "h") (codes "Np1") true) ∷ line 2 (submits (codes "h") (write 5) 0 10) ∷ line 3 jobs.Wait ∷ line 4 (jobs.Close (codes "h")) ∷ []) ∷ [])) {
@@ -306,28 +330,36 @@ parted = record (setup_of 1 (script 0 (line 1 (opens (codes "h") (codes "Np1") t
 abbrev pub part_written : List Entry
 part_written =
     at 1 0 (acts.Reg (events.Open (codes "Np1") true) (answers.Opened (handle 1) (dev 2))) ∷
-    at 2 0 (acts.Script 1 outcomes.Done) ∷
-    at 3 0 (acts.Accept (req 0 0) (dev 2) (handle 1) (write 5) 0 10) ∷
-    at 4 0 (acts.Script 2 (outcomes.Accepted (req 0 0))) ∷
-    at 5 0 (acts.Cut (req 0 0) 2) ∷
-    at 6 0 (acts.Put 0 0 (tokens.Piece (req 0 0) 0)) ∷
-    at 7 0 (acts.Put 0 1 (tokens.Piece (req 0 0) 1)) ∷
-    at 8 0 (acts.Took 0 0 (tokens.Piece (req 0 0) 0)) ∷
-    at 9 0 (acts.Took 0 1 (tokens.Piece (req 0 0) 1)) ∷
-    at 10 0 (acts.Apply (req 0 0) 0 (dev 0) ends.Done) ∷
-    at 11 0 (acts.Apply (req 0 0) 1 (dev 0) ends.Done) ∷
-    at 12 0 (acts.Put 0 2 (tokens.Piece (req 0 0) 0)) ∷
-    at 13 0 (acts.Put 0 3 (tokens.Piece (req 0 0) 1)) ∷
-    at 14 0 (acts.Took 0 2 (tokens.Piece (req 0 0) 0)) ∷
-    at 15 0 (acts.Took 0 3 (tokens.Piece (req 0 0) 1)) ∷
-    at 16 0 (acts.Complete (req 0 0) Success None) ∷
-    at 17 0 (acts.Script 3 outcomes.Done) ∷
-    at 18 0 (acts.Reg (events.Close (handle 1)) (answers.Closed None)) ∷
-    at 19 0 (acts.Script 4 outcomes.Done) ∷
-    at 20 0 acts.Shutdown ∷
-    at 21 0 (acts.Destruct (dev 0) None) ∷
-    at 22 0 (acts.Destruct (dev 2) None) ∷
-    at 23 0 (acts.Destruct (dev 1) None) ∷ []
+    at 2 0 (acts.Reg (events.GetChannel (dev 2)) (answers.Got true [])) ∷
+    at 3 0 (acts.Script 1 outcomes.Done) ∷
+    at 4 0 (acts.Accept (req 0 0) (dev 2) (handle 1) (write 5) 0 10) ∷
+    at 5 0 (acts.Script 2 (outcomes.Accepted (req 0 0))) ∷
+    at 6 0 (acts.Cut (req 0 0) 2) ∷
+    at 7 0 (acts.Put 0 0 (tokens.Piece (req 0 0) 0)) ∷
+    at 8 0 (acts.Put 0 1 (tokens.Piece (req 0 0) 1)) ∷
+    at 9 0 (acts.Took 0 0 (tokens.Piece (req 0 0) 0)) ∷
+    at 10 0 (acts.Took 0 1 (tokens.Piece (req 0 0) 1)) ∷
+    at 11 0 (acts.Apply (req 0 0) 0 (dev 0) ends.Done) ∷
+    at 12 0 (acts.Apply (req 0 0) 1 (dev 0) ends.Done) ∷
+    at 13 0 (acts.Put 0 2 (tokens.Piece (req 0 0) 0)) ∷
+    at 14 0 (acts.Put 0 3 (tokens.Piece (req 0 0) 1)) ∷
+    at 15 0 (acts.Took 0 2 (tokens.Piece (req 0 0) 0)) ∷
+    at 16 0 (acts.Took 0 3 (tokens.Piece (req 0 0) 1)) ∷
+    at 17 0 (acts.Complete (req 0 0) Success None) ∷
+    at 18 0 (acts.Script 3 outcomes.Done) ∷
+    at 19 0 (acts.Reg (events.PutChannel (dev 2) true) (answers.PutDown 0)) ∷
+    at 20 0 (acts.Reg (events.Close (handle 1)) (answers.Closed None)) ∷
+    at 21 0 (acts.Script 4 outcomes.Done) ∷
+    at 22 0 (acts.Put 0 4 (tokens.Channel (dev 2))) ∷
+    at 23 0 (acts.Took 0 4 (tokens.Channel (dev 2))) ∷
+    at 24 0 (acts.Reg (events.DropChannel (dev 2)) (answers.Dropped dropped.Last (Some (dev 0)) None)) ∷
+    at 25 0 (acts.Put 0 5 (tokens.Channel (dev 0))) ∷
+    at 26 0 (acts.Took 0 5 (tokens.Channel (dev 0))) ∷
+    at 27 0 (acts.Reg (events.DropChannel (dev 0)) (answers.Dropped dropped.Last None None)) ∷
+    at 28 0 acts.Shutdown ∷
+    at 29 0 (acts.Destruct (dev 0) None) ∷
+    at 30 0 (acts.Destruct (dev 2) None) ∷
+    at 31 0 (acts.Destruct (dev 1) None) ∷ []
 
 part_written_runs : refused_in parted (start parted []) part_written ≡ None
 unfolding after
@@ -336,3 +368,16 @@ part_written_runs = refl
 part_written_is_complete : is_finished parted (after_all parted (start parted []) part_written) ≡ true
 unfolding after
 part_written_is_complete = refl
+
+-- ---- claims beside each other, one refused, and an open for writing that they refuse
+
+abbrev pub claimed : List Entry
+claimed = take 28 claims_refused ++ at 100 0 (acts.Destruct (dev 0) None) ∷ []
+
+claimed_runs : refused_in claims_refused_setup (start claims_refused_setup []) claimed ≡ None
+unfolding after
+claimed_runs = refl
+
+claimed_is_complete : is_finished claims_refused_setup (after_all claims_refused_setup (start claims_refused_setup []) claimed) ≡ true
+unfolding after
+claimed_is_complete = refl

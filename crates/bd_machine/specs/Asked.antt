@@ -145,11 +145,11 @@ job_now setup t v came = cond came.shut None (undecided_job setup t v.part)
 abbrev pub owes_it : Part → Owed → Bool
 owes_it part owed = list_any (same_owed owed) part.owed
 
--- a script's handle without open requests is closed by the next line, or where its remove event was taken
+-- a script's handle without open requests is closed by the next line, or where its remove event was taken; as yet also after the Shutdown
 abbrev pub may_close : Setup → ℕ → View → Came → HandleId → Bool
 may_close setup t v came id =
     not (is_base_handle setup id) && is_some (handle_of v.handles id) && (open_on v.part id == 0)
-    && cond (is_gone v.part id) true (is_job_close v.part id (job_now setup t v came))
+    && (is_gone v.part id || (as_yet && came.shut) || is_job_close v.part id (job_now setup t v came))
 
 -- some handle of the device is closed so
 abbrev pub may_close_on : Setup → ℕ → View → Came → DevId → Bool
@@ -206,20 +206,9 @@ asks_between setup t v came event None = asks_freely setup t v came event
 asks_between setup t v came event (Some (Opening u dev)) = (u == t) && is_get_of dev event
 asks_between setup t v came event (Some (Closing u dev)) = (u == t) && is_close_on setup t v came dev event
 
--- as yet, threads open and close without a channel: a handle without open requests is closed by the next line, or after Shutdown
-abbrev pub may_close_as_yet : Setup → ℕ → View → Came → HandleId → Bool
-may_close_as_yet setup t v came id =
-    not (is_base_handle setup id) && is_some (handle_of v.handles id) && (open_on v.part id == 0)
-    && cond came.shut true (is_job_close v.part id (job_now setup t v came))
-
-abbrev pub asks_as_yet : Setup → ℕ → View → Came → RegEvent → Bool
-asks_as_yet setup t v came (events.Open name write) = is_job_open v name write (job_now setup t v came)
-asks_as_yet setup t v came (events.Close id) = may_close_as_yet setup t v came id
-asks_as_yet setup t v came _ = false
-
 -- an event is asked
 abbrev pub asks_event : Setup → ℕ → View → Came → RegEvent → Bool
-asks_event setup t v came event = asks_between setup t v came event came.between || (as_yet && asks_as_yet setup t v came event)
+asks_event setup t v came event = asks_between setup t v came event came.between
 
 -- ---- outcomes
 

@@ -23,16 +23,21 @@ use Rattle.bd_machine.specs.Scripts.{guards_script, change_script}
 use Rattle.bd_machine.specs.Walks.{guards_visit, change_visit}
 use Rattle.bd_machine.specs.View.{View, Came, Change}
 
--- ---- what is built as yet: messages are pieces and marks, events are Open and Close, and no request is a reset or an abort
+-- ---- what is built as yet: messages are pieces, marks and channels to be dropped; events are those of handles, claims and channels; and no request is a reset or an abort
 
 abbrev pub is_built_token : Token → Bool
 is_built_token (tokens.Piece req k) = true
 is_built_token (tokens.Mark mark) = true
+is_built_token (tokens.Channel dev) = true
 is_built_token _ = false
 
 abbrev pub is_built_event : RegEvent → Bool
 is_built_event (events.Open name write) = true
 is_built_event (events.Close handle) = true
+is_built_event (events.Claim handle kind) = true
+is_built_event (events.GetChannel dev) = true
+is_built_event (events.PutChannel dev closing) = true
+is_built_event (events.DropChannel dev) = true
 is_built_event _ = false
 
 abbrev pub is_built_as_yet : Act → Bool

@@ -116,9 +116,13 @@ is_bare registry dev handles threads = is_removing_standing (standing_of registr
 abbrev pub is_free : Setup → Registry → DevId → Bool
 is_free setup registry dev = is_bare registry dev (handles_on registry dev) (threads_of setup registry dev)
 
--- no handle of it is open but base handles
+-- no handle of it is open but base handles, and no thread has a channel of it
 abbrev pub is_unused : Setup → Registry → DevId → Bool
-is_unused setup registry dev = list_all (λ h. is_base_handle setup h.id) (handles_on registry dev)
+is_unused setup registry dev = list_all (λ h. is_base_handle setup h.id) (handles_on registry dev) && is_nobody (threads_of setup registry dev)
+
+-- it is unused, and no thread is between an open and its channel
+abbrev pub is_out_of_use : Setup → Registry → DevId → Bool
+is_out_of_use setup registry dev = is_none registry.between && is_unused setup registry dev
 
 abbrev pub if_so : Bool → DevId → Option DevId
 if_so b dev = cond b (Some dev) None

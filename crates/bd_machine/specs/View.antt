@@ -17,7 +17,7 @@ use Rattle.bd_machine.specs.declared.state.Between.{Between}
 use Rattle.bd_machine.specs.declared.state.Handle.{Handle}
 use Rattle.bd_machine.specs.declared.state.Part.{Part}
 use Rattle.bd_machine.specs.declared.state.State.{State}
-use Rattle.bd_machine.specs.Registry.{Question, answer_to, is_free, is_unused, references}
+use Rattle.bd_machine.specs.Registry.{Question, answer_to, is_free, is_out_of_use, references}
 use Rattle.bd_machine.specs.Same.{same_id}
 use Rattle.bd_machine.specs.Table.{look_up}
 
@@ -31,7 +31,7 @@ pub record View : Type 0 where
 
 -- message: what is kept of the token of the message taken
 -- answer: the registry's to the event; between: where the act asks the registry, what has to follow there
--- free: the device that the act destructs is being removed, with neither handle nor channel; unused: no handle of it is open but base handles
+-- free: the device that the act destructs is being removed, with neither handle nor channel; unused: it has neither a channel nor a handle but base handles, and no thread is about to get one
 -- shut: Shutdown came
 pub record Came : Type 0 where
   pub message : Option Kept
@@ -154,7 +154,7 @@ is_free_if_any setup s (Some dev) = is_free setup s.registry dev
 
 abbrev pub is_unused_if_any : Setup → State → Option DevId → Bool
 is_unused_if_any setup s None = false
-is_unused_if_any setup s (Some dev) = is_unused setup s.registry dev
+is_unused_if_any setup s (Some dev) = is_out_of_use setup s.registry dev
 
 abbrev pub answer_for : Setup → State → ℕ → Question → Answer
 answer_for setup s t q = answer_to setup s.registry t q.event

@@ -57,8 +57,8 @@ pub fn destructed_at_most_once()
     ensures { DestructedAtMostOnce }
 {}
 
-/// What is destructed is being removed, with neither handle nor channel; or, as yet, Shutdown came
-/// and no handle of it is open but base handles.
+/// What is destructed is being removed, with neither handle nor channel; or, as yet, Shutdown came,
+/// it has neither a channel nor a handle but base handles, and no thread is about to get one.
 pub fn destructed_where_free()
     ensures { DestructedWhereFree }
 {}
@@ -94,8 +94,8 @@ pub fn scripts_go_as_far()
     ensures { ScriptsGoAsFar }
 {}
 
-/// In a run a device is destructed after its last close: no handle of it is open then but base
-/// handles, and no open and no get over it is answered afterwards but by a refusal.
+/// In a run a device is destructed after its last close and put: it has neither a channel nor a handle
+/// then but base handles, and no open and no get over it is answered afterwards but by a refusal.
 pub fn destructed_after_last_close()
     ensures { DestructedAfterLastClose }
 {}

@@ -161,14 +161,14 @@ fn what_a_claim_does_and_a_close_frees(rt: HostRuntime) -> Result<(), Fail> {
 
 // What an answer about a channel says: got anew or again, the references left, or what a drop did.
 #[derive(Clone, Copy, Debug, PartialEq, Eq)]
-enum Said {
+pub(crate) enum Said {
     Got(bool),
     Left(u128),
     Dropped(Dropped),
     Other,
 }
 
-fn words_of(answer: &Answer) -> Said {
+pub(crate) fn words_of(answer: &Answer) -> Said {
     match answer {
         Answer::Got { fresh, .. } => Said::Got(*fresh),
         Answer::PutDown { left } => Said::Left(*left),

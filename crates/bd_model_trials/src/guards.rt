@@ -76,7 +76,8 @@ impl Sees for Holder {
         own_handle(self.registry.handles.as_slice(), 0, id)
     }
 
-    fn handles(&self) -> &[Handle] {
+    #[tactic(auto, using(bd_machine::proofs::Laws::filter_twice))]
+    fn handles_of(&self, _dev: DevId) -> &[Handle] {
         self.registry.handles.as_slice()
     }
 

@@ -9,6 +9,8 @@ mod blocks;
 #[cfg(test)]
 mod guards;
 #[cfg(test)]
+mod registry;
+#[cfg(test)]
 mod setups;
 #[cfg(test)]
 mod stack;

@@ -1,5 +1,5 @@
 //! Setups for these tests.
-use bd_base::{DevRow, Kind, Name, OutOfMemory, Rates, Rows, Setup};
+use bd_base::{DevId, DevRow, Kind, Name, OutOfMemory, Rates, Rows, Setup};
 use std::alloc::Global;
 
 fn row(alloc: Global) -> Result<DevRow, OutOfMemory> {
@@ -16,7 +16,7 @@ fn row(alloc: Global) -> Result<DevRow, OutOfMemory> {
     })
 }
 
-/// So many threads, and a memory device of four blocks with these limits, if it has any.
+/// This number of threads, and a memory device of four blocks with these limits, if it has any.
 pub(crate) fn one_device(
     alloc: Global,
     threads: u32,
@@ -36,4 +36,16 @@ pub(crate) fn one_device(
         waiting: Rows::new(alloc),
         scripts: Rows::new(alloc),
     })
+}
+
+/// Two threads, and a device that passes all on to a memory device of four blocks.
+pub(crate) fn stacked(alloc: Global) -> Result<Setup, OutOfMemory> {
+    let mut setup = one_device(alloc, 2, None)?;
+    let mut upper = row(alloc)?;
+    upper.name = Name::from_slice(alloc, b"P")?;
+    upper.kind = Kind::Passthru;
+    upper.base = Some(DevId(0));
+    upper.group = 1;
+    setup.devices.push(upper)?;
+    Ok(setup)
 }

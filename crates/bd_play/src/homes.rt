@@ -6,7 +6,7 @@ ghost use Rattle.bd_machine.specs.Table.{change_first};
 ghost use Rattle.bd_play.specs.Words.{changed, made_by, refused, seen};
 
 use crate::side::Side;
-use bd_answers::is_free;
+use bd_answers::{is_free, is_out_of_use};
 use bd_base::{ApplyEnd, DevId, OutOfMemory, Rows};
 use bd_blocks::{base_place, copy_of_piece, serve, size_of};
 use bd_changes::destructed;
@@ -15,7 +15,7 @@ use bd_machine::guard::{CONTENT_DIGEST, END_ALLOWED, HEAD_OF_QUEUE, MAY_DESTRUCT
 use bd_machine::{Base, Id, Kept, Place, Progress, State, Tracked};
 use bd_rules::{Release, is_digest_due, may_apply, may_destruct, may_end, may_refuse, piece_here};
 use bd_state::put_in;
-use bd_view::{PieceId, is_unused};
+use bd_view::PieceId;
 use std::alloc::Global;
 use std::mem::replace;
 
@@ -130,7 +130,7 @@ pub fn refused_destruct(side: &Side, dev: DevId, digest: &Option<[u8; 32]>) -> O
     let registry = &side.state.registry;
     let came = Release {
         free: is_free(side.setup, registry, dev),
-        unused: is_unused(side.setup, registry, dev),
+        unused: is_out_of_use(side.setup, registry, dev),
         shut: side.state.shut,
     };
     if !may_destruct(side, side.setup, side.thread, came, dev) {

@@ -54,7 +54,8 @@ impl<'a> Sees for Side<'a> {
         own_handle(self.state.registry.handles.as_slice(), self.thread, id)
     }
 
-    fn handles(&self) -> &[Handle] {
+    #[tactic(auto, using(bd_machine::proofs::Laws::filter_twice))]
+    fn handles_of(&self, _dev: DevId) -> &[Handle] {
         self.state.registry.handles.as_slice()
     }
 

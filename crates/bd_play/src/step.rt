@@ -27,13 +27,24 @@ use std::alloc::Global;
 fn is_built_token(what: &Token) -> bool
     ensures { result ≡ is_built_token what.now }
 {
-    matches!(what, Token::Piece(_, _) | Token::Mark(_))
+    matches!(
+        what,
+        Token::Piece(_, _) | Token::Mark(_) | Token::Channel(_)
+    )
 }
 
 fn is_built_event(event: &RegEvent) -> bool
     ensures { result ≡ is_built_event event.now }
 {
-    matches!(event, RegEvent::Open { .. } | RegEvent::Close { .. })
+    matches!(
+        event,
+        RegEvent::Open { .. }
+            | RegEvent::Close { .. }
+            | RegEvent::Claim { .. }
+            | RegEvent::GetChannel { .. }
+            | RegEvent::PutChannel { .. }
+            | RegEvent::DropChannel { .. }
+    )
 }
 
 fn is_built_as_yet(act: &Act) -> bool

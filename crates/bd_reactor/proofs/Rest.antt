@@ -25,10 +25,12 @@ use Rattle.bd_turns.specs.Laws.{AreAtRest, AreBlocked, AreDestructed, AreDone, I
 use Rattle.bd_turns.specs.Tied.{IsTied}
 use Rattle.bd_turns.specs.declared.queue.Message.{Message}
 use Rattle.bd_turns.proofs.Rest.{rest_is_complete, shutdown_is_allowed}
+use Rattle.bd_links.specs.Queues.{queues_of}
+use Rattle.bd_links.specs.Tokens.{here_in}
 use Rattle.bd_thread.specs.declared.links.Links.{Links}
 use Rattle.bd_thread.specs.declared.thread.Thread.{Thread}
 use Rattle.bd_thread.specs.Resting.{are_empty, has_destructed_all, is_blocked, is_done_with, is_empty, rests, shut_down}
-use Rattle.bd_thread.specs.Seen.{here_in, local, number_of, queues_of, setup_of}
+use Rattle.bd_thread.specs.Seen.{local, number_of, setup_of}
 use Rattle.bd_reactor.specs.declared.node.NodeState.TheVariants.{Idle, Done, Busy}
 use Rattle.bd_reactor.specs.Whole.{IsWhole, shared_of, view_or, views_of}
 use Rattle.bd_reactor.proofs.Places.{all_at, all_below, has_at}
@@ -128,7 +130,7 @@ module _ (setup : Setup) (threads : List Thread) (links : Links) (w : IsWhole se
   at_rest rest empty = record {
     none_queued = empty_at links.queues.items empty;
     none_due = of_each rests (λ t v. v.part.due ≡ []) rest (λ t given h. (rests_of t h).due);
-    owed_idle = of_each rests (λ t v. is_nothing_owed links.registry v.part ≡ true) rest (λ t given h. ap (λ (os : List Owed). list_all (is_idle_owed links.registry) os) (rests_of t h).owed);
+    owed_idle = of_each rests (λ t v. is_nothing_owed links.registry.state v.part ≡ true) rest (λ t given h. ap (λ (os : List Owed). list_all (is_idle_owed links.registry.state) os) (rests_of t h).owed);
     closed = of_each rests (λ t v. list_any (is_left_open_in setup v) v.handles ≡ false) rest (λ t given h. none_left_open setup (local t links).view (rests_of t h).gone (local t links).view.handles);
     resting = of_each rests (λ t v. (id : Id) → is_resting_here setup t v id (v.here id) ≡ true) rest
         (λ t given h id. ap (is_resting_here setup (number_of t) (local t links).view id) (none_held t.held.items (rests_of t h).held id) ∙ rests_none (number_of t) (local t links).view id);
@@ -176,6 +178,7 @@ module _ (setup : Setup) (threads : List Thread) (links : Links) (w : IsWhole se
         some = w.some;
         threads_are = w.threads_are;
         queues_are = w.queues_are;
+        rows_are = w.rows_are;
         each = w.each;
         run = run_on setup (start setup []) links.entries (shutdown_at stamp ∷ []) w.run (shuts.allowed, tt);
         tied =

@@ -13,6 +13,7 @@ use Rattle.bd_turns.specs.declared.queue.Message.{Message}
 use Rattle.bd_turns.proofs.Start.{start_is_tied}
 use Rattle.bd_thread.specs.declared.links.Links.{Links}
 use Rattle.bd_thread.specs.declared.thread.Thread.{Thread}
+use Rattle.bd_registry.specs.State.{Registered}
 use Rattle.bd_thread.specs.Seen.{local}
 use Rattle.bd_thread.specs.Starts.{IsNewLinks, local_at_start}
 use Rattle.bd_thread.proofs.Starting.{new_is_at_start}
@@ -59,6 +60,7 @@ module _ (setup : Setup) (threads : List Thread) (links : Links) (some : 0 < set
     some = some;
     threads_are = len;
     queues_are = (let e : vec_len links.queues ≡ length links.queues.items = search rules in e) ∙ ap (λ (qs : List (List Message)). length qs) new.queues ∙ length-replicate setup.threads [];
+    rows_are = ap (λ (r : Registered). r.setup) new.registry;
     each = λ i t h. record { number = (a.each i t h).new.own; given = (a.each i t h).new.given; tickets = (a.each i t h).tickets };
     run = subst (λ (es : List Entry). IsRun setup [] es) (sym new.entries) tt;
     tied = subst (λ (es : List Entry). IsTied setup (state_after setup [] es) (views_of setup threads links) (shared_of links)) (sym new.entries) tied;

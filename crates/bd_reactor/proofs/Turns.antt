@@ -85,9 +85,9 @@ module _ (setup : Setup) (threads : List Thread) (before : Links) (w : IsWhole s
   other : (t : ℕ) (u : Thread) → slice_get threads t ≡ Some u → view is t ≡ (local u before).view → view is t ≡ (local u after).view
   other t u e v = view_eq (view is t) (local u after).view (ap (λ (x : View). x.part) v) (ap (λ (x : View). x.here) v)
       (ap (λ (r : Registry). filter (is_of t) r.handles) turn.tied.registry_is
-      ∙ ap (λ (n : ℕ). filter (is_of n) after.registry.handles) (sym (w.each t u e).number))
+      ∙ ap (λ (n : ℕ). filter (is_of n) after.registry.state.handles) (sym (w.each t u e).number))
       (ap (λ (r : Registry). references r t) turn.tied.registry_is
-      ∙ ap (λ (n : ℕ). references after.registry n) (sym (w.each t u e).number))
+      ∙ ap (λ (n : ℕ). references after.registry.state n) (sym (w.each t u e).number))
 
   views_now : (t : ℕ) → t < setup.threads → view is t ≡ views_of setup (set threads i b) after t
   views_now t lt = go (cases_eq i t)
@@ -123,6 +123,7 @@ module _ (setup : Setup) (threads : List Thread) (before : Links) (w : IsWhole s
     some = w.some;
     threads_are = length-set threads i b ∙ w.threads_are;
     queues_are = acted.queues ∙ w.queues_are;
+    rows_are = acted.rows ∙ w.rows_are;
     each = each_now;
     run = subst (λ (es : List Entry). IsRun setup [] es) (sym acted.added) (run_on setup (start setup []) before.entries acted.entries w.run turn.run);
     tied =

@@ -8,6 +8,8 @@ use Rattle.bd_machine.specs.View.{View}
 use Rattle.bd_turns.specs.Laws.{view_at_start}
 use Rattle.bd_turns.specs.Local.{Shared}
 use Rattle.bd_turns.specs.Tied.{IsTied}
+use Rattle.bd_registry.specs.State.{rows_of}
+use Rattle.bd_links.specs.Queues.{queues_of}
 use Rattle.bd_thread.specs.declared.links.Links.{Links}
 use Rattle.bd_thread.specs.declared.thread.Thread.{Thread}
 use Rattle.bd_thread.specs.declared.turn.Turned.{Turned}
@@ -15,7 +17,7 @@ use Rattle.bd_thread.specs.Moves.{AddsMore}
 use Rattle.bd_thread.specs.Requests.{KeepsTickets}
 use Rattle.bd_thread.specs.Resting.{are_empty, has_destructed_all, is_blocked, rests, shut_down}
 use Rattle.bd_thread.specs.Starts.{IsNew}
-use Rattle.bd_thread.specs.Seen.{local, number_of, queues_of, setup_of}
+use Rattle.bd_thread.specs.Seen.{local, number_of, setup_of}
 use Rattle.bd_reactor.specs.declared.node.Node.{Node}
 use Rattle.bd_reactor.specs.declared.node.NodeState.{NodeState}
 use Rattle.bd_reactor.specs.declared.node.NodeState.TheVariants.{Idle, Done, Busy}
@@ -35,7 +37,7 @@ abbrev pub shared_of : Links → Shared
 shared_of links = record {
   stamp = length links.entries;
   shut = links.shut;
-  registry = links.registry;
+  registry = links.registry.state;
   queues = queues_of links.queues.items;
 }
 
@@ -51,6 +53,7 @@ pub record IsWhole (setup : Setup) (threads : List Thread) (links : Links) : Typ
   pub some : 0 < setup.threads
   pub threads_are : length threads ≡ setup.threads
   pub queues_are : vec_len links.queues ≡ setup.threads
+  pub rows_are : links.registry.setup ≡ rows_of setup
   pub each : (i : ℕ) (t : Thread) → slice_get threads i ≡ Some t → IsThread setup i t
   -- the entries so far are a run of the machine
   pub run : IsRun setup [] links.entries

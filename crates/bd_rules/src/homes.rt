@@ -15,8 +15,8 @@ use bd_machine::{Base, OpenPiece, Owed};
 use bd_view::{AS_YET, PieceId, Sees, same_owed, same_request};
 
 /// What a destruct goes by that its thread doesn't see: `free`, the device is being removed, with
-/// neither handle nor channel; `unused`, no handle of it is open but base handles; `shut`, it is after
-/// the Shutdown.
+/// neither handle nor channel; `unused`, it has neither a channel nor a handle but base handles, and no
+/// thread is about to get one; `shut`, it is after the Shutdown.
 #[derive(Clone, Copy, Debug, PartialEq, Eq)]
 pub struct Release {
     pub free: bool,
@@ -153,7 +153,8 @@ pub fn is_told<S: Sees>(seen: &S, dev: DevId) -> bool
 }
 
 /// Whether the thread may destruct a device: it is the device's home, it wasn't destructed, and the
-/// thread was told to and the device is free; or, as yet, it is after the Shutdown and the device unused.
+/// thread was told to and the device is free; or, as yet, it is after the Shutdown and the device out
+/// of use.
 pub fn may_destruct<S: Sees>(
     seen: &S,
     setup: &Setup,

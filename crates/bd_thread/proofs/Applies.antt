@@ -26,7 +26,8 @@ use Rattle.bd_machine.specs.Same.{same_id, same_dev}
 use Rattle.bd_machine.specs.Table.{change_first}
 use Rattle.bd_turns.specs.Local.{Local, carried_local}
 use Rattle.bd_turns.specs.declared.queue.Message.{Message}
-use Rattle.bd_thread.specs.Seen.{entry_at, local_at, untaken}
+use Rattle.bd_links.specs.Entries.{entry_at}
+use Rattle.bd_thread.specs.Seen.{local_at, untaken}
 use Rattle.bd_thread.specs.Served.{may_hold}
 use Rattle.bd_thread.proofs.Going.{Steps, steps, still_shut}
 

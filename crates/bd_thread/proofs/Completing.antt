@@ -27,12 +27,14 @@ use Rattle.bd_machine.specs.Statuses.{is_delay_left, is_failed, is_success_due, 
 use Rattle.bd_machine.specs.View.{View}
 use Rattle.bd_turns.specs.declared.queue.Message.{Message}
 use Rattle.bd_turns.specs.Local.{Local}
+use Rattle.bd_links.specs.Queues.{queues_of}
+use Rattle.bd_links.specs.Tokens.{here_in, Sets}
 use Rattle.bd_thread.specs.declared.completion.Ending.{Ending}
 use Rattle.bd_thread.specs.declared.links.Links.{Links}
 use Rattle.bd_thread.specs.declared.thread.Thread.{Thread}
 use Rattle.bd_thread.specs.Acted.{Acted}
 use Rattle.bd_thread.specs.Completions.{completed, data_read, ended, ending_cut, ending_in, ending_of, ends_as, gone, is_ended, may_end, read_as, shown_by, shown_of, status_now, Completes, CompletesBy, IsCompleted}
-use Rattle.bd_thread.specs.Seen.{here_in, local_at, queues_of, view_of, Sets}
+use Rattle.bd_thread.specs.Seen.{local_at, view_of}
 use Rattle.bd_thread.proofs.Going.{Steps, steps, still_shut}
 use Rattle.bd_thread.proofs.Submissions.{acted_into}
 
@@ -237,7 +239,7 @@ pub completed_acted : (old : Thread) (before : Links) (new : Thread) (after : Li
 completed_acted old before new after req ending may done =
     acted_into old before new after (acts.Complete req ending.status ending.shown) (completed req old.part) (ended req ending.pieces (here_in old.held.items))
     (ap (λ (t : Thread). t.me) done.thread) (ap (λ (t : Thread). t.setup) done.thread) done.part done.held done.links
-    (complete_steps old.setup.now old.me old.part (here_in old.held.items) before.registry before.shut (length before.entries) (queues_of before.queues.items) req ending (ends_now old.setup.now old.me (view_of old before) req ending may))
+    (complete_steps old.setup.now old.me old.part (here_in old.held.items) before.registry.state before.shut (length before.entries) (queues_of before.queues.items) req ending (ends_now old.setup.now old.me (view_of old before) req ending may))
 
 -- where it doesn't complete, nothing changes
 pub stays_open : (old : Thread) (before : Links) (req : ReqId) → ending_of old.setup.now old.me (view_of old before) req ≡ None → Completes req old before old before false

@@ -18,11 +18,13 @@ use Rattle.bd_machine.specs.Requests.{cut_into, extents_of, has_extents, may_cut
 use Rattle.bd_machine.specs.Same.{same_id}
 use Rattle.bd_turns.specs.declared.queue.Message.{Message}
 use Rattle.bd_turns.specs.Local.{Local}
+use Rattle.bd_links.specs.Queues.{queues_of}
+use Rattle.bd_links.specs.Tokens.{here_in, Sets}
 use Rattle.bd_thread.specs.declared.links.Links.{Links}
 use Rattle.bd_thread.specs.declared.thread.Thread.{Thread}
 use Rattle.bd_thread.specs.Acted.{Acted}
 use Rattle.bd_thread.specs.Cuts.{may_cut_now, Cuts, CutsBy, IsCut}
-use Rattle.bd_thread.specs.Seen.{here_in, local_at, queues_of, untaken, view_of, Sets}
+use Rattle.bd_thread.specs.Seen.{local_at, untaken, view_of}
 use Rattle.bd_thread.proofs.Going.{Steps, steps, still_shut}
 use Rattle.bd_thread.proofs.Submissions.{acted_into}
 
@@ -71,7 +73,7 @@ pub cut_acted : (old : Thread) (before : Links) (new : Thread) (after : Links) (
 cut_acted old before new after req r n is may cut =
     acted_into old before new after (acts.Cut req n) (untaken old.part) (held_after (cut_into old.setup.now req n (Some r)) (here_in old.held.items))
     (ap (λ (t : Thread). t.me) cut.thread) (ap (λ (t : Thread). t.setup) cut.thread) (ap (λ (t : Thread). t.part) cut.thread) cut.held cut.links
-    (cut_steps old.setup.now old.me old.part (here_in old.held.items) before.registry before.shut (length before.entries) (queues_of before.queues.items) req r n is may cut.pieces)
+    (cut_steps old.setup.now old.me old.part (here_in old.held.items) before.registry.state before.shut (length before.entries) (queues_of before.queues.items) req r n is may cut.pieces)
 
 -- where it may not be cut, nothing changes
 pub uncut_stays : (old : Thread) (before : Links) (req : ReqId) → may_cut_now req old before ≡ false → Cuts req old before old before 0

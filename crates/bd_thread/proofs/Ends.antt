@@ -1,12 +1,9 @@
 -- The end of a line, by the local rules.
-use Rattle.std.proofs.Common.{◌≡◌, ℕ, ◌+◌, Bool, true, false, not, ◌&&◌, ◌==◌, List, [], ◌∷◌, cond, length, Option, Some, None, refl, sym, ◌∙◌, ap, ap₂, subst, eq-eqb}
+use Rattle.std.proofs.Common.{◌≡◌, ℕ, ◌+◌, Bool, true, false, not, ◌&&◌, ◌==◌, List, cond, Option, Some, None, refl, sym, ◌∙◌, ap, ap₂, subst, eq-eqb}
 use Rattle.std.specs.Option.{option_map, option_and_then}
 use Rattle.std.proofs.lemmas.Bool.{and_from}
-use Rattle.std.proofs.lemmas.List.{length-append}
 use Rattle.bd_base.specs.Errno.{number_of}
-use Rattle.bd_base.specs.declared.act.Act.{Act}
 use Rattle.bd_base.specs.declared.act.Act.TheVariants as acts
-use Rattle.bd_base.specs.declared.act.Entry.{Entry}
 use Rattle.bd_base.specs.declared.act.Outcome.{Outcome}
 use Rattle.bd_base.specs.declared.act.Outcome.TheVariants as outcomes
 use Rattle.bd_base.specs.declared.job.Job.{Job}
@@ -25,7 +22,7 @@ use Rattle.bd_turns.specs.Local.{Local}
 use Rattle.bd_thread.specs.declared.links.Links.{Links}
 use Rattle.bd_thread.specs.declared.thread.Thread.{Thread}
 use Rattle.bd_thread.specs.Lines.{EndsBy, EndsLine, IsEnded}
-use Rattle.bd_thread.specs.Seen.{local_at, entry_at, longer, untaken, view_of}
+use Rattle.bd_thread.specs.Seen.{local_at, untaken, view_of}
 use Rattle.bd_thread.proofs.Going.{Steps, steps, still_shut}
 
 outcome_self : (o : Outcome) → same_outcome o o ≡ true
@@ -66,6 +63,3 @@ ended_by t before new after line outcome unshut next due ended =
     subst (EndsBy t before new after true)
     (sym (ap (λ b. cond b None (outcome_due t.setup.now t.me (view_of t before))) unshut ∙ ap (option_and_then (λ (l : Line). outcome_by (view_of t before) t.part.decided l.job)) next ∙ due))
     (refl, ended)
-
-pub length-longer : (n : ℕ) (es : List Entry) (act : Act) → length (longer n es act) ≡ length es + 1
-length-longer n es act = length-append es (entry_at n (length es + 1) act ∷ [])

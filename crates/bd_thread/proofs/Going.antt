@@ -2,7 +2,6 @@
 use Rattle.std.proofs.Common.{◌≡◌, ℕ, ◌+◌, Bool, true, false, not, cond, ◌||◌, nat_lt, List, [], ◌∷◌, ◌++◌, length, vec_len, Option, Some, None, refl, sym, ◌∙◌, ap, subst, append_assoc, append-nil, eq-eqb, lt-ltb, arith}
 use Rattle.std.specs.List.{AllByRecursion, filter}
 use Rattle.std.proofs.lemmas.List.Elements.{filter-append}
-use Rattle.std.proofs.lemmas.List.{length-append}
 use mathlib.Core.Path.{fun_ext}
 use Rattle.bd_base.specs.declared.act.Act.{Act}
 use Rattle.bd_base.specs.declared.act.Entry.{Entry}
@@ -10,23 +9,30 @@ use Rattle.bd_base.specs.declared.event.Answer.{Answer}
 use Rattle.bd_base.specs.declared.event.Answer.TheVariants as answers
 use Rattle.bd_base.specs.declared.event.RegEvent.{RegEvent}
 use Rattle.bd_base.specs.declared.event.RegEvent.TheVariants as events
+use Rattle.bd_base.specs.declared.event.ClaimKind.{ClaimKind}
+use Rattle.bd_base.specs.declared.id.DevId.{DevId}
+use Rattle.bd_base.specs.declared.id.HandleId.{HandleId}
 use Rattle.bd_base.specs.declared.setup.Setup.{Setup}
 use Rattle.bd_machine.specs.declared.guard.TheConstants.{UNBUILT, IN_ORDER}
 use Rattle.bd_machine.specs.declared.state.Handle.{Handle}
 use Rattle.bd_machine.specs.declared.state.Registry.{Registry}
 use Rattle.bd_machine.specs.Alone.{own_channels_after}
-use Rattle.bd_machine.specs.Changes.{handles_after, registry_after}
-use Rattle.bd_machine.specs.Guards.{guards, is_built, is_built_event}
-use Rattle.bd_machine.specs.Registry.{Question, is_own, references}
+use Rattle.bd_machine.specs.Changes.{handles_after, registry_after, with_claim}
+use Rattle.bd_machine.specs.Guards.{guards, is_built}
+use Rattle.bd_machine.specs.Registry.{Question, is_on, is_own, references}
 use Rattle.bd_machine.specs.Step.{first_failing, is_shutdown}
 use Rattle.bd_machine.specs.View.{is_of}
-use Rattle.bd_machine.proofs.Laws.{channels-own}
+use Rattle.bd_machine.proofs.Laws.{channels-own, filter_map_commutes, filter_twice}
 use Rattle.bd_turns.specs.Local.{Local, Leads, came_local, change_local, refusal_local, carried_local, local_after}
 use Rattle.bd_turns.proofs.Going.{leads_on}
+use Rattle.bd_links.specs.Entries.{entry_at, longer}
+use Rattle.bd_links.specs.Queues.{queues_of}
+use Rattle.bd_links.specs.Tokens.{here_in}
+use Rattle.bd_links.proofs.Longer.{length-longer}
 use Rattle.bd_thread.specs.declared.links.Links.{Links}
 use Rattle.bd_thread.specs.declared.thread.Thread.{Thread}
 use Rattle.bd_thread.specs.Acted.{Acted}
-use Rattle.bd_thread.specs.Seen.{here_in, queues_of, local_at, local, entry_at, longer}
+use Rattle.bd_thread.specs.Seen.{local_at, local}
 
 -- ---- what a thread sees and what is shared, by its parts
 
@@ -45,31 +51,30 @@ still_shut false = refl
 
 -- ---- a thread's handles and channels after an event of its own
 
-filter_step : {X : Type 0} (is : X → Bool) (x : X) (b : Bool) (xs : List X) → is x ≡ b → filter is (x ∷ xs) ≡ cond b (x ∷ filter is xs) (filter is xs)
-filter_step is x b xs e = ap (λ c. cond c (x ∷ filter is xs) (filter is xs)) e
-
-filter_twice : {X : Type 0} (p q : X → Bool) (xs : List X) → filter p (filter q xs) ≡ filter q (filter p xs)
-filter_twice p q [] = refl
-filter_twice p q (x ∷ xs) = go (p x) (q x) refl refl (filter_twice p q xs)
-  where
-    go : (a b : Bool) → p x ≡ a → q x ≡ b → filter p (filter q xs) ≡ filter q (filter p xs) → filter p (cond b (x ∷ filter q xs) (filter q xs)) ≡ filter q (cond a (x ∷ filter p xs) (filter p xs))
-    go true true e f ih = filter_step p x true (filter q xs) e ∙ ap (λ zs. x ∷ zs) ih ∙ sym (filter_step q x true (filter p xs) f)
-    go true false e f ih = ih ∙ sym (filter_step q x false (filter p xs) f)
-    go false true e f ih = filter_step p x false (filter q xs) e ∙ ih
-    go false false e f ih = ih
-
 -- what isn't built doesn't come
 pub not_built : {X : Type 0} → false ≡ true → X
 not_built h = cc
 
--- the registry's handles that are the thread's, after an event that is built, are the thread's handles after it
-pub handles_own : (t : ℕ) (hs : List Handle) (event : RegEvent) (answer : Answer) → is_built_event event ≡ true → filter (is_of t) (handles_after t hs event answer) ≡ handles_after t (filter (is_of t) hs) event answer
-handles_own t hs (events.Open name write) (answers.Opened id dev) built =
+-- a claim leaves each handle with its thread
+claim_keeps : (t : ℕ) (id : HandleId) (kind : ClaimKind) (h : Handle) → is_of t (cond (is_own t id h) (with_claim kind h) h) ≡ is_of t h
+claim_keeps t id kind h = go (is_own t id h)
+  where
+    go : (b : Bool) → is_of t (cond b (with_claim kind h) h) ≡ is_of t h
+    go true = refl
+    go false = refl
+
+-- the registry's handles that are the thread's, after an event, are the thread's handles after it
+pub handles_own : (t : ℕ) (hs : List Handle) (event : RegEvent) (answer : Answer) → filter (is_of t) (handles_after t hs event answer) ≡ handles_after t (filter (is_of t) hs) event answer
+handles_own t hs (events.Open name write) (answers.Opened id dev) =
     let h : Handle = record { id = id; dev = dev; thread = record { 0 = t }; write = write; claim = None } in
     filter-append (is_of t) hs (h ∷ []) ∙ ap (λ b. filter (is_of t) hs ++ cond b (h ∷ []) []) (eq-eqb t t refl)
-handles_own t hs (events.Close id) (answers.Closed destruct) built = filter_twice (is_of t) (λ h. not (is_own t id h)) hs
-handles_own t hs (events.Claim id kind) answers.Claimed built = not_built built
-handles_own t hs _ _ built = refl
+handles_own t hs (events.Close id) (answers.Closed destruct) = filter_twice (is_of t) (λ h. not (is_own t id h)) hs
+handles_own t hs (events.Claim id kind) answers.Claimed = filter_map_commutes (is_of t) (λ h. cond (is_own t id h) (with_claim kind h) h) (claim_keeps t id kind) hs
+handles_own t hs _ _ = refl
+
+-- the thread's handles on a device
+pub on_own : (t : ℕ) (dev : DevId) (hs : List Handle) → filter (is_of t) (filter (is_on dev) hs) ≡ filter (is_on dev) (filter (is_of t) hs)
+on_own t dev hs = filter_twice (is_of t) (is_on dev) hs
 
 -- the registry's channels that are the thread's, after the event, are the thread's channels after it
 pub channels_own : (setup : Setup) (t : ℕ) (r : Registry) (q : Option Question) → references (registry_after setup r t q) t ≡ own_channels_after setup (references r t) q
@@ -113,20 +118,22 @@ pub acted_still : (old : Thread) (before : Links) (new : Thread) (after : Links)
     → new.me ≡ old.me
     → new.setup ≡ old.setup
     → vec_len after.queues ≡ vec_len before.queues
+    → after.registry.setup ≡ before.registry.setup
     → after.entries ≡ before.entries
     → local old before ≡ local new after
     → Acted old before new after
-acted_still old before new after me setup queues added same = record {
+acted_still old before new after me setup queues rows added same = record {
   me = me;
   setup = setup;
   queues = queues;
+  rows = rows;
   entries = [];
   added = added ∙ sym (append-nil before.entries);
   leads = same;
 }
 
 pub acted_none : (t : Thread) (links : Links) → Acted t links t links
-acted_none t links = acted_still t links t links refl refl refl refl refl
+acted_none t links = acted_still t links t links refl refl refl refl refl refl
 
 pub acted_then : (o : Thread) (a : Links) (m : Thread) (b : Links) (n : Thread) (c : Links) → Acted o a m b → Acted m b n c → Acted o a n c
 acted_then o a m b n c g h =
@@ -135,6 +142,7 @@ acted_then o a m b n c g h =
       me = h.me ∙ g.me;
       setup = h.setup ∙ g.setup;
       queues = h.queues ∙ g.queues;
+      rows = h.rows ∙ g.rows;
       entries = g.entries ++ h.entries;
       added = h.added ∙ ap (λ (es : List Entry). es ++ h.entries) g.added ∙ append_assoc a.entries g.entries h.entries;
       leads = leads_on o.setup.now o.me (local o a) (local m b) (local n c) g.entries h.entries g.leads
@@ -146,15 +154,17 @@ pub acted_one : (old : Thread) (before : Links) (new : Thread) (after : Links) (
     → new.me ≡ old.me
     → new.setup ≡ old.setup
     → vec_len after.queues ≡ vec_len before.queues
+    → after.registry.setup ≡ before.registry.setup
     → after.entries ≡ longer old.me before.entries act
     → is_shutdown act ≡ false
     → refusal_local old.setup.now old.me (local old before) (entry_at old.me (length before.entries + 1) act) ≡ None
     → local_after old.setup.now old.me (local old before) (entry_at old.me (length before.entries + 1) act) ≡ local new after
     → Acted old before new after
-acted_one old before new after act me setup queues added still allowed leads = record {
+acted_one old before new after act me setup queues rows added still allowed leads = record {
   me = me;
   setup = setup;
   queues = queues;
+  rows = rows;
   entries = entry_at old.me (length before.entries + 1) act ∷ [];
   added = added;
   leads = (refl, still, allowed, leads);
@@ -164,26 +174,25 @@ pub acted_step : (old : Thread) (before : Links) (new : Thread) (after : Links) 
     → new.me ≡ old.me
     → new.setup ≡ old.setup
     → vec_len after.queues ≡ vec_len before.queues
+    → after.registry.setup ≡ before.registry.setup
     → after.entries ≡ longer old.me before.entries act
     → Steps old.setup.now old.me (local old before) act (local new after)
     → Acted old before new after
-acted_step old before new after act me setup queues added h = acted_one old before new after act me setup queues added h.still h.allowed h.leads
-
-length-longer : (t : ℕ) (es : List Entry) (act : Act) → length (longer t es act) ≡ length es + 1
-length-longer t es act = length-append es (entry_at t (length es + 1) act ∷ [])
+acted_step old before new after act me setup queues rows added h = acted_one old before new after act me setup queues rows added h.still h.allowed h.leads
 
 -- by what the act leaves, part by part
 pub acted_by : (old : Thread) (before : Links) (new : Thread) (after : Links) (act : Act)
     → new.me ≡ old.me
     → new.setup ≡ old.setup
     → vec_len after.queues ≡ vec_len before.queues
+    → after.registry.setup ≡ before.registry.setup
     → after.entries ≡ longer old.me before.entries act
-    → Steps old.setup.now old.me (local old before) act (local_at old.me new.part (here_in new.held.items) after.registry after.shut (length before.entries + 1) (queues_of after.queues.items))
+    → Steps old.setup.now old.me (local old before) act (local_at old.me new.part (here_in new.held.items) after.registry.state after.shut (length before.entries + 1) (queues_of after.queues.items))
     → Acted old before new after
-acted_by old before new after act me setup queues added h =
-    let at : ℕ → ℕ → Local = λ t n. local_at t new.part (here_in new.held.items) after.registry after.shut n (queues_of after.queues.items) in
+acted_by old before new after act me setup queues rows added h =
+    let at : ℕ → ℕ → Local = λ t n. local_at t new.part (here_in new.held.items) after.registry.state after.shut n (queues_of after.queues.items) in
     let stamp : length before.entries + 1 ≡ length after.entries = sym (length-longer old.me before.entries act) ∙ sym (ap length added) in
-    acted_one old before new after act me setup queues added h.still h.allowed (h.leads ∙ ap (at old.me) stamp ∙ ap (λ t. at t (length after.entries)) (sym me))
+    acted_one old before new after act me setup queues rows added h.still h.allowed (h.leads ∙ ap (at old.me) stamp ∙ ap (λ t. at t (length after.entries)) (sym me))
 
 -- what is said of the thread and the links as an act leaves them
 pub carried : (P : Thread → Links → Type 0) (new : Thread) (after : Links) (n : Thread) (l : Links) → n ≡ new → l ≡ after → P new after → P n l

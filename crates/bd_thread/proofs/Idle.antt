@@ -8,13 +8,16 @@ use Rattle.bd_base.specs.declared.act.Token.{Token}
 use Rattle.bd_base.specs.declared.event.RegEvent.{RegEvent}
 use Rattle.bd_base.specs.declared.event.RegEvent.TheVariants as events
 use Rattle.bd_base.specs.declared.id.DevId.{DevId}
-use Rattle.bd_base.specs.declared.id.HandleId.{HandleId}
 use Rattle.bd_base.specs.declared.id.ReqId.{ReqId}
+use Rattle.bd_machine.specs.declared.state.Between.{Between}
+use Rattle.bd_machine.specs.declared.state.Handle.{Handle}
 use Rattle.bd_machine.specs.declared.state.Id.{Id}
 use Rattle.bd_machine.specs.BlockMap.{is_malloc}
 use Rattle.bd_machine.specs.Homes.{is_base}
 use Rattle.bd_machine.specs.Messages.{count_at}
 use Rattle.bd_turns.specs.declared.queue.Message.{Message}
+use Rattle.bd_links.specs.Entries.{longer}
+use Rattle.bd_links.specs.Queues.{queues_of}
 use Rattle.bd_thread.specs.declared.completion.Ending.{Ending}
 use Rattle.bd_thread.specs.declared.links.Links.{Links}
 use Rattle.bd_thread.specs.declared.thread.Thread.{Thread}
@@ -22,12 +25,13 @@ use Rattle.bd_thread.specs.Acted.{Acted}
 use Rattle.bd_thread.specs.Completions.{ending_of, Completes, CompletesBy}
 use Rattle.bd_blocks.specs.Digests.{digest_due}
 use Rattle.bd_thread.specs.Destructs.{may_device_go, DestructAdded, Destructs}
-use Rattle.bd_thread.specs.Endings.{left_over, ClosesIfAny, ClosesLeft}
-use Rattle.bd_thread.specs.Lines.{close_asked, open_asked, outcome_now, AsksBy, Closes, EndsBy, EndsLine, Opens}
-use Rattle.bd_thread.specs.Seen.{longer, queues_of, view_of}
+use Rattle.bd_thread.specs.Drops.{drop_asked, Drops, NoDrop}
+use Rattle.bd_thread.specs.Endings.{left_on, ClosesLeft}
+use Rattle.bd_thread.specs.Lines.{claim_asked, close_asked, close_due, get_due, open_asked, outcome_now, AsksBy, Claims, Closes, ClosesBy, EndsBy, EndsLine, Follows, IsFollowed, Opens, OpensBy}
+use Rattle.bd_thread.specs.Seen.{view_of}
 use Rattle.bd_thread.specs.Sent.{first_brought, may_put, Puts, PutsBy, Takes, TakesBy}
-use Rattle.bd_thread.specs.Waits.{Idles, IsIdle, NoDestructOn, NoHandle, NoLine, NoMessage, NoSubmission}
-use Rattle.bd_thread.proofs.Ends.{length-longer}
+use Rattle.bd_thread.specs.Waits.{Idles, IsIdle, NoDestructOn, NoHandleOn, NoLine, NoMessage, NoSubmission}
+use Rattle.bd_links.proofs.Longer.{length-longer}
 use Rattle.bd_thread.proofs.Going.{acted_then}
 
 -- ---- entries are only added
@@ -89,11 +93,44 @@ asks_idle : {P : Thread → Links → Type 0} (old : Thread) (before : Links) (n
 asks_idle old before new after asked None so h few = record { thread = h.1; links = h.2; waits = so refl }
 asks_idle old before new after asked (Some event) so h few = absurd (more old.me before after (acts.Reg event h.1.answer) (ap (λ (l : Links). l.entries) h.1.links) few)
 
-pub opens_idle : (old : Thread) (before : Links) (new : Thread) (after : Links) (asked : Bool) → Opens old before new after asked → Idles (λ t links. open_asked t links ≡ None) old before new after
-opens_idle old before new after asked h = asks_idle old before new after asked (open_asked old before) (λ e. e) h
+-- an event was answered, and then what had to follow
+follows_more : (event : RegEvent) (due : ℕ → Option Between → Option RegEvent) (old : Thread) (before : Links) (new : Thread) (after : Links)
+    → IsFollowed event due old before new after
+    → length after.entries ≤ length before.entries
+    → ⊥
+follows_more event due old before new after h few = go (due h.middle.me h.shared.registry.state.between) h.followed
+  where
+    first : h.shared.entries ≡ longer old.me before.entries (acts.Reg event h.answered.answer)
+    first = ap (λ (l : Links). l.entries) h.answered.links
 
-pub closes_idle : (old : Thread) (before : Links) (new : Thread) (after : Links) (asked : Bool) → Closes old before new after asked → Idles (λ t links. close_asked t links ≡ None) old before new after
-closes_idle old before new after asked h = asks_idle old before new after asked (close_asked old before) (λ e. e) h
+    go : (o : Option RegEvent) → Follows h.middle h.shared new after o → ⊥
+    go None k = more old.me before after (acts.Reg event h.answered.answer) (ap (λ (l : Links). l.entries) k.1 ∙ first) few
+    go (Some next) k =
+        let act : Act = acts.Reg event h.answered.answer in
+        let then : Act = acts.Reg next k.answer in
+        let one = ap length first ∙ length-longer old.me before.entries act in
+        let two = ap (λ (l : Links). length l.entries) k.links ∙ length-longer h.middle.me h.shared.entries then in
+        omega (arith, one, two)
+
+pub opens_idle : (old : Thread) (before : Links) (new : Thread) (after : Links) (opened : Bool) → Opens old before new after opened → Idles (λ t links. open_asked t links ≡ None) old before new after
+opens_idle old before new after opened h few = go (open_asked old before) refl h
+  where
+    go : (o : Option RegEvent) → open_asked old before ≡ o → OpensBy old before new after opened o → IsIdle (λ t links. open_asked t links ≡ None) old before new after
+    go None e k = record { thread = k.1; links = k.2; waits = e }
+    go (Some event) e k = absurd (follows_more event get_due old before new after k.1 few)
+
+closes_by_idle : {P : Thread → Links → Type 0} (old : Thread) (before : Links) (new : Thread) (after : Links) (closed : Bool) (o : Option Handle) → (o ≡ None → P old before) → ClosesBy old before new after closed o → Idles P old before new after
+closes_by_idle old before new after closed None so h few = record { thread = h.1; links = h.2; waits = so refl }
+closes_by_idle old before new after closed (Some x) so h few = absurd (follows_more (events.PutChannel x.dev true) (close_due x.id) old before new after h.1 few)
+
+pub closes_idle : (old : Thread) (before : Links) (new : Thread) (after : Links) (closed : Bool) → Closes old before new after closed → Idles (λ t links. close_asked t links ≡ None) old before new after
+closes_idle old before new after closed h = closes_by_idle old before new after closed (close_asked old before) (λ e. e) h
+
+pub claims_idle : (old : Thread) (before : Links) (new : Thread) (after : Links) (claimed : Bool) → Claims old before new after claimed → Idles (λ t links. claim_asked t links ≡ None) old before new after
+claims_idle old before new after claimed h = asks_idle old before new after claimed (claim_asked old before) (λ e. e) h
+
+pub drops_idle : (old : Thread) (before : Links) (new : Thread) (after : Links) (asked : Bool) → Drops old before new after asked → Idles NoDrop old before new after
+drops_idle old before new after asked h = asks_idle old before new after asked (drop_asked old before) (λ e. e) h
 
 ends_by_idle : {P : Thread → Links → Type 0} (old : Thread) (before : Links) (new : Thread) (after : Links) (ended : Bool) (o : Option Outcome) → (o ≡ None → P old before) → EndsBy old before new after ended o → Idles P old before new after
 ends_by_idle old before new after ended None so h few = record { thread = h.1; links = h.2; waits = so refl }
@@ -103,31 +140,32 @@ pub ends_idle : (old : Thread) (before : Links) (new : Thread) (after : Links) (
 ends_idle old before new after ended h = ends_by_idle old before new after ended (outcome_now old before) (λ e. e) h
 
 -- nothing can be done for the line
-pub line_idle : (o : Thread) (a : Links) (p : Thread) (b : Links) (q : Thread) (d : Links) (r : Thread) (e : Links) (n : Thread) (f : Links)
+pub line_idle : (o : Thread) (a : Links) (p : Thread) (b : Links) (q : Thread) (d : Links) (r : Thread) (e : Links) (s : Thread) (f : Links) (n : Thread) (g : Links)
     → Acted o a p b
     → Acted p b q d
     → Acted q d r e
-    → Acted r e n f
+    → Acted r e s f
+    → Acted s f n g
     → Idles (λ t links. open_asked t links ≡ None) o a p b
     → Idles (λ t links. close_asked t links ≡ None) p b q d
-    → Idles NoSubmission q d r e
-    → Idles (λ t links. outcome_now t links ≡ None) r e n f
-    → Idles NoLine o a n f
-line_idle o a p b q d r e n f open-acted close-acted submit-acted end-acted opens closes submits ends =
+    → Idles (λ t links. claim_asked t links ≡ None) q d r e
+    → Idles NoSubmission r e s f
+    → Idles (λ t links. outcome_now t links ≡ None) s f n g
+    → Idles NoLine o a n g
+line_idle o a p b q d r e s f n g open-acted close-acted claim-acted submit-acted end-acted opens closes claims submits ends =
     let two : Idles (λ t links. (open_asked t links ≡ None) × (close_asked t links ≡ None)) o a q d =
     idle_then o a p b q d open-acted close-acted (λ opening closing. (opening, closing)) opens closes in
     let two-acted = acted_then o a p b q d open-acted close-acted in
-    let three : Idles (λ t links. (open_asked t links ≡ None) × (close_asked t links ≡ None) × NoSubmission t links) o a r e =
-    idle_then o a q d r e two-acted submit-acted (λ asked submission. (asked.0, asked.1, submission)) two submits in
-    idle_then o a r e n f (acted_then o a q d r e two-acted submit-acted) end-acted
-    (λ asked outcome. record { opening = asked.0; closing = asked.1; submission = asked.2; outcome = outcome }) three ends
+    let three : Idles (λ t links. (open_asked t links ≡ None) × (close_asked t links ≡ None) × (claim_asked t links ≡ None)) o a r e =
+    idle_then o a q d r e two-acted claim-acted (λ asked claiming. (asked.0, asked.1, claiming)) two claims in
+    let three-acted = acted_then o a q d r e two-acted claim-acted in
+    let four : Idles (λ t links. (open_asked t links ≡ None) × (close_asked t links ≡ None) × (claim_asked t links ≡ None) × NoSubmission t links) o a s f =
+    idle_then o a r e s f three-acted submit-acted (λ asked submission. (asked.0, asked.1, asked.2, submission)) three submits in
+    idle_then o a s f n g (acted_then o a r e s f three-acted submit-acted) end-acted
+    (λ asked outcome. record { opening = asked.0; closing = asked.1; claiming = asked.2; submission = asked.3; outcome = outcome }) four ends
 
-pub leaves_idle : (old : Thread) (before : Links) (new : Thread) (after : Links) (done : Bool) → ClosesLeft old before new after done → Idles NoHandle old before new after
-leaves_idle old before new after done h few = go (left_over old before) refl h
-  where
-    go : (o : Option HandleId) → left_over old before ≡ o → ClosesIfAny old before new after done o → IsIdle NoHandle old before new after
-    go None e k = record { thread = k.1; links = k.2; waits = e }
-    go (Some id) e k = absurd (more old.me before after (acts.Reg (events.Close id) k.1.answer) (ap (λ (l : Links). l.entries) k.1.links) few)
+pub leaves_idle : (old : Thread) (before : Links) (new : Thread) (after : Links) (dev : DevId) (closed : Bool) → ClosesLeft old before new after dev closed → Idles (NoHandleOn dev) old before new after
+leaves_idle old before new after dev closed h = closes_by_idle old before new after closed (left_on dev old before) (λ e. e) h
 
 pub destructs_idle : (old : Thread) (before : Links) (new : Thread) (after : Links) (dev : DevId) (done : Bool) → Destructs old before new after dev done → Idles (NoDestructOn dev) old before new after
 destructs_idle old before new after dev done h few =

@@ -1,46 +1,55 @@
 -- A handle that is left after Shutdown may be closed; and where a thread has nothing to end.
-use Rattle.std.proofs.Common.{◌≡◌, Bool, true, false, cond, not, ◌&&◌, ◌||◌, ◌==◌, List, [], ◌∷◌, length, find, Option, Some, None, is_some, refl, sym, ◌∙◌, ap, subst, eqb-true, arith}
-use Rattle.std.specs.List.{list_any}
+use Rattle.std.proofs.Common.{◌≡◌, Bool, true, false, cond, not, ◌&&◌, ◌||◌, ◌==◌, List, [], ◌∷◌, length, find, Some, None, is_some, refl, sym, ◌∙◌, ap, eqb-true, arith}
+use Rattle.std.specs.List.{filter, list_any}
 use Rattle.std.proofs.lemmas.Bool.{and_parts}
-use Rattle.bd_base.specs.declared.event.RegEvent.TheVariants as events
-use Rattle.bd_base.specs.declared.id.HandleId.{HandleId}
+use Rattle.bd_base.specs.declared.id.DevId.{DevId}
 use Rattle.bd_blocks.specs.Digests.{digest_due}
+use Rattle.bd_machine.specs.declared.state.Handle.{Handle}
 use Rattle.bd_machine.specs.declared.state.Owed.{Owed}
 use Rattle.bd_machine.specs.declared.state.Owed.TheVariants as owes
 use Rattle.bd_machine.specs.AsYet.{as_yet}
 use Rattle.bd_machine.specs.BlockMap.{is_malloc}
 use Rattle.bd_machine.specs.Homes.{has_destructed, is_base, is_called_for, is_home, is_told}
-use Rattle.bd_machine.specs.Registry.{handle_of, is_unused}
+use Rattle.bd_machine.specs.Registry.{is_on, is_out_of_use}
 use Rattle.bd_machine.specs.Same.{same_owed}
 use Rattle.bd_machine.specs.View.{View}
 use Rattle.bd_view.specs.Came.{came_free}
 use Rattle.bd_thread.specs.declared.links.Links.{Links}
 use Rattle.bd_thread.specs.declared.thread.Thread.{Thread}
-use Rattle.bd_thread.specs.Endings.{first_own, if_closable, is_of_if_any, left_over, may_close, owes_nothing}
-use Rattle.bd_thread.specs.Lines.{may_ask}
+use Rattle.bd_thread.specs.Endings.{left_on, owes_nothing}
+use Rattle.bd_thread.specs.Lines.{may_close}
 use Rattle.bd_thread.specs.Seen.{view_of}
 use Rattle.bd_thread.specs.Waits.{NothingLeft}
+
+-- ---- a handle that is left
 
 some_same : {X : Type 0} {x y : X} → Some x ≡ Some y → x ≡ y
 some_same e = cc
 
-module _ (t : Thread) (links : Links) (id : HandleId) where
-  closable : (o : Option HandleId) → if_closable t links o ≡ Some id → may_close t links id ≡ true
-  closable None h = cc
-  closable (Some x) h = go (may_close t links x) refl h
-    where
-      go : (b : Bool) → may_close t links x ≡ b → cond b (Some x) None ≡ Some id → may_close t links id ≡ true
-      go true m e = subst (λ (y : HandleId). may_close t links y ≡ true) (some_same e) m
-      go false m e = cc
+-- what was found is such a one
+pub found_is : {X : Type 0} (is : X → Bool) (xs : List X) (x : X) → find is xs ≡ Some x → is x ≡ true
+found_is is [] x h = cc
+found_is is (y ∷ ys) x h = go (is y) refl h (found_is is ys x)
+  where
+    go : (b : Bool) → is y ≡ b → cond b (Some y) (find is ys) ≡ Some x → (find is ys ≡ Some x → is x ≡ true) → is x ≡ true
+    go true m e rest = ap is (sym (some_same e)) ∙ m
+    go false m e rest = rest e
 
-  left : (shut : Bool) (o : Option HandleId) → cond shut (if_closable t links o) None ≡ Some id → may_close t links id ≡ true
-  left true o h = closable o h
-  left false o h = cc
+-- what is left on a device may be closed
+pub left_may : (dev : DevId) (t : Thread) (links : Links) (h : Handle) → left_on dev t links ≡ Some h → may_close t links h ≡ true
+left_may dev t links h left = go links.shut left
+  where
+    go : (shut : Bool) → cond shut (find (may_close t links) (filter (is_on dev) (view_of t links).handles)) None ≡ Some h → may_close t links h ≡ true
+    go true e = found_is (may_close t links) (filter (is_on dev) (view_of t links).handles) h e
+    go false e = cc
 
-  -- its close may be asked
-  pub left_asked : left_over t links ≡ Some id → may_ask t links (events.Close id) ≡ true
-  left_asked h =
-      (and_parts (is_of_if_any t.me (handle_of links.registry.handles id)) (may_ask t links (events.Close id)) (left links.shut (first_own t.setup.now t.me links.registry.handles) h)).1
+-- after the Shutdown it is the first that may be closed
+pub left_shut : (dev : DevId) (t : Thread) (links : Links) → links.shut ≡ true → find (may_close t links) (filter (is_on dev) (view_of t links).handles) ≡ left_on dev t links
+left_shut dev t links shut = sym (ap (λ b. cond b (find (may_close t links) (filter (is_on dev) (view_of t links).handles)) None) shut)
+
+-- before the Shutdown none is
+pub none_left : (dev : DevId) (t : Thread) (links : Links) → links.shut ≡ false → left_on dev t links ≡ None
+none_left dev t links unshut = ap (λ b. cond b (find (may_close t links) (filter (is_on dev) (view_of t links).handles)) None) unshut
 
 -- ---- where nothing is owed
 
@@ -69,10 +78,10 @@ nothing_left t links h =
     let shut : links.shut ≡ false = no_shutdown links.shut parts.0 in
     let setup = t.setup.now in
     record {
-      handle = ap (λ b. cond b (if_closable t links (first_own setup t.me links.registry.handles)) None) shut;
+      handle = λ dev known less. none_left dev t links shut;
       device = λ dev less.
           let v : View = view_of t links in
-          let unused = is_unused setup links.registry dev in
+          let unused = is_out_of_use setup links.registry.state dev in
           let told = none_of (same_owed (owes.Destruct dev)) t.part.owed (eqb-true (length t.part.owed) 0 parts.1) in
           let called = ap (λ b. (is_told v dev && true) || (as_yet && b && unused)) shut ∙ uncalled (is_told v dev) unused told in
           stays (is_home setup t.me dev) (is_called_for v (came_free true unused links.shut) dev) (not (has_destructed v dev)) (is_some (digest_due (is_malloc setup dev) (find (is_base dev) t.part.bases))) called;

@@ -4,10 +4,8 @@ pub mod Submissions
 pub mod Tickets
 pub mod Put
 pub mod Took
-pub mod Here
 pub mod Going
 pub mod Left
-pub mod Written
 pub mod Ends
 pub mod Registering
 pub mod Applies

@@ -1,14 +1,15 @@
 -- An event of the registry, by the local rules.
-use Rattle.std.proofs.Common.{◌≡◌, ℕ, ◌+◌, Bool, true, false, cond, ◌&&◌, ◌||◌, ◌==◌, nat_eq, List, [], ◌∷◌, length, Option, Some, None, refl, sym, ◌∙◌, ap, subst, eq-eqb}
+use Rattle.std.proofs.Common.{◌≡◌, ℕ, ◌+◌, Bool, true, false, cond, ◌&&◌, ◌==◌, nat_eq, List, [], ◌∷◌, length, Option, Some, None, IfSome, refl, sym, ◌∙◌, ap, subst, eq-eqb}
 use Rattle.std.specs.Bool.{beq}
 use Rattle.std.specs.Cmp.Lexicographic.{pointwise}
-use Rattle.std.proofs.lemmas.Bool.{and_from}
+use Rattle.std.proofs.lemmas.Bool.{and_from, and_parts}
 use Rattle.bd_base.specs.Errno.{number_of}
 use Rattle.bd_base.specs.Name.{same_name}
 use Rattle.bd_base.specs.declared.act.Act.{Act}
 use Rattle.bd_base.specs.declared.act.Act.TheVariants as acts
 use Rattle.bd_base.specs.declared.event.Answer.{Answer}
 use Rattle.bd_base.specs.declared.event.Answer.TheVariants as answers
+use Rattle.bd_base.specs.declared.event.ClaimKind.{ClaimKind}
 use Rattle.bd_base.specs.declared.event.Dropped.{Dropped}
 use Rattle.bd_base.specs.declared.event.Dropped.TheVariants as dropped
 use Rattle.bd_base.specs.declared.event.RegEvent.{RegEvent}
@@ -25,6 +26,8 @@ use Rattle.bd_base.specs.declared.setup.Setup.{Setup}
 use Rattle.bd_base.specs.declared.thread_set.ThreadSet.{ThreadSet}
 use Rattle.bd_machine.specs.declared.state.Between.{Between}
 use Rattle.bd_machine.specs.declared.state.Between.TheVariants.{Opening, Closing}
+use Rattle.bd_machine.specs.declared.state.Due.{Due}
+use Rattle.bd_machine.specs.declared.state.Handle.{Handle}
 use Rattle.bd_machine.specs.declared.state.Id.{Id}
 use Rattle.bd_machine.specs.declared.state.Kept.{Kept}
 use Rattle.bd_machine.specs.declared.state.Owed.TheVariants as owes
@@ -32,26 +35,29 @@ use Rattle.bd_machine.specs.declared.state.Part.{Part}
 use Rattle.bd_machine.specs.declared.state.Registry.{Registry}
 use Rattle.bd_machine.specs.Admission.{is_gone}
 use Rattle.bd_machine.specs.Alone.{held_after}
-use Rattle.bd_machine.specs.AsYet.{as_yet}
-use Rattle.bd_machine.specs.Asked.{asks_as_yet, asks_between, asks_event, bound_to}
-use Rattle.bd_machine.specs.Changes.{registry_after}
-use Rattle.bd_machine.specs.Events.{change_reg, decided_by, paid}
+use Rattle.bd_machine.specs.Asked.{asks_between, asks_event, bound_to}
+use Rattle.bd_machine.specs.BlockMap.{below}
+use Rattle.bd_machine.specs.Changes.{between_after, is_dropped, registry_after}
+use Rattle.bd_machine.specs.Events.{all_born, born, change_reg, channel_due, closed_by, decided_by, destruct_of, device_due, dropped_by, got_by, paid, put_down_by, put_paid, with_due}
 use Rattle.bd_machine.specs.Guards.{is_built_event, taken_injection}
-use Rattle.bd_machine.specs.Registry.{answer_to}
+use Rattle.bd_machine.specs.Marks.{frozen_as, remarked}
+use Rattle.bd_machine.specs.Registry.{answer_to, made}
 use Rattle.bd_machine.specs.Same.{same_answer, same_dev, same_dropped, same_decision, same_holder, same_if_any, same_next_reset}
 use Rattle.bd_machine.specs.Users.{is_base_handle}
 use Rattle.bd_machine.specs.View.{Came, Move, View}
-use Rattle.bd_changes.specs.Lone.{lone}
 use Rattle.bd_view.specs.Came.{came_between, came_shut}
 use Rattle.bd_turns.specs.declared.queue.Message.{Message}
 use Rattle.bd_turns.specs.Local.{Local, came_local}
+use Rattle.bd_links.specs.Entries.{longer}
+use Rattle.bd_links.specs.Queues.{queues_of}
+use Rattle.bd_links.specs.Tokens.{here_in}
 use Rattle.bd_thread.specs.declared.links.Links.{Links}
 use Rattle.bd_thread.specs.declared.thread.Thread.{Thread}
 use Rattle.bd_thread.specs.Acted.{Acted}
-use Rattle.bd_thread.specs.Lines.{answered, close_if_bound, close_of, if_asked, may_ask, open_of, AsksBy, IsAnswered}
+use Rattle.bd_thread.specs.Lines.{answered, asked_registry, claim_if_bound, claim_of, close_asked, close_due, close_of, get_due, handle_if_any, if_asked, if_closable, job_now, may_ask, may_ask_after, may_close, open_of, AsksBy, IsAnswered, IsFollowed, OpensBy}
 use Rattle.bd_thread.specs.Requests.{KeepsTickets}
-use Rattle.bd_thread.specs.Seen.{here_in, local, local_at, longer, queues_of, untaken}
-use Rattle.bd_thread.proofs.Ends.{length-longer}
+use Rattle.bd_thread.specs.Seen.{local, local_at, untaken, view_of}
+use Rattle.bd_links.proofs.Longer.{length-longer}
 use Rattle.bd_thread.proofs.Going.{Steps, channels_own, handles_own, local_eq, not_built, steps, still_shut, acted_step}
 use Rattle.bd_thread.proofs.Tickets.{same_tickets}
 
@@ -121,42 +127,49 @@ answer_self (answers.Refused e) = eq-eqb (number_of e) (number_of e) refl
 
 module _ (setup : Setup) (me : ℕ) where
   -- an event is asked by what has to follow and by the Shutdown alone
-  asked_between : (v : View) (registry : Registry) (shut : Bool) (answer : Option Answer) (event : RegEvent) (b : Option Between) → is_built_event event ≡ true
+  asked_between : (v : View) (registry : Registry) (shut : Bool) (answer : Option Answer) (event : RegEvent) (b : Option Between)
       → asks_between setup me v (came_between registry.between shut) event b ≡ asks_between setup me v (record { message = None; answer = answer; between = registry.between; free = false; unused = false; shut = shut }) event b
-  asked_between v registry shut answer (events.Open name write) None built = refl
-  asked_between v registry shut answer (events.Open name write) (Some (Opening u dev)) built = refl
-  asked_between v registry shut answer (events.Open name write) (Some (Closing u dev)) built = refl
-  asked_between v registry shut answer (events.Close id) None built = refl
-  asked_between v registry shut answer (events.Close id) (Some (Opening u dev)) built = refl
-  asked_between v registry shut answer (events.Close id) (Some (Closing u dev)) built = refl
-  asked_between v registry shut answer _ b built = not_built built
+  asked_between v registry shut answer event (Some (Opening u dev)) = refl
+  asked_between v registry shut answer (events.PutChannel dev true) None = refl
+  asked_between v registry shut answer (events.PutChannel dev false) None = refl
+  asked_between v registry shut answer _ None = refl
+  asked_between v registry shut answer _ (Some (Closing u dev)) = refl
 
-  asked_local : (l : Local) (event : RegEvent) (answer : Answer) → is_built_event event ≡ true
+  asked_local : (l : Local) (event : RegEvent) (answer : Answer)
       → asks_event setup me l.view (came_between l.shared.registry.between l.shared.shut) event ≡ true
       → asks_event setup me l.view (came_local setup me l (acts.Reg event answer)) event ≡ true
-  asked_local l (events.Open name write) answer built asks =
-      sym (ap (λ b. b || (as_yet && asks_as_yet setup me l.view (came_between l.shared.registry.between l.shared.shut) (events.Open name write))) (asked_between l.view l.shared.registry l.shared.shut (Some (answer_to setup l.shared.registry me (events.Open name write))) (events.Open name write) l.shared.registry.between built)) ∙ asks
-  asked_local l (events.Close id) answer built asks =
-      sym (ap (λ b. b || (as_yet && asks_as_yet setup me l.view (came_between l.shared.registry.between l.shared.shut) (events.Close id))) (asked_between l.view l.shared.registry l.shared.shut (Some (answer_to setup l.shared.registry me (events.Close id))) (events.Close id) l.shared.registry.between built)) ∙ asks
-  asked_local l _ answer built asks = not_built built
+  asked_local l event answer asks =
+      sym (asked_between l.view l.shared.registry l.shared.shut (Some (answer_to setup l.shared.registry me event)) event l.shared.registry.between) ∙ asks
 
   -- it takes no injection
   untaken_by : (event : RegEvent) (answer : Answer) → is_built_event event ≡ true → taken_injection (acts.Reg event answer) ≡ None
   untaken_by (events.Open name write) answer built = refl
   untaken_by (events.Close id) answer built = refl
+  untaken_by (events.Claim id kind) answer built = refl
+  untaken_by (events.GetChannel dev) answer built = refl
+  untaken_by (events.PutChannel dev closing) answer built = refl
+  untaken_by (events.DropChannel dev) answer built = refl
   untaken_by _ answer built = not_built built
 
   -- it moves no token
   unmoved_by : (v : View) (came : Came) (event : RegEvent) (answer : Answer) → is_built_event event ≡ true → (change_reg setup me v came event answer).moves ≡ []
   unmoved_by v came (events.Open name write) answer built = refl
   unmoved_by v came (events.Close id) answer built = refl
+  unmoved_by v came (events.Claim id kind) answer built = refl
+  unmoved_by v came (events.GetChannel dev) answer built = refl
+  unmoved_by v came (events.PutChannel dev closing) answer built = refl
+  unmoved_by v came (events.DropChannel dev) answer built = refl
   unmoved_by v came _ answer built = not_built built
 
-  -- what it makes of the part goes by the part and by the Shutdown alone
-  pub part_by : (v : View) (came : Came) (event : RegEvent) (answer : Answer) → is_built_event event ≡ true
-      → (change_reg setup me v came event answer).part ≡ (change_reg setup me (lone v.part) (came_shut came.shut) event answer).part
+  -- of what came, what it makes of the part goes by the Shutdown alone
+  part_by : (v : View) (came : Came) (event : RegEvent) (answer : Answer) → is_built_event event ≡ true
+      → (change_reg setup me v came event answer).part ≡ (change_reg setup me v (came_shut came.shut) event answer).part
   part_by v came (events.Open name write) answer built = refl
   part_by v came (events.Close id) answer built = refl
+  part_by v came (events.Claim id kind) answer built = refl
+  part_by v came (events.GetChannel dev) answer built = refl
+  part_by v came (events.PutChannel dev closing) answer built = refl
+  part_by v came (events.DropChannel dev) answer built = refl
   part_by v came _ answer built = not_built built
 
 module _ (setup : Setup) (me : ℕ) (part : Part) (here : Id → Option Kept) (registry : Registry) (shut : Bool) (stamp : ℕ) (queues : ℕ → List Message) where
@@ -172,16 +185,15 @@ module _ (setup : Setup) (me : ℕ) (part : Part) (here : Id → Option Kept) (r
       (local_at me (untaken (change_reg setup me old.view (came_shut shut) event answer).part) here (registry_after setup registry me (Some (record { event = event; answer = answer }))) shut (stamp + 1) queues)
   event_steps event answer built given asks =
       let came : Came = came_local setup me old (acts.Reg event answer) in
-      let same : (change_reg setup me old.view came event answer).part ≡ (change_reg setup me old.view (came_shut shut) event answer).part =
-      part_by setup me old.view came event answer built ∙ sym (part_by setup me old.view (came_shut shut) event answer built) in
+      let same : (change_reg setup me old.view came event answer).part ≡ (change_reg setup me old.view (came_shut shut) event answer).part = part_by setup me old.view came event answer built in
       steps setup me old
       (local_at me (untaken (change_reg setup me old.view (came_shut shut) event answer).part) here (registry_after setup registry me (Some (record { event = event; answer = answer }))) shut (stamp + 1) queues)
       (acts.Reg event answer) refl built
-      (ap (λ (a : Answer). same_answer answer a) given ∙ answer_self answer, (asked_local setup me old event answer built asks, tt))
+      (ap (λ (a : Answer). same_answer answer a) given ∙ answer_self answer, (asked_local setup me old event answer asks, tt))
       (local_eq _ _
       (ap (λ o. let p : Part = record (change_reg setup me old.view came event answer).part { injection = o } in p) (untaken_by setup me event answer built) ∙ ap untaken same)
       (ap (λ (ms : List Move). held_after ms here) (unmoved_by setup me old.view came event answer built))
-      (sym (handles_own me registry.handles event answer built))
+      (sym (handles_own me registry.handles event answer))
       (sym (channels_own setup me registry (Some (record { event = event; answer = answer }))))
       refl (still_shut shut) refl refl)
 
@@ -195,34 +207,77 @@ asked_acted t before new after event built asks is =
     let queues = queues_of before.queues.items in
     let here = here_in t.held.items in
     let act : Act = acts.Reg event is.answer in
-    let registry : Registry = registry_after t.setup.now before.registry t.me (Some (record { event = event; answer = is.answer })) in
+    let registry : Registry = registry_after t.setup.now before.registry.state t.me (Some (record { event = event; answer = is.answer })) in
     let p : Thread = record t { part = answered t before event is.answer } in
-    let q : Links = record before { registry = registry; entries = longer t.me before.entries act } in
-    let stepped = event_steps t.setup.now t.me t.part here before.registry before.shut (length before.entries) queues event is.answer built is.given asks in
+    let q : Links = record before { registry = asked_registry t before event is.answer; entries = longer t.me before.entries act } in
+    let stepped = event_steps t.setup.now t.me t.part here before.registry.state before.shut (length before.entries) queues event is.answer built is.given asks in
     let ends : local_at t.me p.part here registry before.shut (length before.entries + 1) queues ≡ local p q =
     ap (λ (n : ℕ). local_at t.me p.part here registry before.shut n queues) (sym (length-longer t.me before.entries act)) in
     subst (λ (n : Thread). Acted t before n after) (sym is.thread)
     (subst (λ (l : Links). Acted t before p l) (sym is.links)
-    (acted_step t before p q act refl refl refl refl (subst (Steps t.setup.now t.me (local t before) act) ends stepped)))
+    (acted_step t before p q act refl refl refl refl refl (subst (Steps t.setup.now t.me (local t before) act) ends stepped)))
 
--- what three parts have that one of them has
-closed_same : {X : Type 0} (f : Part → X) (a b : Bool) (x y z : Part) (k : X) → f x ≡ k → f y ≡ k → f z ≡ k → f (cond a x (cond b y z)) ≡ k
-closed_same f true b x y z k g h i = g
-closed_same f false true x y z k g h i = h
-closed_same f false false x y z k g h i = i
+-- ---- open requests and their tickets
 
--- the open requests and their tickets stay
+-- the open requests and the number of the next request are as they were
+record KeepsOpen (old new : Part) : Type 0 where
+  requests : new.requests ≡ old.requests
+  next : new.next_request ≡ old.next_request
+
+same_open : (part : Part) → KeepsOpen part part
+same_open part = record { requests = refl; next = refl }
+
+born_open : (frozen : List DevId) (devs : List DevId) (first part : Part) → KeepsOpen first part → KeepsOpen first (all_born frozen devs part)
+born_open frozen [] first part h = h
+born_open frozen (d ∷ ds) first part h = born_open frozen ds first (born frozen d part) (record { requests = h.requests; next = h.next })
+
+got_open : (setup : Setup) (v : View) (dev : DevId) (answer : Answer) → KeepsOpen v.part (got_by setup v dev answer)
+got_open setup v dev (answers.Got fresh frozen) = born_open frozen (made v.channels (below setup dev)) v.part v.part (same_open v.part)
+got_open setup v dev _ = same_open v.part
+
+closed_open : (setup : Setup) (came : Came) (id : HandleId) (answer : Answer) (part : Part) → KeepsOpen part (closed_by setup came id answer part)
+closed_open setup came id answer part = go (is_base_handle setup id) (is_gone part id)
+  where
+    go : (base gone : Bool) → KeepsOpen part (cond base (paid (owes.Close id) part) (cond gone part (decided_by came answer part)))
+    go true gone = record { requests = refl; next = refl }
+    go false true = same_open part
+    go false false = record { requests = refl; next = refl }
+
+put_open : (t : ℕ) (dev : DevId) (closing : Bool) (answer : Answer) (part : Part) → KeepsOpen part (put_down_by t dev answer (put_paid dev closing part))
+put_open t dev true (answers.PutDown left) part = record { requests = refl; next = refl }
+put_open t dev false (answers.PutDown left) part = record { requests = refl; next = refl }
+put_open t dev true _ part = record { requests = refl; next = refl }
+put_open t dev false _ part = record { requests = refl; next = refl }
+
+drop_open : (t : ℕ) (dev : DevId) (answer : Answer) (part : Part) → KeepsOpen part (dropped_by t dev answer part)
+drop_open t dev (answers.Dropped what zero destruct) part = go (is_dropped what)
+  where
+    go : (b : Bool) → KeepsOpen part (with_due (channel_due t zero) (cond b (remarked dev (frozen_as false) part) part))
+    go true = record { requests = refl; next = refl }
+    go false = record { requests = refl; next = refl }
+drop_open t dev _ part = same_open part
+
+-- what is more than this is due
+due_open : (due : List Due) (first part : Part) → KeepsOpen first part → KeepsOpen first (with_due due part)
+due_open due first part h = record { requests = h.requests; next = h.next }
+
+change_open : (setup : Setup) (t : ℕ) (v : View) (came : Came) (event : RegEvent) (answer : Answer) → is_built_event event ≡ true → KeepsOpen v.part (change_reg setup t v came event answer).part
+change_open setup t v came (events.Open name write) answer built = record { requests = refl; next = refl }
+change_open setup t v came (events.Close id) answer built =
+    due_open (device_due setup (destruct_of answer)) v.part (closed_by setup came id answer v.part) (closed_open setup came id answer v.part)
+change_open setup t v came (events.Claim id kind) answer built = record { requests = refl; next = refl }
+change_open setup t v came (events.GetChannel dev) answer built = got_open setup v dev answer
+change_open setup t v came (events.PutChannel dev closing) answer built = put_open t dev closing answer v.part
+change_open setup t v came (events.DropChannel dev) answer built =
+    let part : Part = paid (owes.Drop dev) v.part in
+    let h = drop_open t dev answer part in
+    due_open (device_due setup (destruct_of answer)) v.part (dropped_by t dev answer part) (record { requests = h.requests; next = h.next })
+change_open setup t v came _ answer built = not_built built
+
 pub answered_tickets : (t : Thread) (before : Links) (event : RegEvent) (answer : Answer) → is_built_event event ≡ true → KeepsTickets t → KeepsTickets (record t { part = answered t before event answer })
-answered_tickets t before (events.Open name write) answer built keeps = same_tickets t _ refl refl refl keeps
-answered_tickets t before (events.Close id) answer built keeps =
-    let base = is_base_handle t.setup.now id in
-    let gone = is_gone t.part id in
-    let closed = paid (owes.Close id) t.part in
-    let decides = decided_by (came_shut before.shut) answer t.part in
-    same_tickets t _ refl
-    (closed_same (λ (p : Part). p.requests) base gone closed t.part decides t.part.requests refl refl refl)
-    (closed_same (λ (p : Part). p.next_request) base gone closed t.part decides t.part.next_request refl refl refl) keeps
-answered_tickets t before _ answer built keeps = not_built built
+answered_tickets t before event answer built keeps =
+    let h = change_open t.setup.now t.me (view_of t before) (came_shut before.shut) event answer built in
+    same_tickets t _ refl h.requests h.next keeps
 
 -- ---- the same, said exactly
 
@@ -235,19 +290,112 @@ pub asked_by : (t : Thread) (before : Links) (new : Thread) (after : Links) (eve
 asked_by t before new after event o is may h =
     subst (AsksBy t before new after true) (sym (ap (if_asked t before) is ∙ ap (λ b. cond b (Some event) None) may)) (refl, h)
 
+-- an open that may be asked, and was answered and followed by its channel
+pub opened_by : (t : Thread) (before : Links) (new : Thread) (after : Links) (event : RegEvent) (o : Option RegEvent)
+    → o ≡ Some event
+    → may_ask t before event ≡ true
+    → IsFollowed event get_due t before new after
+    → OpensBy t before new after true (if_asked t before o)
+opened_by t before new after event o is may h =
+    subst (OpensBy t before new after true) (sym (ap (if_asked t before) is ∙ ap (λ b. cond b (Some event) None) may)) (refl, h)
+
+unasked_as : (t : Thread) (before : Links) (event : RegEvent) (o : Option RegEvent) → o ≡ Some event → may_ask t before event ≡ false → if_asked t before o ≡ None
+unasked_as t before event o is may = ap (if_asked t before) is ∙ ap (λ b. cond b (Some event) None) may
+
 -- an event that may not be asked
 pub unasked_by : (t : Thread) (before : Links) (event : RegEvent) (o : Option RegEvent) → o ≡ Some event → may_ask t before event ≡ false → AsksBy t before t before false (if_asked t before o)
-unasked_by t before event o is may =
-    subst (AsksBy t before t before false) (sym (ap (if_asked t before) is ∙ ap (λ b. cond b (Some event) None) may)) (refl, refl, refl)
+unasked_by t before event o is may = subst (AsksBy t before t before false) (sym (unasked_as t before event o is may)) (refl, refl, refl)
+
+pub unopened_by : (t : Thread) (before : Links) (event : RegEvent) (o : Option RegEvent) → o ≡ Some event → may_ask t before event ≡ false → OpensBy t before t before false (if_asked t before o)
+unopened_by t before event o is may = subst (OpensBy t before t before false) (sym (unasked_as t before event o is may)) (refl, refl, refl)
 
 -- the open that the line names
 pub open_named : (handle dev : List ℕ) (write shut : Bool) (o : Option Job) → shut ≡ false → o ≡ Some (jobs.Open handle dev write) → open_of (cond shut None o) ≡ Some (events.Open dev write)
 open_named handle dev write shut o unshut line = ap (λ b. open_of (cond b None o)) unshut ∙ ap open_of line
 
--- the close that the line names
-pub close_named : (part : Part) (handle : List ℕ) (id : HandleId) (shut : Bool) (o : Option Job)
+-- the claim that the line names
+pub claim_named : (part : Part) (handle : List ℕ) (kind : ClaimKind) (id : HandleId) (shut : Bool) (o : Option Job)
     → shut ≡ false
-    → o ≡ Some (jobs.Close handle)
+    → o ≡ Some (jobs.Claim handle kind)
     → bound_to part handle ≡ Some id
-    → close_of part (cond shut None o) ≡ Some (events.Close id)
-close_named part handle id shut o unshut line bound = ap (λ b. close_of part (cond b None o)) unshut ∙ ap (close_of part) line ∙ ap close_if_bound bound
+    → claim_of part (cond shut None o) ≡ Some (events.Claim id kind)
+claim_named part handle kind id shut o unshut line bound = ap (λ b. claim_of part (cond b None o)) unshut ∙ ap (claim_of part) line ∙ ap (claim_if_bound kind) bound
+
+-- ---- what has to follow
+
+-- a channel that has to follow an open may be asked for
+pub get_built : (me : ℕ) (between : Option Between) → IfSome (get_due me between) (λ event. is_built_event event ≡ true)
+get_built me None = tt
+get_built me (Some (Closing u dev)) = tt
+get_built me (Some (Opening u dev)) = go (u == me)
+  where
+    go : (b : Bool) → IfSome (cond b (Some (events.GetChannel dev)) None) (λ event. is_built_event event ≡ true)
+    go true = refl
+    go false = tt
+
+pub get_asked : (t : Thread) (links : Links) → IfSome (get_due t.me links.registry.state.between) (λ event. may_ask t links event ≡ true)
+get_asked t links = go links.registry.state.between
+  where
+    go : (between : Option Between) → IfSome (get_due t.me between) (λ event. may_ask_after t links between event ≡ true)
+    go None = tt
+    go (Some (Closing u dev)) = tt
+    go (Some (Opening u dev)) = mine (u == t.me) refl
+      where
+        mine : (b : Bool) → (u == t.me) ≡ b → IfSome (cond b (Some (events.GetChannel dev)) None) (λ event. may_ask_after t links (Some (Opening u dev)) event ≡ true)
+        mine true e = and_from (u == t.me) (same_dev dev dev) e (dev_self dev)
+        mine false e = tt
+
+-- a close that has to follow a put may be asked for, where it might after the put
+pub close_built : (id : HandleId) (me : ℕ) (between : Option Between) → IfSome (close_due id me between) (λ event. is_built_event event ≡ true)
+close_built id me None = tt
+close_built id me (Some (Opening u dev)) = tt
+close_built id me (Some (Closing u dev)) = go (u == me)
+  where
+    go : (b : Bool) → IfSome (cond b (Some (events.Close id)) None) (λ event. is_built_event event ≡ true)
+    go true = refl
+    go false = tt
+
+pub close_follows : (t : Thread) (before : Links) (new : Thread) (after : Links) (h : Handle)
+    → may_close t before h ≡ true
+    → IsAnswered (events.PutChannel h.dev true) t before new after
+    → IfSome (close_due h.id new.me after.registry.state.between) (λ event. may_ask new after event ≡ true)
+close_follows t before new after h may is =
+    let p : Thread = record t { part = answered t before (events.PutChannel h.dev true) is.answer } in
+    subst (λ (n : Thread). IfSome (close_due h.id n.me after.registry.state.between) (λ event. may_ask n after event ≡ true)) (sym is.thread)
+    (subst (λ (l : Links). IfSome (close_due h.id t.me l.registry.state.between) (λ event. may_ask p l event ≡ true)) (sym is.links)
+    (go is.answer))
+  where
+    go : (answer : Answer) → let n : Thread = record t { part = answered t before (events.PutChannel h.dev true) answer } in let l : Links = record before {
+      registry = asked_registry t before (events.PutChannel h.dev true) answer;
+      entries = longer t.me before.entries (acts.Reg (events.PutChannel h.dev true) answer);
+    } in IfSome (close_due h.id t.me (between_after t.me (events.PutChannel h.dev true) answer)) (λ event. may_ask n l event ≡ true)
+    go (answers.PutDown left) =
+        mine (t.me == t.me) (and_parts (may_ask t before (events.PutChannel h.dev true)) (may_ask_after t before (Some (Closing t.me h.dev)) (events.Close h.id)) may).1
+      where
+        mine : (b : Bool) → may_ask_after t before (Some (Closing t.me h.dev)) (events.Close h.id) ≡ true
+            → IfSome (cond b (Some (events.Close h.id)) None) (λ event. may_ask (record t { part = answered t before (events.PutChannel h.dev true) (answers.PutDown left) }) (record before {
+              registry = asked_registry t before (events.PutChannel h.dev true) (answers.PutDown left);
+              entries = longer t.me before.entries (acts.Reg (events.PutChannel h.dev true) (answers.PutDown left));
+            }) event ≡ true)
+        mine true e = e
+        mine false e = tt
+    go _ = tt
+
+-- the handle that the line closes
+pub close_named : (part : Part) (handle : List ℕ) (shut : Bool) (o : Option Job) → shut ≡ false → o ≡ Some (jobs.Close handle) → close_of part (cond shut None o) ≡ bound_to part handle
+close_named part handle shut o unshut line = ap (λ b. close_of part (cond b None o)) unshut ∙ ap (close_of part) line
+
+-- what the line closes may be closed
+pub closing_may : (t : Thread) (links : Links) (h : Handle) → close_asked t links ≡ Some h → may_close t links h ≡ true
+closing_may t links h e = go (handle_if_any (view_of t links).handles (close_of t.part (job_now t links))) e
+  where
+    some_same : {X : Type 0} {x y : X} → Some x ≡ Some y → x ≡ y
+    some_same e = cc
+
+    go : (o : Option Handle) → if_closable t links o ≡ Some h → may_close t links h ≡ true
+    go None e = cc
+    go (Some x) e = may (may_close t links x) refl e
+      where
+        may : (b : Bool) → may_close t links x ≡ b → cond b (Some x) None ≡ Some h → may_close t links h ≡ true
+        may true k e = subst (λ (y : Handle). may_close t links y ≡ true) (some_same e) k
+        may false k e = cc

@@ -4,6 +4,7 @@ use Rattle.std.proofs.lemmas.Bool.{and_from, and_parts}
 use Rattle.bd_base.specs.declared.act.Act.TheVariants as acts
 use Rattle.bd_base.specs.declared.act.Token.{Token}
 use Rattle.bd_base.specs.declared.act.Token.TheVariants as tokens
+use Rattle.bd_base.specs.declared.id.DevId.{DevId}
 use Rattle.bd_base.specs.declared.id.ReqId.{ReqId}
 use Rattle.bd_base.specs.declared.setup.Setup.{Setup}
 use Rattle.bd_machine.specs.declared.state.Id.{Id}
@@ -71,6 +72,16 @@ module _ (setup : Setup) (t : ℕ) (part : Part) (id : Id) where
   brought_mark mark (keeps.Piece p) h = cc
   brought_mark mark (keeps.Walk w) h = cc
 
+  brought_channel : (dev : DevId) (kept : Kept) → brings (tokens.Channel dev) (Some kept) ≡ true → (taken_by setup t (tokens.Channel dev) part (Some kept) id).moves ≡ landed id kept
+  brought_channel dev (keeps.Notice (news.Channel d)) h = refl
+  brought_channel dev (keeps.Notice (news.Go req threads)) h = cc
+  brought_channel dev (keeps.Notice (news.Gone handle)) h = refl
+  brought_channel dev (keeps.Notice (news.Mark name)) h = refl
+  brought_channel dev (keeps.Notice (news.Device d)) h = refl
+  brought_channel dev (keeps.Request r) h = cc
+  brought_channel dev (keeps.Piece p) h = cc
+  brought_channel dev (keeps.Walk w) h = cc
+
   brought_piece : (req : ReqId) (k : ℕ) (kept : Kept) → brings (tokens.Piece req k) (Some kept) ≡ true → (taken_by setup t (tokens.Piece req k) part (Some kept) id).moves ≡ landed id kept
   brought_piece req k (keeps.Piece p) h = refl
   brought_piece req k (keeps.Notice told) h = cc
@@ -85,7 +96,7 @@ module _ (setup : Setup) (t : ℕ) (part : Part) (id : Id) where
   brought_moves (tokens.Walk walk) kept h = cc
   brought_moves (tokens.Go req threads) kept h = cc
   brought_moves (tokens.Gone handle) kept h = cc
-  brought_moves (tokens.Channel dev) kept h = cc
+  brought_moves (tokens.Channel dev) kept h = brought_channel dev kept h
   brought_moves (tokens.Device dev) kept h = cc
 
   -- neither the open requests nor the next id
@@ -102,6 +113,16 @@ module _ (setup : Setup) (t : ℕ) (part : Part) (id : Id) where
   mark_keeps mark (keeps.Piece p) h = cc
   mark_keeps mark (keeps.Walk w) h = cc
 
+  channel_keeps : (dev : DevId) (kept : Kept) → brings (tokens.Channel dev) (Some kept) ≡ true → KeepsOpen (taken_by setup t (tokens.Channel dev) part (Some kept) id).part
+  channel_keeps dev (keeps.Notice (news.Channel d)) h = (refl, refl)
+  channel_keeps dev (keeps.Notice (news.Go req threads)) h = cc
+  channel_keeps dev (keeps.Notice (news.Gone handle)) h = (refl, refl)
+  channel_keeps dev (keeps.Notice (news.Mark name)) h = (refl, refl)
+  channel_keeps dev (keeps.Notice (news.Device d)) h = (refl, refl)
+  channel_keeps dev (keeps.Request r) h = cc
+  channel_keeps dev (keeps.Piece p) h = cc
+  channel_keeps dev (keeps.Walk w) h = cc
+
   piece_keeps : (req : ReqId) (k : ℕ) (kept : Kept) → brings (tokens.Piece req k) (Some kept) ≡ true → KeepsOpen (taken_by setup t (tokens.Piece req k) part (Some kept) id).part
   piece_keeps req k (keeps.Piece p) h = (refl, refl)
   piece_keeps req k (keeps.Notice told) h = cc
@@ -116,5 +137,5 @@ module _ (setup : Setup) (t : ℕ) (part : Part) (id : Id) where
   brought_keeps (tokens.Walk walk) kept h = cc
   brought_keeps (tokens.Go req threads) kept h = cc
   brought_keeps (tokens.Gone handle) kept h = cc
-  brought_keeps (tokens.Channel dev) kept h = cc
+  brought_keeps (tokens.Channel dev) kept h = channel_keeps dev kept h
   brought_keeps (tokens.Device dev) kept h = cc

@@ -3,13 +3,15 @@ use Rattle.std.proofs.Common.{◌≡◌, ◌⊎◌, inl, inr, ℕ, ◌+◌, ◌-
 use Rattle.std.specs.Bool.{beq}
 use Rattle.std.specs.Cmp.Lexicographic.{pointwise}
 use Rattle.std.specs.Option.{option_map, option_and_then}
-use Rattle.std.specs.List.{list_any}
+use Rattle.std.specs.List.{find, list_any}
 use Rattle.std.proofs.lemmas.Bool.{cases_lt, and_from}
 use Rattle.std.proofs.lemmas.Bool.Decides.{nat_tests}
 use Rattle.bd_base.specs.Name.{same_name}
 use Rattle.bd_base.specs.declared.act.Outcome.{Outcome}
 use Rattle.bd_base.specs.declared.act.Outcome.TheVariants as outcomes
 use Rattle.bd_base.specs.declared.act.Token.{Token}
+use Rattle.bd_base.specs.declared.event.ClaimKind.{ClaimKind}
+use Rattle.bd_base.specs.declared.event.ClaimKind.TheVariants as kinds
 use Rattle.bd_base.specs.declared.event.RegEvent.{RegEvent}
 use Rattle.bd_base.specs.declared.event.RegEvent.TheVariants as events
 use Rattle.bd_base.specs.declared.id.HandleId.{HandleId}
@@ -18,34 +20,42 @@ use Rattle.bd_base.specs.declared.job.Job.TheVariants as jobs
 use Rattle.bd_base.specs.declared.job.Line.{Line}
 use Rattle.bd_base.specs.declared.request.Errno.TheVariants.{Exists, NoDev}
 use Rattle.bd_base.specs.declared.setup.Setup.{Setup}
+use Rattle.bd_machine.specs.declared.state.Between.{Between}
+use Rattle.bd_machine.specs.declared.state.Between.TheVariants.{Closing}
 use Rattle.bd_machine.specs.declared.state.Decided.{Decided}
 use Rattle.bd_machine.specs.declared.state.Due.{Due}
 use Rattle.bd_machine.specs.declared.state.Handle.{Handle}
 use Rattle.bd_machine.specs.declared.state.News.{News}
 use Rattle.bd_machine.specs.declared.state.News.TheVariants as news
-use Rattle.bd_machine.specs.Admission.{has_range}
-use Rattle.bd_machine.specs.Asked.{asks_between, bound_to, busy_outcome, close_outcome, is_job_close, is_job_open, is_open_handle, is_script_blocked, is_waiting_job, is_waiting_line, job_of, most_requests, next_line, open_on, outcome_by, outcome_due, undecided_job, undecided_outcome}
+use Rattle.bd_machine.specs.declared.state.Owed.{Owed}
+use Rattle.bd_machine.specs.Admission.{has_range, is_gone}
+use Rattle.bd_machine.specs.AsYet.{as_yet}
+use Rattle.bd_machine.specs.Asked.{may_close as closes}
+use Rattle.bd_machine.specs.Asked.{bound_to, busy_outcome, claim_outcome, close_outcome, is_handle_on, is_job_claim, is_job_close, is_job_open, is_open_handle, is_script_blocked, is_waiting_job, is_waiting_line, job_of, most_requests, next_line, open_on, outcome_by, outcome_due, undecided_job, undecided_outcome}
+use Rattle.bd_machine.specs.Claims.{same_kind}
 use Rattle.bd_machine.specs.Guards.{is_built_token}
 use Rattle.bd_machine.specs.Messages.{is_due, is_due_to, may_go}
 use Rattle.bd_machine.specs.Registry.{handle_of}
-use Rattle.bd_machine.specs.Same.{is_the, same_handle, same_news, same_request}
+use Rattle.bd_machine.specs.Same.{is_the, same_dev, same_handle, same_news, same_request}
 use Rattle.bd_machine.specs.Users.{is_base_handle}
 use Rattle.bd_machine.specs.View.{View}
 use Rattle.bd_machine.proofs.Tables.{request_same}
 use Rattle.bd_view.specs.Came.{came_between}
+use Rattle.bd_links.specs.Queues.{is_full}
 use Rattle.bd_thread.specs.declared.links.Links.{Links}
 use Rattle.bd_thread.specs.declared.thread.Thread.{Thread}
 use Rattle.bd_thread.specs.declared.turn.Turned.{Turned}
 use Rattle.bd_thread.specs.declared.turn.Turned.TheVariants.{Moved, Quiet}
 use Rattle.bd_thread.specs.Acted.{Acted}
-use Rattle.bd_thread.specs.Endings.{first_own, if_closable}
-use Rattle.bd_thread.specs.Lines.{close_if_bound, close_of, if_asked, may_ask, open_of}
+use Rattle.bd_thread.specs.Drops.{drop_owed, NoDrop}
+use Rattle.bd_thread.specs.Lines.{claim_if_bound, claim_of, close_of, handle_if_any, if_asked, if_closable, may_ask, may_ask_after, may_close, open_of}
 use Rattle.bd_thread.specs.Moves.{turned_of}
 use Rattle.bd_thread.specs.Sent.{may_put}
 use Rattle.bd_thread.specs.Seen.{local, view_of}
-use Rattle.bd_thread.specs.Waits.{asks_unbuilt, first_due, is_base_if_any, is_full, is_line_waiting, is_submission, is_unbuilt, may_post, may_send, token_of, Idles, IsWaiting, NoDestructBelow, NoDestructOn, NoHandle, NoLine, NoMessage, NoPiece, NoPieceBelow, NoPieceOn, NothingLeft, NothingToPost, NothingToSend, Quiets}
+use Rattle.bd_thread.specs.Waits.{asks_unbuilt, first_due, is_base_if_any, is_line_waiting, is_submission, is_unbuilt, may_post, may_send, token_of, Idles, IsWaiting, NoDestructBelow, NoDestructOn, NoHandleBelow, NoHandleOn, NoLine, NoMessage, NoPiece, NoPieceBelow, NoPieceOn, NothingLeft, NothingToPost, NothingToSend, Quiets}
 use Rattle.bd_thread.proofs.Going.{acted_then}
 use Rattle.bd_thread.proofs.Idle.{idle_then}
+use Rattle.bd_thread.proofs.Leftovers.{found_is}
 
 -- ---- what is the same as itself
 
@@ -63,6 +73,12 @@ news_self (news.Gone handle) = eq-eqb handle.0 handle.0 refl
 news_self (news.Channel dev) = eq-eqb dev.0 dev.0 refl
 news_self (news.Device dev) = eq-eqb dev.0 dev.0 refl
 news_self (news.Go req threads) = and_from (same_request req req) (threads.0 == threads.0) (request_same.same_self req) (eq-eqb threads.0 threads.0 refl)
+
+some_same : {X : Type 0} {x y : X} → Some x ≡ Some y → x ≡ y
+some_same e = cc
+
+none_or_some : {X : Type 0} {x : X} {Q : Type 0} → None ≡ Some x → Q
+none_or_some e = cc
 
 -- ---- pieces
 
@@ -82,25 +98,25 @@ undestructed_below n m t links e below on dev less = go (cases_lt dev.0 n)
     go (inl h) = below dev h
     go (inr h) = let same : m ≡ dev.0 = omega (arith, e, h, less) in subst (λ (k : ℕ). NoDestructOn (record { 0 = k }) t links) same on
 
-pub none_open : (t : Thread) (links : Links) → (0 < length links.registry.handles → NoHandle t links) → NoHandle t links
-none_open t links h = go links.registry.handles h
+pub unclosed_below : (n m : ℕ) (t : Thread) (links : Links) → m ≡ n → NoHandleBelow n t links → NoHandleOn (record { 0 = m }) t links → NoHandleBelow (n + 1) t links
+unclosed_below n m t links e below on dev less = go (cases_lt dev.0 n)
   where
-    go : (hs : List Handle)
-        → (0 < length hs → cond links.shut (if_closable t links (first_own t.setup.now t.me hs)) None ≡ None)
-        → cond links.shut (if_closable t links (first_own t.setup.now t.me hs)) None ≡ None
-    go [] h = elim links.shut as (λ b. cond b (if_closable t links (first_own t.setup.now t.me [])) None ≡ None) [ true ↦ refl | false ↦ refl ]
-    go (x ∷ xs) h = h (omega arith)
+    go : (dev.0 < n) ⊎ (n ≤ dev.0) → NoHandleOn dev t links
+    go (inl h) = below dev h
+    go (inr h) = let same : m ≡ dev.0 = omega (arith, e, h, less) in subst (λ (k : ℕ). NoHandleOn (record { 0 = k }) t links) same on
 
 -- ---- the next line
 
 none_some : {X : Type 0} {x : X} {Q : Type 0} → Some x ≡ None → Q
 none_some h = cc
 
--- what isn't asked isn't asked by the rule that stands as yet
-not_asked : {X : Type 0} (x : X) (a b : Bool) → cond (a || b) (Some x) None ≡ None → b ≡ false
-not_asked x true b h = none_some h
-not_asked x false true h = none_some h
-not_asked x false false h = refl
+-- what may be done and isn't found, may not be done
+not_asked : {X : Type 0} (x : X) (b : Bool) → cond b (Some x) None ≡ None → b ≡ false
+not_asked x true h = none_some h
+not_asked x false h = refl
+
+false_true : {Q : Type 0} → false ≡ true → Q
+false_true h = cc
 
 no_room : (n m : ℕ) → nat_lt n m ≡ false → nat_le m n ≡ true
 no_room n m h = grind (arith, nat_tests)
@@ -113,20 +129,28 @@ submission_waits false n m h = go (nat_le m n)
     go true = refl
     go false = refl
 
--- a close that isn't asked has an outcome, unless its name is bound to a base handle
-idle_close : (base own job : Bool) (n : ℕ) → job ≡ true → not base && own && (n == 0) && job ≡ false → cond own (busy_outcome n) (Some (outcomes.Errno NoDev)) ≡ None → base ≡ true
-idle_close true own job n asks h e = refl
-idle_close false false job n asks h e = none_some e
-idle_close false true job n asks h e = go (n == 0) h e
-  where
-    go : (b : Bool) → b && job ≡ false → cond b None (Some (outcomes.BusyOpen n)) ≡ None → false ≡ true
-    go true h e = sym h ∙ asks
-    go false h e = none_some e
+kind_self : (kind : ClaimKind) → same_kind kind kind ≡ true
+kind_self kinds.Exclusive = refl
+kind_self kinds.WriteOne = refl
+kind_self kinds.WriteNone = refl
+kind_self (kinds.Shared key) = eq-eqb key key refl
 
--- the thread t, where no Shutdown came
+any_found : {X : Type 0} (is also : X → Bool) (xs : List X) (x : X) → find is xs ≡ Some x → also x ≡ true → list_any also xs ≡ true
+any_found is also [] x h e = none_or_some h
+any_found is also (y ∷ ys) x h e = go (is y) (also y) refl h (λ f. any_found is also ys x f e)
+  where
+    go : (a b : Bool) → also y ≡ b → cond a (Some y) (find is ys) ≡ Some x → (find is ys ≡ Some x → list_any also ys ≡ true) → b || list_any also ys ≡ true
+    go a true k f rest = refl
+    go true false k f rest = false_true (sym k ∙ ap also (some_same f) ∙ e)
+    go false false k f rest = rest f
+
+-- the thread t, where no Shutdown came and nothing has to follow at the registry
 module _ (t : Thread) (links : Links) where
-  abbrev running : Links
-  running = record links { shut = false }
+  abbrev stood : Bool → Option Between → Links
+  stood shut between = record links { shut = shut; registry = record links.registry { state = record links.registry.state { between = between } } }
+
+  abbrev free : Links
+  free = stood false None
 
   abbrev seen : View
   seen = view_of t links
@@ -134,89 +158,139 @@ module _ (t : Thread) (links : Links) where
   abbrev asked : Option Job
   asked = undecided_job t.setup.now t.me t.part
 
-  open_waits : (handle dev : List ℕ) (write : Bool) → asked ≡ Some (jobs.Open handle dev write) → if_asked t running (open_of asked) ≡ None → undecided_outcome seen (jobs.Open handle dev write) ≡ None → ⊥
+  open_waits : (handle dev : List ℕ) (write : Bool) → asked ≡ Some (jobs.Open handle dev write) → if_asked t free (open_of asked) ≡ None → undecided_outcome seen (jobs.Open handle dev write) ≡ None → ⊥
   open_waits handle dev write is o e =
       let event : RegEvent = events.Open dev write in
-      let between : Bool = asks_between t.setup.now t.me seen (came_between links.registry.between false) event links.registry.between in
-      let unasked : cond (may_ask t running event) (Some event) None ≡ None = ap (λ (j : Option Job). if_asked t running (open_of j)) (sym is) ∙ o in
+      let unasked : cond (may_ask t free event) (Some event) None ≡ None = ap (λ (j : Option Job). if_asked t free (open_of j)) (sym is) ∙ o in
       let named : is_job_open seen dev write asked ≡ not (is_open_handle seen (bound_to t.part handle)) =
       ap (is_job_open seen dev write) is
       ∙ ap (λ b. b && not (is_open_handle seen (bound_to t.part handle))) (and_from (same_name dev dev) (beq write write) (name_self dev) (flag_self write)) in
-      go (is_open_handle seen (bound_to t.part handle)) (sym named ∙ not_asked event between (is_job_open seen dev write asked) unasked) e
+      go (is_open_handle seen (bound_to t.part handle)) (sym named ∙ not_asked event (is_job_open seen dev write asked) unasked) e
     where
       go : (b : Bool) → not b ≡ false → cond b (Some (outcomes.Errno Exists)) None ≡ None → ⊥
       go true h e = none_some e
-      go false h e = let x : true ≡ false = h in cc
+      go false h e = false_true (sym h)
 
-  close_waits : (handle : List ℕ) (id : HandleId) → asked ≡ Some (jobs.Close handle) → bound_to t.part handle ≡ Some id → if_asked t running (Some (events.Close id)) ≡ None → close_outcome seen (Some id) ≡ None → is_base_handle t.setup.now id ≡ true
-  close_waits handle id is bound c e =
-      let setup = t.setup.now in
-      let event : RegEvent = events.Close id in
-      let between : Bool = asks_between setup t.me seen (came_between links.registry.between false) event links.registry.between in
-      let names : is_job_close t.part id asked ≡ true = ap (is_job_close t.part id) is ∙ ap (is_the same_handle id) bound ∙ eq-eqb id.0 id.0 refl in
-      let own : Bool = is_some (handle_of seen.handles id) in
-      let may : Bool = not (is_base_handle setup id) && own && (open_on t.part id == 0) && is_job_close t.part id asked in
-      idle_close (is_base_handle setup id) own (is_job_close t.part id asked) (open_on t.part id) names (not_asked event between may c) e
+  -- a claim that isn't asked has an outcome
+  claim_waits : (handle : List ℕ) (kind : ClaimKind) (o : Option HandleId) → bound_to t.part handle ≡ o → asked ≡ Some (jobs.Claim handle kind) → if_asked t free (claim_if_bound kind o) ≡ None → claim_outcome seen o ≡ None → ⊥
+  claim_waits handle kind None bound is c e = none_some e
+  claim_waits handle kind (Some id) bound is c e = go (is_some (handle_of seen.handles id)) refl e
+    where
+      claims : is_job_claim t.part id kind asked ≡ true
+      claims = ap (is_job_claim t.part id kind) is ∙ and_from (is_the same_handle id (bound_to t.part handle)) (same_kind kind kind) (ap (is_the same_handle id) bound ∙ eq-eqb id.0 id.0 refl) (kind_self kind)
 
-  bound_waits : (handle : List ℕ) (o : Option HandleId) → bound_to t.part handle ≡ o → asked ≡ Some (jobs.Close handle) → if_asked t running (close_if_bound o) ≡ None → close_outcome seen o ≡ None → is_base_if_any t.setup.now o ≡ true
-  bound_waits handle None bound is c e = none_some e
-  bound_waits handle (Some id) bound is c e = close_waits handle id is bound c e
+      go : (own : Bool) → is_some (handle_of seen.handles id) ≡ own → cond own None (Some (outcomes.Errno NoDev)) ≡ None → ⊥
+      go false k e = none_some e
+      go true k e =
+          let may : may_ask t free (events.Claim id kind) ≡ true = and_from (is_some (handle_of seen.handles id)) (is_job_claim t.part id kind asked) k claims in
+          false_true (sym (not_asked (events.Claim id kind) (may_ask t free (events.Claim id kind)) c) ∙ may)
+
+  -- a handle of the thread that the line closes may be closed, where no request is open on it and it is no base handle
+  closes_own : (handle : List ℕ) (id : HandleId) (h : Handle)
+      → bound_to t.part handle ≡ Some id
+      → asked ≡ Some (jobs.Close handle)
+      → handle_of seen.handles id ≡ Some h
+      → is_base_handle t.setup.now id ≡ false
+      → (open_on t.part id == 0) ≡ true
+      → may_close t free h ≡ true
+  closes_own handle id h bound is own unbased idle =
+      let exact : h.id ≡ id = ap (λ (n : ℕ). let i : HandleId = record { 0 = n } in i) (eqb-true h.id.0 id.0 (found_is (λ x. same_handle x.id id) seen.handles h own)) in
+      let may : HandleId → Bool = λ i. closes t.setup.now t.me seen (came_between None false) i in
+      let closable : may id ≡ true =
+      four (not (is_base_handle t.setup.now id)) (is_some (handle_of seen.handles id)) (open_on t.part id == 0) (is_gone t.part id || (as_yet && false) || is_job_close t.part id asked)
+      (ap not unbased) (ap is_some own) idle (or_right (is_gone t.part id || (as_yet && false)) (is_job_close t.part id asked) (ap (is_job_close t.part id) is ∙ ap (is_the same_handle id) bound ∙ eq-eqb id.0 id.0 refl)) in
+      let so : may h.id ≡ true = ap may exact ∙ closable in
+      let on : is_handle_on h.dev (handle_of seen.handles h.id) ≡ true = ap (λ (i : HandleId). is_handle_on h.dev (handle_of seen.handles i)) exact ∙ ap (is_handle_on h.dev) own ∙ eq-eqb h.dev.0 h.dev.0 refl in
+      and_from (may_ask t free (events.PutChannel h.dev true)) (may_ask_after t free (Some (Closing t.me h.dev)) (events.Close h.id))
+      (any_found (λ x. same_handle x.id id) (λ x. same_dev x.dev h.dev && may x.id) seen.handles h own (and_from (same_dev h.dev h.dev) (may h.id) (eq-eqb h.dev.0 h.dev.0 refl) so))
+      (and_from (t.me == t.me) (is_handle_on h.dev (handle_of seen.handles h.id) && may h.id) (eq-eqb t.me t.me refl) (and_from (is_handle_on h.dev (handle_of seen.handles h.id)) (may h.id) on so))
+    where
+      or_right : (a b : Bool) → b ≡ true → a || b ≡ true
+      or_right true b e = refl
+      or_right false b e = e
+
+      four : (a b c d : Bool) → a ≡ true → b ≡ true → c ≡ true → d ≡ true → a && b && c && d ≡ true
+      four true true true true e f g h = refl
+      four false b c d e f g h = e
+      four true false c d e f g h = f
+      four true true false d e f g h = g
+      four true true true false e f g h = h
+
+  -- a close that isn't asked has an outcome, unless its name is bound to a base handle
+  close_waits : (handle : List ℕ) (o : Option HandleId) → bound_to t.part handle ≡ o → asked ≡ Some (jobs.Close handle) → if_closable t free (handle_if_any seen.handles o) ≡ None → close_outcome seen o ≡ None → is_base_if_any t.setup.now o ≡ true
+  close_waits handle None bound is c e = none_some e
+  close_waits handle (Some id) bound is c e = go (handle_of seen.handles id) refl c e
+    where
+      go : (own : Option Handle) → handle_of seen.handles id ≡ own → if_closable t free own ≡ None → cond (is_some own) (busy_outcome (open_on t.part id)) (Some (outcomes.Errno NoDev)) ≡ None → is_base_handle t.setup.now id ≡ true
+      go None k c e = none_some e
+      go (Some h) k c e = based (is_base_handle t.setup.now id) (open_on t.part id == 0) refl refl e
+        where
+          based : (base idle : Bool) → is_base_handle t.setup.now id ≡ base → (open_on t.part id == 0) ≡ idle → cond idle None (Some (outcomes.BusyOpen (open_on t.part id))) ≡ None → base ≡ true
+          based true idle b i e = refl
+          based false false b i e = none_some e
+          based false true b i e = false_true (sym (not_asked h (may_close t free h) c) ∙ closes_own handle id h bound is k b i)
 
   job_waits : (job : Job)
       → asked ≡ Some job
-      → if_asked t running (open_of asked) ≡ None
-      → if_asked t running (close_of t.part asked) ≡ None
+      → if_asked t free (open_of asked) ≡ None
+      → if_closable t free (handle_if_any seen.handles (close_of t.part asked)) ≡ None
+      → if_asked t free (claim_of t.part asked) ≡ None
       → is_submission asked && nat_lt (length t.part.requests) most_requests ≡ false
       → undecided_outcome seen job ≡ None
       → (is_waiting_job t.part job && is_none (undecided_outcome seen job)) || is_unbuilt t.setup.now seen job ≡ true
-  job_waits (jobs.Open handle dev write) is o c s e = absurd (open_waits handle dev write is o e)
-  job_waits (jobs.Close handle) is o c s e =
-      bound_waits handle (bound_to t.part handle) refl is (ap (λ (j : Option Job). if_asked t running (close_of t.part j)) (sym is) ∙ c) e
-  job_waits (jobs.Claim handle kind) is o c s e = refl
-  job_waits (jobs.Submit handle op lba count) is o c s e =
+  job_waits (jobs.Open handle dev write) is o c k s e = absurd (open_waits handle dev write is o e)
+  job_waits (jobs.Close handle) is o c k s e =
+      close_waits handle (bound_to t.part handle) refl is (ap (λ (j : Option Job). if_closable t free (handle_if_any seen.handles (close_of t.part j))) (sym is) ∙ c) e
+  job_waits (jobs.Claim handle kind) is o c k s e =
+      absurd (claim_waits handle kind (bound_to t.part handle) refl is (ap (λ (j : Option Job). if_asked t free (claim_of t.part j)) (sym is) ∙ k) e)
+  job_waits (jobs.Submit handle op lba count) is o c k s e =
       submission_waits (has_range op) (length t.part.requests) most_requests (ap (λ (j : Option Job). is_submission j && nat_lt (length t.part.requests) most_requests) (sym is) ∙ s)
-  job_waits (jobs.Remove dev) is o c s e = refl
-  job_waits jobs.Wait is o c s e = ap (λ (r : Option Outcome). is_none r || false) e
-  job_waits (jobs.Sleep time) is o c s e = none_some e
-  job_waits (jobs.Post mark) is o c s e = none_some e
-  job_waits (jobs.Await mark) is o c s e = ap (λ (r : Option Outcome). is_none r || false) e
-  job_waits (jobs.Gone handle) is o c s e = ap (λ (r : Option Outcome). is_none r || false) e
+  job_waits (jobs.Remove dev) is o c k s e = refl
+  job_waits jobs.Wait is o c k s e = ap (λ (r : Option Outcome). is_none r || false) e
+  job_waits (jobs.Sleep time) is o c k s e = none_some e
+  job_waits (jobs.Post mark) is o c k s e = none_some e
+  job_waits (jobs.Await mark) is o c k s e = ap (λ (r : Option Outcome). is_none r || false) e
+  job_waits (jobs.Gone handle) is o c k s e = ap (λ (r : Option Outcome). is_none r || false) e
 
   -- what is said of the next line, by what decided it
   decided_waits : (line : Line) (decided : Option Decided)
       → next_line t.setup.now t.me t.part ≡ Some line
       → t.part.decided ≡ decided
-      → if_asked t running (open_of asked) ≡ None
-      → if_asked t running (close_of t.part asked) ≡ None
+      → if_asked t free (open_of asked) ≡ None
+      → if_closable t free (handle_if_any seen.handles (close_of t.part asked)) ≡ None
+      → if_asked t free (claim_of t.part asked) ≡ None
       → is_submission asked && nat_lt (length t.part.requests) most_requests ≡ false
       → outcome_by seen decided line.job ≡ None
       → (is_none decided && is_waiting_job t.part line.job && is_none (undecided_outcome seen line.job)) || asks_unbuilt t.setup.now seen (cond (is_none decided) (Some line.job) None) ≡ true
-  decided_waits line None is undecided o c s e =
+  decided_waits line None is undecided o c k s e =
       let asks : asked ≡ Some line.job = ap (λ (d : Option Decided). cond (is_none d) (option_map job_of (next_line t.setup.now t.me t.part)) None) undecided ∙ ap (option_map job_of) is in
-      job_waits line.job asks o c s e
-  decided_waits line (Some d) is decided o c s e = none_some e
+      job_waits line.job asks o c k s e
+  decided_waits line (Some d) is decided o c k s e = none_some e
 
   next_waits : (line : Option Line)
       → next_line t.setup.now t.me t.part ≡ line
-      → if_asked t running (open_of asked) ≡ None
-      → if_asked t running (close_of t.part asked) ≡ None
+      → if_asked t free (open_of asked) ≡ None
+      → if_closable t free (handle_if_any seen.handles (close_of t.part asked)) ≡ None
+      → if_asked t free (claim_of t.part asked) ≡ None
       → is_submission asked && nat_lt (length t.part.requests) most_requests ≡ false
       → option_and_then (λ l. outcome_by seen t.part.decided l.job) line ≡ None
       → is_waiting_line seen line || asks_unbuilt t.setup.now seen (cond (is_none t.part.decided) (option_map job_of line) None) ≡ true
-  next_waits None is o c s e = refl
-  next_waits (Some line) is o c s e = decided_waits line t.part.decided is refl o c s e
+  next_waits None is o c k s e = refl
+  next_waits (Some line) is o c k s e = decided_waits line t.part.decided is refl o c k s e
 
   pub line_waits : NoLine t links → is_line_waiting t links ≡ true
-  line_waits h = go links.shut h.opening h.closing h.submission h.outcome
+  line_waits h = go links.shut links.registry.state.between h.opening h.closing h.claiming h.submission h.outcome
     where
-      go : (shut : Bool)
-          → if_asked t (record links { shut = shut }) (open_of (cond shut None asked)) ≡ None
-          → if_asked t (record links { shut = shut }) (close_of t.part (cond shut None asked)) ≡ None
+      go : (shut : Bool) (between : Option Between)
+          → if_asked t (stood shut between) (open_of (cond shut None asked)) ≡ None
+          → if_closable t (stood shut between) (handle_if_any seen.handles (close_of t.part (cond shut None asked))) ≡ None
+          → if_asked t (stood shut between) (claim_of t.part (cond shut None asked)) ≡ None
           → is_submission (cond shut None asked) && nat_lt (length t.part.requests) most_requests ≡ false
           → cond shut None (outcome_due t.setup.now t.me seen) ≡ None
-          → shut || is_script_blocked t.setup.now t.me seen || asks_unbuilt t.setup.now seen asked ≡ true
-      go true o c s e = refl
-      go false o c s e = next_waits (next_line t.setup.now t.me t.part) refl o c s e
+          → shut || is_some between || is_script_blocked t.setup.now t.me seen || asks_unbuilt t.setup.now seen asked ≡ true
+      go true between o c k s e = refl
+      go false (Some b) o c k s e = refl
+      go false None o c k s e = next_waits (next_line t.setup.now t.me t.part) refl o c k s e
 
 -- ---- what is still to be put
 
@@ -234,6 +308,13 @@ none_due t links h = go t.part.due h
     go [] h = refl
     go (d ∷ ds) h = h (omega arith)
 
+pub none_owed : (t : Thread) (links : Links) → (0 < length t.part.owed → NoDrop t links) → NoDrop t links
+none_owed t links h = go t.part.owed h
+  where
+    go : (os : List Owed) → (0 < length os → if_asked t links (drop_owed os) ≡ None) → if_asked t links (drop_owed os) ≡ None
+    go [] h = refl
+    go (o ∷ os) h = h (omega arith)
+
 -- the first message that is due may go, so far as the rules of where it goes are asked
 first_goes : (setup : Setup) (me : ℕ) (view : View) (d : Due) (ds : List Due) → view.part.due ≡ d ∷ ds → may_go setup me view d.receiver (token_of d.news) ≡ true
 first_goes setup me view d ds due = go d.news refl
@@ -249,12 +330,6 @@ first_goes setup me view d ds due = go d.news refl
     go (news.Channel dev) e = first (news.Channel dev) e
     go (news.Device dev) e = first (news.Device dev) e
     go (news.Go req threads) e = first (news.Go req threads) e
-
-some_same : {X : Type 0} {x y : X} → Some x ≡ Some y → x ≡ y
-some_same e = cc
-
-none_or_some : {X : Type 0} {x : X} {Q : Type 0} → None ≡ Some x → Q
-none_or_some e = cc
 
 -- what may go and isn't put has no queue, or is none that is put
 no_queue : (queue travels goes room : Bool) → queue && travels && goes ≡ false → goes ≡ true → queue && room && travels ≡ false
@@ -278,34 +353,39 @@ due_waits t links x first stays = go t.part.due refl first
 -- ---- the answer of a turn
 
 -- one part of a turn after the other
-pub turn_idle : (o : Thread) (a : Links) (p : Thread) (b : Links) (q : Thread) (d : Links) (r : Thread) (e : Links) (u : Thread) (k : Links) (s : Thread) (f : Links) (n : Thread) (g : Links)
-    → Acted o a p b
+pub turn_idle : (o : Thread) (a : Links) (m : Thread) (z : Links) (p : Thread) (b : Links) (q : Thread) (d : Links) (r : Thread) (e : Links) (u : Thread) (k : Links) (s : Thread) (f : Links) (n : Thread) (g : Links)
+    → Acted o a m z
+    → Acted m z p b
     → Acted p b q d
     → Acted q d r e
     → Acted r e u k
     → Acted u k s f
     → Acted s f n g
-    → Idles NoMessage o a p b
+    → Idles NoMessage o a m z
+    → Idles NoDrop m z p b
     → Idles NoPiece p b q d
     → Idles NoLine q d r e
     → Idles NothingLeft r e u k
     → Idles NothingToSend u k s f
     → Idles NothingToPost s f n g
     → Idles IsWaiting o a n g
-turn_idle o a p b q d r e u k s f n g received served commanded ended sent posted message piece line left outbox mark =
-    let two : Idles (λ t links. NoMessage t links × NoPiece t links) o a q d =
-    idle_then o a p b q d received served (λ no_message no_piece. (no_message, no_piece)) message piece in
-    let two_acted = acted_then o a p b q d received served in
-    let three : Idles (λ t links. NoMessage t links × NoPiece t links × NoLine t links) o a r e =
-    idle_then o a q d r e two_acted commanded (λ so no_line. (so.0, so.1, no_line)) two line in
+turn_idle o a m z p b q d r e u k s f n g received dropped served commanded ended sent posted message drop piece line left outbox due =
+    let one : Idles (λ t links. NoMessage t links × NoDrop t links) o a p b =
+    idle_then o a m z p b received dropped (λ no_message no_drop. (no_message, no_drop)) message drop in
+    let one_acted = acted_then o a m z p b received dropped in
+    let two : Idles (λ t links. NoMessage t links × NoDrop t links × NoPiece t links) o a q d =
+    idle_then o a p b q d one_acted served (λ so no_piece. (so.0, so.1, no_piece)) one piece in
+    let two_acted = acted_then o a p b q d one_acted served in
+    let three : Idles (λ t links. NoMessage t links × NoDrop t links × NoPiece t links × NoLine t links) o a r e =
+    idle_then o a q d r e two_acted commanded (λ so no_line. (so.0, so.1, so.2, no_line)) two line in
     let three_acted = acted_then o a q d r e two_acted commanded in
-    let four : Idles (λ t links. NoMessage t links × NoPiece t links × NoLine t links × NothingLeft t links) o a u k =
-    idle_then o a r e u k three_acted ended (λ so none. (so.0, so.1, so.2, none)) three left in
+    let four : Idles (λ t links. NoMessage t links × NoDrop t links × NoPiece t links × NoLine t links × NothingLeft t links) o a u k =
+    idle_then o a r e u k three_acted ended (λ so none. (so.0, so.1, so.2, so.3, none)) three left in
     let four_acted = acted_then o a r e u k three_acted ended in
-    let five : Idles (λ t links. NoMessage t links × NoPiece t links × NoLine t links × NothingLeft t links × NothingToSend t links) o a s f =
-    idle_then o a u k s f four_acted sent (λ so no_send. (so.0, so.1, so.2, so.3, no_send)) four outbox in
+    let five : Idles (λ t links. NoMessage t links × NoDrop t links × NoPiece t links × NoLine t links × NothingLeft t links × NothingToSend t links) o a s f =
+    idle_then o a u k s f four_acted sent (λ so no_send. (so.0, so.1, so.2, so.3, so.4, no_send)) four outbox in
     idle_then o a s f n g (acted_then o a u k s f four_acted sent) posted
-    (λ so no_post. record { message = so.0; piece = so.1; line = line_waits o a so.2; left = so.3; outbox = so.4; mark = no_post }) five mark
+    (λ so no_post. record { message = so.0; drop = so.1; piece = so.2; line = line_waits o a so.3; left = so.4; outbox = so.5; due = no_post }) five due
 
 pub quiet_by : (o : Thread) (a : Links) (n : Thread) (c : Links) (turned : Turned) → turned ≡ turned_of (length a.entries) (length c.entries) → Idles IsWaiting o a n c → Quiets o a n c turned
 quiet_by o a n c turned e h = subst (Quiets o a n c) (sym e) (go (length a.entries == length c.entries) refl)

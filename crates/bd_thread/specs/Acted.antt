@@ -11,6 +11,7 @@ pub record Acted (old : Thread) (before : Links) (new : Thread) (after : Links) 
   pub me : new.me ≡ old.me
   pub setup : new.setup ≡ old.setup
   pub queues : vec_len after.queues ≡ vec_len before.queues
+  pub rows : after.registry.setup ≡ before.registry.setup
   pub entries : List Entry
   pub added : after.entries ≡ before.entries ++ entries
   pub leads : Leads old.setup.now old.me (local old before) entries (local new after)

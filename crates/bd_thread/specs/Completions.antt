@@ -24,10 +24,12 @@ use Rattle.bd_machine.specs.Same.{same_id, same_request}
 use Rattle.bd_machine.specs.Statuses.{may_be_status}
 use Rattle.bd_machine.specs.View.{View}
 use Rattle.bd_changes.specs.Lone.{lone}
+use Rattle.bd_links.specs.Entries.{longer}
+use Rattle.bd_links.specs.Tokens.{here_in}
 use Rattle.bd_thread.specs.declared.completion.Ending.{Ending}
 use Rattle.bd_thread.specs.declared.links.Links.{Links}
 use Rattle.bd_thread.specs.declared.thread.Thread.{Thread}
-use Rattle.bd_thread.specs.Seen.{here_in, longer, untaken, view_of}
+use Rattle.bd_thread.specs.Seen.{untaken, view_of}
 
 -- ---- the pieces
 

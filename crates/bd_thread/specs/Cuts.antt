@@ -10,9 +10,11 @@ use Rattle.bd_machine.specs.Alone.{held_after}
 use Rattle.bd_machine.specs.BlockMap.{home}
 use Rattle.bd_machine.specs.Kept.{request_here}
 use Rattle.bd_machine.specs.Requests.{cut_into, extents_of, may_cut}
+use Rattle.bd_links.specs.Entries.{longer}
+use Rattle.bd_links.specs.Tokens.{here_in}
 use Rattle.bd_thread.specs.declared.links.Links.{Links}
 use Rattle.bd_thread.specs.declared.thread.Thread.{Thread}
-use Rattle.bd_thread.specs.Seen.{here_in, longer, untaken, view_of}
+use Rattle.bd_thread.specs.Seen.{untaken, view_of}
 
 -- a piece that is still to be put to a thread
 abbrev pub piece_to : ℕ → ReqId → ℕ → ℕ × Token

@@ -4,6 +4,7 @@ pub mod Sent
 pub mod Seen
 pub mod Acted
 pub mod Lines
+pub mod Drops
 pub mod Served
 pub mod Next
 pub mod Requests

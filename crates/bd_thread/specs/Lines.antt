@@ -1,25 +1,35 @@
--- What a line asks of the registry, and what the answer leaves; what a line's end changes, and when it comes.
-use Rattle.std.specs.Prelude.{◌≡◌, Bool, true, false, cond, Option, Some, None}
+-- What a line asks of the registry, and what the answer leaves; what has to follow there at once; what a line's end changes, and when it comes.
+use Rattle.std.specs.Prelude.{◌≡◌, ℕ, Bool, true, false, cond, ◌&&◌, ◌==◌, List, [], ◌∷◌, ◌++◌, length, Option, Some, None}
 use Rattle.bd_base.specs.declared.act.Act.TheVariants as acts
 use Rattle.bd_base.specs.declared.act.Outcome.{Outcome}
 use Rattle.bd_base.specs.declared.event.Answer.{Answer}
+use Rattle.bd_base.specs.declared.event.ClaimKind.{ClaimKind}
 use Rattle.bd_base.specs.declared.event.RegEvent.{RegEvent}
 use Rattle.bd_base.specs.declared.event.RegEvent.TheVariants as events
+use Rattle.bd_base.specs.declared.id.DevId.{DevId}
 use Rattle.bd_base.specs.declared.id.HandleId.{HandleId}
 use Rattle.bd_base.specs.declared.job.Job.{Job}
 use Rattle.bd_base.specs.declared.job.Job.TheVariants as jobs
 use Rattle.bd_base.specs.declared.job.Line.{Line}
+use Rattle.bd_machine.specs.declared.state.Between.{Between}
+use Rattle.bd_machine.specs.declared.state.Between.TheVariants.{Opening, Closing}
+use Rattle.bd_machine.specs.declared.state.Handle.{Handle}
 use Rattle.bd_machine.specs.declared.state.Part.{Part}
 use Rattle.bd_machine.specs.Asked.{asks_event, bound_to, next_line, outcome_due, undecided_job}
 use Rattle.bd_machine.specs.Changes.{registry_after}
 use Rattle.bd_machine.specs.Events.{change_reg}
-use Rattle.bd_machine.specs.Registry.{answer_to}
+use Rattle.bd_base.specs.declared.setup.Setup.{Setup}
+use Rattle.bd_machine.specs.BlockMap.{below}
+use Rattle.bd_machine.specs.Registry.{answer_to, handle_of, made}
+use Rattle.bd_machine.specs.View.{View}
 use Rattle.bd_machine.specs.Scripts.{change_job}
 use Rattle.bd_changes.specs.Lone.{lone}
+use Rattle.bd_registry.specs.State.{Registered, event_row}
 use Rattle.bd_view.specs.Came.{came_between, came_shut}
+use Rattle.bd_links.specs.Entries.{longer, next_stamp}
 use Rattle.bd_thread.specs.declared.links.Links.{Links}
 use Rattle.bd_thread.specs.declared.thread.Thread.{Thread}
-use Rattle.bd_thread.specs.Seen.{longer, untaken, view_of}
+use Rattle.bd_thread.specs.Seen.{untaken, view_of}
 
 -- ---- what a line asks of the registry
 
@@ -32,18 +42,27 @@ abbrev pub open_of : Option Job → Option RegEvent
 open_of (Some (jobs.Open handle dev write)) = Some (events.Open dev write)
 open_of _ = None
 
-abbrev pub close_if_bound : Option HandleId → Option RegEvent
-close_if_bound None = None
-close_if_bound (Some id) = Some (events.Close id)
+abbrev pub claim_if_bound : ClaimKind → Option HandleId → Option RegEvent
+claim_if_bound kind None = None
+claim_if_bound kind (Some id) = Some (events.Claim id kind)
 
--- the close that a line names, where its name is bound
-abbrev pub close_of : Part → Option Job → Option RegEvent
-close_of part (Some (jobs.Close handle)) = close_if_bound (bound_to part handle)
+-- the claim that a line names, where its name is bound
+abbrev pub claim_of : Part → Option Job → Option RegEvent
+claim_of part (Some (jobs.Claim handle kind)) = claim_if_bound kind (bound_to part handle)
+claim_of part _ = None
+
+-- the number of the handle that a line closes, where its name is bound
+abbrev pub close_of : Part → Option Job → Option HandleId
+close_of part (Some (jobs.Close handle)) = bound_to part handle
 close_of part _ = None
+
+-- the rules let the thread ask the event, where this has to follow at the registry
+abbrev pub may_ask_after : Thread → Links → Option Between → RegEvent → Bool
+may_ask_after t links between event = asks_event t.setup.now t.me (view_of t links) (came_between between links.shut) event
 
 -- the rules let the thread ask the event
 abbrev pub may_ask : Thread → Links → RegEvent → Bool
-may_ask t links event = asks_event t.setup.now t.me (view_of t links) (came_between links.registry.between links.shut) event
+may_ask t links event = may_ask_after t links links.registry.state.between event
 
 abbrev pub if_asked : Thread → Links → Option RegEvent → Option RegEvent
 if_asked t links None = None
@@ -53,34 +72,109 @@ if_asked t links (Some event) = cond (may_ask t links event) (Some event) None
 abbrev pub open_asked : Thread → Links → Option RegEvent
 open_asked t links = if_asked t links (open_of (job_now t links))
 
--- the close that the next line asks for, where the thread may ask it
-abbrev pub close_asked : Thread → Links → Option RegEvent
-close_asked t links = if_asked t links (close_of t.part (job_now t links))
+-- the claim that the next line asks for, where the thread may ask it
+abbrev pub claim_asked : Thread → Links → Option RegEvent
+claim_asked t links = if_asked t links (claim_of t.part (job_now t links))
+
+-- the rules let the thread put the handle's channel, and close the handle then
+abbrev pub may_close : Thread → Links → Handle → Bool
+may_close t links h = may_ask t links (events.PutChannel h.dev true) && may_ask_after t links (Some (Closing t.me h.dev)) (events.Close h.id)
+
+abbrev pub if_closable : Thread → Links → Option Handle → Option Handle
+if_closable t links None = None
+if_closable t links (Some h) = cond (may_close t links h) (Some h) None
+
+abbrev pub handle_if_any : List Handle → Option HandleId → Option Handle
+handle_if_any handles None = None
+handle_if_any handles (Some id) = handle_of handles id
+
+-- the handle that the next line closes, where it is open here and the thread may close it
+abbrev pub close_asked : Thread → Links → Option Handle
+close_asked t links = if_closable t links (handle_if_any (view_of t links).handles (close_of t.part (job_now t links)))
+
+-- ---- the answer
+
+-- the channels that a get makes, where the event is one
+abbrev pub made_by : Setup → View → RegEvent → List DevId
+made_by setup v (events.GetChannel dev) = made v.channels (below setup dev)
+made_by setup v _ = []
 
 -- the part of the thread after this answer to an event
 abbrev pub answered : Thread → Links → RegEvent → Answer → Part
 answered t links event answer = untaken (change_reg t.setup.now t.me (view_of t links) (came_shut links.shut) event answer).part
 
+-- the stamp of an event: one above the entries' and the registry's
+abbrev pub event_stamp : Links → ℕ
+event_stamp links = next_stamp (length links.entries) links.registry.last
+
+-- the registry after this answer to an event of the thread, which its journal has
+abbrev pub asked_registry : Thread → Links → RegEvent → Answer → Registered
+asked_registry t links event answer = record {
+  setup = links.registry.setup;
+  journal = links.registry.journal ++ event_row t.me (event_stamp links) event answer ∷ [];
+  last = event_stamp links;
+  state = registry_after t.setup.now links.registry.state t.me (Some (record { event = event; answer = answer }));
+}
+
 -- the registry answered an event: the part and the registry are as the answer leaves them, one Reg has both, and all else stayed
 pub record IsAnswered (event : RegEvent) (old : Thread) (before : Links) (new : Thread) (after : Links) : Type 0 where
   pub answer : Answer
-  pub given : answer_to old.setup.now before.registry old.me event ≡ answer
+  pub given : answer_to old.setup.now before.registry.state old.me event ≡ answer
   pub thread : new ≡ record old { part = answered old before event answer }
   pub links : after ≡ record before {
-    registry = registry_after old.setup.now before.registry old.me (Some (record { event = event; answer = answer }));
+    registry = asked_registry old before event answer;
     entries = longer old.me before.entries (acts.Reg event answer);
   }
+
+-- ---- what has to follow at once
+
+-- the channel that has to follow an open of this thread
+abbrev pub get_due : ℕ → Option Between → Option RegEvent
+get_due me (Some (Opening u dev)) = cond (u == me) (Some (events.GetChannel dev)) None
+get_due me _ = None
+
+-- the close of this handle, where it has to follow a put of this thread
+abbrev pub close_due : HandleId → ℕ → Option Between → Option RegEvent
+close_due id me (Some (Closing u dev)) = cond (u == me) (Some (events.Close id)) None
+close_due id me _ = None
+
+-- where an event is due, the registry answered it; else nothing changes
+abbrev pub Follows : Thread → Links → Thread → Links → Option RegEvent → Type 0
+Follows old before new after None = (new ≡ old) × (after ≡ before)
+Follows old before new after (Some event) = IsAnswered event old before new after
+
+-- the registry answered an event, and then at once what has to follow there
+pub record IsFollowed (event : RegEvent) (due : ℕ → Option Between → Option RegEvent) (old : Thread) (before : Links) (new : Thread) (after : Links) : Type 0 where
+  pub middle : Thread
+  pub shared : Links
+  pub answered : IsAnswered event old before middle shared
+  pub followed : Follows middle shared new after (due middle.me shared.registry.state.between)
+
+-- ---- what a line does by this
 
 -- true where an event is asked, and it was answered; else nothing changes
 abbrev pub AsksBy : Thread → Links → Thread → Links → Bool → Option RegEvent → Type 0
 AsksBy old before new after asked None = (asked ≡ false) × (new ≡ old) × (after ≡ before)
 AsksBy old before new after asked (Some event) = (asked ≡ true) × IsAnswered event old before new after
 
+-- true where an open is asked: it was answered, and where it was granted the thread got its channel; else nothing changes
+abbrev pub OpensBy : Thread → Links → Thread → Links → Bool → Option RegEvent → Type 0
+OpensBy old before new after opened None = (opened ≡ false) × (new ≡ old) × (after ≡ before)
+OpensBy old before new after opened (Some event) = (opened ≡ true) × IsFollowed event get_due old before new after
+
+-- true where a handle is to be closed: its channel was put, and where that was granted it was closed; else nothing changes
+abbrev pub ClosesBy : Thread → Links → Thread → Links → Bool → Option Handle → Type 0
+ClosesBy old before new after closed None = (closed ≡ false) × (new ≡ old) × (after ≡ before)
+ClosesBy old before new after closed (Some h) = (closed ≡ true) × IsFollowed (events.PutChannel h.dev true) (close_due h.id) old before new after
+
 abbrev pub Opens : Thread → Links → Thread → Links → Bool → Type 0
-Opens old before new after asked = AsksBy old before new after asked (open_asked old before)
+Opens old before new after opened = OpensBy old before new after opened (open_asked old before)
 
 abbrev pub Closes : Thread → Links → Thread → Links → Bool → Type 0
-Closes old before new after asked = AsksBy old before new after asked (close_asked old before)
+Closes old before new after closed = ClosesBy old before new after closed (close_asked old before)
+
+abbrev pub Claims : Thread → Links → Thread → Links → Bool → Type 0
+Claims old before new after claimed = AsksBy old before new after claimed (claim_asked old before)
 
 -- ---- a line's end
 

@@ -10,11 +10,11 @@ use Rattle.bd_machine.specs.declared.state.Id.{Id}
 use Rattle.bd_machine.specs.declared.state.Id.TheVariants as ids
 use Rattle.bd_machine.specs.Asked.{no_request}
 use Rattle.bd_machine.specs.Messages.{count_at}
+use Rattle.bd_links.specs.Entries.{longer}
 use Rattle.bd_thread.specs.declared.links.Links.{Links}
 use Rattle.bd_thread.specs.declared.thread.Thread.{Thread}
 use Rattle.bd_thread.specs.declared.turn.Turned.{Turned}
 use Rattle.bd_thread.specs.declared.turn.Turned.TheVariants.{Moved, Quiet}
-use Rattle.bd_thread.specs.Seen.{longer}
 use Rattle.bd_thread.specs.Served.{next_due}
 use Rattle.bd_thread.specs.Waits.{may_send}
 

@@ -21,12 +21,14 @@ use Rattle.bd_machine.specs.Requests.{change_accept, new_request}
 use Rattle.bd_machine.specs.Same.{same_request}
 use Rattle.bd_changes.specs.Lone.{lone}
 use Rattle.bd_view.specs.declared.names.Submission.{Submission}
+use Rattle.bd_links.specs.Entries.{longer}
+use Rattle.bd_links.specs.Tokens.{Sets}
 use Rattle.bd_thread.specs.declared.links.Links.{Links}
 use Rattle.bd_thread.specs.declared.requests.Refused.{Refused}
 use Rattle.bd_thread.specs.declared.requests.Refused.TheVariants as refusals
 use Rattle.bd_thread.specs.declared.thread.Thread.{Thread}
 use Rattle.bd_thread.specs.Acted.{Acted}
-use Rattle.bd_thread.specs.Seen.{Sets, longer, untaken, view_of}
+use Rattle.bd_thread.specs.Seen.{untaken, view_of}
 
 -- ---- what is asked of a thread
 

@@ -9,9 +9,10 @@ use Rattle.bd_machine.specs.BlockMap.{home}
 use Rattle.bd_machine.specs.Same.{same_dev}
 use Rattle.bd_machine.specs.Users.{dev_of}
 use Rattle.bd_turns.specs.declared.queue.Message.{Message}
+use Rattle.bd_links.specs.Entries.{longer}
 use Rattle.bd_thread.specs.declared.links.Links.{Links}
 use Rattle.bd_thread.specs.declared.thread.Thread.{Thread}
-use Rattle.bd_thread.specs.Seen.{longer, view_of}
+use Rattle.bd_thread.specs.Seen.{view_of}
 
 -- no token is on the thread, nothing is still to be put or done, no remove event came, and its last entry took no injection
 abbrev pub rests : Thread → Bool

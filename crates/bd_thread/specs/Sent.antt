@@ -12,11 +12,13 @@ use Rattle.bd_machine.specs.Messages.{brings, closed_notice, count_at, here_with
 use Rattle.bd_machine.specs.View.{Move}
 use Rattle.bd_turns.specs.declared.queue.Message.{Message}
 use Rattle.bd_turns.specs.Tied.{id_next}
+use Rattle.bd_links.specs.Entries.{longer}
+use Rattle.bd_links.specs.Queues.{queues_of}
 use Rattle.bd_thread.specs.declared.links.Links.{Links}
 use Rattle.bd_thread.specs.declared.thread.Thread.{Thread}
-use Rattle.bd_thread.specs.Seen.{local, longer, queues_of}
+use Rattle.bd_thread.specs.Seen.{local}
 
--- the first message, where it brings the token that it names, and that is a piece or a mark: no thread takes others yet
+-- the first message, where it brings the token that it names, and that is a piece, a mark or a channel to be dropped: no thread takes others yet
 abbrev pub first_brought : List Message → Option Message
 first_brought [] = None
 first_brought (m ∷ ms) = cond (is_built_token m.what && brings m.what (Some m.kept)) (Some m) None
@@ -44,7 +46,7 @@ on_way (Some told) here = Some (keeps.Notice told)
 abbrev pub kept_on_way : Token → Option Kept → Option Kept
 kept_on_way what here = on_way (news_of what) here
 
--- there is a queue to this thread, the token is a piece or a mark, and it may go there
+-- there is a queue to this thread, the token is a piece, a mark or a channel to be dropped, and it may go there
 abbrev pub may_put : Thread → Links → ℕ → Token → Bool
 may_put t links to what = nat_lt to (vec_len links.queues) && is_built_token what && may_go t.setup.now t.me (local t links).view to what
 

@@ -1,22 +1,19 @@
 -- Where a thread and the links begin.
-use Rattle.std.specs.Prelude.{◌≡◌, ℕ, false, List, [], replicate}
+use Rattle.std.specs.Prelude.{◌≡◌, ℕ, false, []}
 use Rattle.bd_base.specs.declared.setup.Setup.{Setup}
 use Rattle.bd_machine.specs.Start.{part_at_start, registry_at_start}
+use Rattle.bd_registry.specs.State.{rows_of}
 use Rattle.bd_turns.specs.Laws.{view_at_start, shared_at_start}
 use Rattle.bd_turns.specs.Local.{Local}
-use Rattle.bd_turns.specs.declared.queue.Message.{Message}
+use Rattle.bd_links.specs.Queues.{empty_queues}
 use Rattle.bd_thread.specs.declared.links.Links.{Links}
 use Rattle.bd_thread.specs.declared.thread.Thread.{Thread}
 use Rattle.bd_thread.specs.Seen.{local}
 
--- queues without a message, by how many they are
-abbrev pub empty_queues : ℕ → List (List Message)
-empty_queues threads = replicate threads []
-
 -- an empty queue for each thread, the registry as it is at the start, no entry, and no Shutdown
 pub record IsNewLinks (setup : Setup) (links : Links) : Type 0 where
   pub queues : links.queues.items ≡ empty_queues setup.threads
-  pub registry : links.registry ≡ registry_at_start setup
+  pub registry : links.registry ≡ record { setup = rows_of setup; journal = []; last = 0; state = registry_at_start setup }
   pub entries : links.entries ≡ []
   pub running : links.shut ≡ false
 

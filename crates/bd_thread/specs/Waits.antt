@@ -1,5 +1,5 @@
 -- What a thread waits for where its turn added no entry.
-use Rattle.std.specs.Prelude.{◌≡◌, ℕ, ◌<◌, ◌≤◌, ◌^◌, Bool, true, false, not, ◌&&◌, ◌||◌, nat_le, nat_lt, List, [], ◌∷◌, length, find, vec_len, Option, Some, None, is_some}
+use Rattle.std.specs.Prelude.{◌≡◌, ℕ, ◌<◌, ◌≤◌, ◌^◌, Bool, true, false, not, ◌&&◌, ◌||◌, nat_lt, List, [], ◌∷◌, length, find, vec_len, Option, Some, None, is_some}
 use Rattle.bd_base.specs.declared.act.Token.{Token}
 use Rattle.bd_base.specs.declared.act.Token.TheVariants as tokens
 use Rattle.bd_base.specs.declared.id.DevId.{DevId}
@@ -19,15 +19,16 @@ use Rattle.bd_machine.specs.Homes.{is_base}
 use Rattle.bd_machine.specs.Messages.{may_go}
 use Rattle.bd_machine.specs.Users.{is_base_handle}
 use Rattle.bd_machine.specs.View.{View}
-use Rattle.bd_turns.specs.declared.queue.Message.{Message}
+use Rattle.bd_links.specs.Queues.{is_full, queues_of}
 use Rattle.bd_thread.specs.declared.links.Links.{Links}
 use Rattle.bd_thread.specs.declared.thread.Thread.{Thread}
 use Rattle.bd_thread.specs.declared.turn.Turned.{Turned}
 use Rattle.bd_thread.specs.declared.turn.Turned.TheVariants.{Moved, Quiet}
 use Rattle.bd_thread.specs.Destructs.{may_device_go}
-use Rattle.bd_thread.specs.Endings.{left_over}
-use Rattle.bd_thread.specs.Lines.{close_asked, job_now, open_asked, outcome_now}
-use Rattle.bd_thread.specs.Seen.{local, queues_of, view_of}
+use Rattle.bd_thread.specs.Drops.{NoDrop}
+use Rattle.bd_thread.specs.Endings.{left_on}
+use Rattle.bd_thread.specs.Lines.{claim_asked, close_asked, job_now, open_asked, outcome_now}
+use Rattle.bd_thread.specs.Seen.{local, view_of}
 use Rattle.bd_thread.specs.Sent.{first_brought}
 use Rattle.bd_thread.specs.Served.{next_due}
 
@@ -64,10 +65,11 @@ IsFilled t links = most_requests ≤ length t.part.requests
 abbrev pub NoSubmission : Thread → Links → Type 0
 NoSubmission t links = is_submission (job_now t links) && nat_lt (length t.part.requests) most_requests ≡ false
 
--- no act can be made for the line: nothing can be opened, closed or submitted, and it has no outcome
+-- no act can be made for the line: nothing can be opened, closed, claimed or submitted, and it has no outcome
 pub record NoLine (t : Thread) (links : Links) : Type 0 where
   pub opening : open_asked t links ≡ None
   pub closing : close_asked t links ≡ None
+  pub claiming : claim_asked t links ≡ None
   pub submission : NoSubmission t links
   pub outcome : outcome_now t links ≡ None
 
@@ -75,10 +77,9 @@ abbrev pub is_base_if_any : Setup → Option HandleId → Bool
 is_base_if_any setup None = false
 is_base_if_any setup (Some id) = is_base_handle setup id
 
--- what no thread does yet: a claim, a removal, a reset or an abort; nor does a script close a base handle
+-- what no thread does yet: a removal, a reset or an abort; nor does a script close a base handle
 abbrev pub is_unbuilt : Setup → View → Job → Bool
 is_unbuilt setup v (jobs.Close handle) = is_base_if_any setup (bound_to v.part handle)
-is_unbuilt setup v (jobs.Claim handle kind) = true
 is_unbuilt setup v (jobs.Submit handle op lba count) = not (has_range op)
 is_unbuilt setup v (jobs.Remove dev) = true
 is_unbuilt setup v _ = false
@@ -87,16 +88,24 @@ abbrev pub asks_unbuilt : Setup → View → Option Job → Bool
 asks_unbuilt setup v None = false
 asks_unbuilt setup v (Some job) = is_unbuilt setup v job
 
--- the Shutdown came, the script is at its end or blocked, or its next line asks for what no thread does yet
+-- the Shutdown came, something has to follow at the registry, the script is at its end or blocked, or its next line asks for what no thread does yet
 abbrev pub is_line_waiting : Thread → Links → Bool
 is_line_waiting t links =
-    links.shut || is_script_blocked t.setup.now t.me (view_of t links) || asks_unbuilt t.setup.now (view_of t links) (undecided_job t.setup.now t.me t.part)
+    links.shut || is_some links.registry.state.between || is_script_blocked t.setup.now t.me (view_of t links) || asks_unbuilt t.setup.now (view_of t links) (undecided_job t.setup.now t.me t.part)
 
 -- ---- after Shutdown
 
--- no handle that is left to the thread may be closed
+-- no handle that is left to the thread on a device may be closed
+abbrev pub NoHandleOn : DevId → Thread → Links → Type 0
+NoHandleOn dev t links = left_on dev t links ≡ None
+
+-- nor on any device with a number below this one
+abbrev pub NoHandleBelow : ℕ → Thread → Links → Type 0
+NoHandleBelow n t links = (dev : DevId) → dev.0 < n → NoHandleOn dev t links
+
+-- nor on any device of the setup; their numbers have 32 bits
 abbrev pub NoHandle : Thread → Links → Type 0
-NoHandle t links = left_over t links ≡ None
+NoHandle t links = (dev : DevId) → dev.0 < length t.setup.now.devices → dev.0 < 2 ^ 32 → NoHandleOn dev t links
 
 -- the device may be destructed, and what its entry shows is here
 abbrev pub may_destruct : Thread → Links → DevId → Bool
@@ -119,14 +128,6 @@ pub record NothingLeft (t : Thread) (links : Links) : Type 0 where
 
 -- ---- what is still to be put
 
--- the most messages on their way to one thread
-abbrev pub most_messages : ℕ
-most_messages = 1024
-
--- as many messages are on their way to a thread as may be
-abbrev pub is_full : List (List Message) → ℕ → Bool
-is_full queues to = nat_le most_messages (length (queues_of queues to))
-
 -- there is a queue to the thread, and it isn't full
 abbrev pub has_room : Links → ℕ → Bool
 has_room links to = nat_lt to (vec_len links.queues) && not (is_full links.queues.items to)
@@ -146,7 +147,7 @@ token_of (news.Channel dev) = tokens.Channel dev
 token_of (news.Device dev) = tokens.Device dev
 token_of (news.Go req threads) = tokens.Go req threads
 
--- the first message that is due is a mark, and there is room where it is to go
+-- the first message that is due is a mark or a channel to be dropped, and there is room where it is to go
 abbrev pub may_post : Links → List Due → Bool
 may_post links [] = false
 may_post links (d ∷ ds) = has_room links d.receiver && is_built_token (token_of d.news)
@@ -171,14 +172,15 @@ pub record IsIdle (Waits : Thread → Links → Type 0) (old : Thread) (before :
 abbrev pub Idles : (Thread → Links → Type 0) → Thread → Links → Thread → Links → Type 0
 Idles Waits old before new after = length after.entries ≤ length before.entries → IsIdle Waits old before new after
 
--- all that a thread waits for: a message that it can take, a piece that it can serve on a device whose home it is, a line that can go on, after Shutdown a handle that it can close or a device that it can destruct, and room for the first of its outbox, if that may go there, and for the first message that is due
+-- all that a thread waits for: a message that it can take, a channel that it can drop, a piece that it can serve on a device whose home it is, a line that can go on, after Shutdown a handle that it can close or a device that it can destruct, and room for the first of its outbox, if that may go there, and for the first message that is due
 pub record IsWaiting (t : Thread) (links : Links) : Type 0 where
   pub message : NoMessage t links
+  pub drop : NoDrop t links
   pub piece : NoPiece t links
   pub line : is_line_waiting t links ≡ true
   pub left : NothingLeft t links
   pub outbox : NothingToSend t links
-  pub mark : NothingToPost t links
+  pub due : NothingToPost t links
 
 -- a quiet turn changed nothing, and the thread waits for all this
 abbrev pub Quiets : Thread → Links → Thread → Links → Turned → Type 0

@@ -2,12 +2,13 @@
 ghost use Rattle.std.specs.Prelude.{◌≡◌, length, IfOk, option_copied, Some};
 ghost use Rattle.std.specs.List.{list_all, range_with_len};
 ghost use Rattle.bd_machine.specs.Kept.{pieces_here};
+ghost use Rattle.bd_links.specs.Tokens.{here_in};
 ghost use Rattle.bd_thread.specs.Completions.{ended, ending_cut, ending_of, ends_as, gone, is_ended, read_as, shown_by, shown_of, status_now};
-ghost use Rattle.bd_thread.specs.Seen.{here_in, view_seen};
+ghost use Rattle.bd_thread.specs.Seen.{view_seen};
 
-use crate::held::let_go;
 use crate::view::Seen;
 use bd_base::{Bytes, Op, OutOfMemory, ReqId, Setup, Shown, Status, digest_of};
+use bd_links::let_go;
 use bd_machine::{Id, Kept, OpenPiece, OpenRequest, Progress};
 use bd_rules::{data_read, may_complete, piece_here, request_here, status_due};
 use bd_view::PieceId;

@@ -2,82 +2,76 @@
 //! its devices.
 ghost use Rattle.std.specs.Prelude.{◌≡◌, ◌<◌, vec_len, IfOk, OnOk};
 ghost use Rattle.bd_thread.specs.Acted.{Acted};
-ghost use Rattle.bd_thread.specs.Endings.{first_own, left_over, may_close, owes_nothing, ClosesLeft};
+ghost use Rattle.bd_thread.specs.Endings.{left_on, owes_nothing, ClosesLeft};
 ghost use Rattle.bd_thread.specs.Requests.{KeepsTickets};
-ghost use Rattle.bd_thread.specs.Waits.{Idles, NoDestruct, NoHandle, NothingLeft};
+ghost use Rattle.bd_thread.specs.Waits.{Idles, NoDestruct, NoHandle, NoHandleOn, NothingLeft};
+ghost use Rattle.bd_registry.specs.State.{rows_of};
 
 use crate::links::Links;
 use crate::thread::Thread;
-use bd_base::{DevId, HandleId, OutOfMemory, RegEvent, Setup};
-use bd_blocks::is_base_handle;
+use bd_base::{DevId, OutOfMemory};
 use bd_machine::Handle;
-use bd_view::handle_of;
-
-// The first handle that the thread's script opened: of those that are the thread's, the first that is
-// no base handle.
-fn first_own(setup: &Setup, me: u32, handles: &[Handle]) -> Option<HandleId>
-    ensures { result ≡ first_own setup.now me handles.now }
-{
-    match handles
-        .iter()
-        .find(|h| h.thread.0 == me && !is_base_handle(setup, h.id))
-    {
-        Some(handle) => Some(handle.id),
-        None => None,
-    }
-}
 
 impl<'a> Thread<'a> {
-    // Whether the registry lets the thread close the handle, and the thread may ask for that.
-    fn may_close(&self, links: &Links, id: HandleId) -> bool
-        ensures { result ≡ may_close self.now links.now id }
-    {
-        match handle_of(links.registry.handles.as_slice(), id) {
-            Some(handle) => {
-                handle.thread.0 == self.me && self.may_ask(links, &RegEvent::Close { handle: id })
-            }
-            None => false,
-        }
-    }
-
-    // The first handle of the thread that is left after Shutdown, where it may be closed.
-    fn left_over(&self, links: &Links) -> Option<HandleId>
-        ensures { result ≡ left_over self.now links.now }
+    // The first of the thread's handles on the device that may be closed after Shutdown: no base
+    // handle, and without open requests.
+    fn left_on(&self, links: &Links, dev: DevId) -> Option<Handle>
+        ensures { result ≡ left_on dev self.now links.now }
     {
         if !links.shut {
             return None;
         }
-        let id = first_own(self.setup, self.me, links.registry.handles.as_slice())?;
-        if self.may_close(links, id) {
-            Some(id)
-        } else {
-            None
+        for h in self.handles_of(links, dev) {
+            if h.thread.0 == self.me && h.dev.0 == dev.0 && self.may_close(links, *h) {
+                return Some(*h);
+            }
         }
+        None
     }
 
-    // Closes the first handle that is left after Shutdown.
-    fn close_left(&mut self, links: &mut Links) -> Result<bool, OutOfMemory>
+    // Closes the first handle that is left on the device after Shutdown.
+    fn close_left(&mut self, links: &mut Links, dev: DevId) -> Result<bool, OutOfMemory>
+        requires rows { links.old.registry.setup ≡ rows_of self.old.setup.now }
         ensures acted { OnOk result (Acted self.old links.old self.new links.new) }
         ensures tickets { OnOk result (KeepsTickets self.old → KeepsTickets self.new) }
-        ensures closes { IfOk result (ClosesLeft self.old links.old self.new links.new) }
+        ensures closes { IfOk result (ClosesLeft self.old links.old self.new links.new dev) }
     {
-        let Some(id) = self.left_over(links) else {
+        let Some(handle) = self.left_on(links, dev) else {
             return Ok(false);
         };
-        self.ask(links, RegEvent::Close { handle: id })?;
+        self.put_and_close(links, handle)?;
         Ok(true)
     }
 
+    // Closes the handles that are left on the device.
+    fn close_on(&mut self, links: &mut Links, dev: DevId) -> Result<(), OutOfMemory>
+        requires me { self.old.me < vec_len links.old.queues }
+        requires rows { links.old.registry.setup ≡ rows_of self.old.setup.now }
+        ensures acted { OnOk result (Acted self.old links.old self.new links.new) }
+        ensures tickets { OnOk result (KeepsTickets self.old → KeepsTickets self.new) }
+        ensures quiet { OnOk result (Idles (NoHandleOn dev) self.old links.old self.new links.new) }
+    {
+        let most = self.handles_of(links, dev).len();
+        for _round in 0..most {
+            if !self.close_left(links, dev)? {
+                break;
+            }
+        }
+        Ok(())
+    }
+
     fn close_all_left(&mut self, links: &mut Links) -> Result<(), OutOfMemory>
-        requires { self.old.me < vec_len links.old.queues }
+        requires me { self.old.me < vec_len links.old.queues }
+        requires rows { links.old.registry.setup ≡ rows_of self.old.setup.now }
         ensures acted { OnOk result (Acted self.old links.old self.new links.new) }
         ensures tickets { OnOk result (KeepsTickets self.old → KeepsTickets self.new) }
         ensures quiet { OnOk result (Idles NoHandle self.old links.old self.new links.new) }
     {
-        for _round in 0..links.registry.handles.len() {
-            if !self.close_left(links)? {
-                break;
-            }
+        for place in 0..self.setup.devices.len() {
+            let Ok(dev) = u32::try_from(place) else {
+                return Ok(());
+            };
+            self.close_on(links, DevId(dev))?;
         }
         Ok(())
     }
@@ -104,10 +98,11 @@ impl<'a> Thread<'a> {
         !links.shut && self.part.owed.len() == 0
     }
 
-    /// After Shutdown closes the thread's handles, and then, or where the thread was told to, destructs
-    /// the devices whose home it is, as far as may be.
+    /// After Shutdown puts the channels of the thread's handles and closes them, device by device, and
+    /// then, or where the thread was told to, destructs the devices whose home it is, as far as may be.
     pub(crate) fn end_all(&mut self, links: &mut Links) -> Result<(), OutOfMemory>
-        requires { self.old.me < vec_len links.old.queues }
+        requires me { self.old.me < vec_len links.old.queues }
+        requires rows { links.old.registry.setup ≡ rows_of self.old.setup.now }
         ensures acted { OnOk result (Acted self.old links.old self.new links.new) }
         ensures tickets { OnOk result (KeepsTickets self.old → KeepsTickets self.new) }
         ensures quiet { OnOk result (Idles NothingLeft self.old links.old self.new links.new) }

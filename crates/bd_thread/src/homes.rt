@@ -3,24 +3,25 @@ ghost use Rattle.std.specs.Prelude.{◌≡◌, ◌<◌, IfOk, IfSome, OnOk, find
 ghost use Rattle.std.specs.Option.{option_map};
 ghost use Rattle.bd_machine.specs.BlockMap.{size_of};
 ghost use Rattle.bd_machine.specs.Homes.{is_base, is_home};
+ghost use Rattle.bd_links.specs.Tokens.{here_in};
 ghost use Rattle.bd_thread.specs.Acted.{Acted};
 ghost use Rattle.bd_thread.specs.Destructs.{Destructs};
 ghost use Rattle.bd_thread.specs.Next.{IsNext, id_of};
 ghost use Rattle.bd_thread.specs.Requests.{KeepsTickets};
-ghost use Rattle.bd_thread.specs.Seen.{here_in};
 ghost use Rattle.bd_thread.specs.Sent.{KeepsRequests};
 ghost use Rattle.bd_thread.specs.Served.{next_due, next_in, Applies};
 
-use crate::held::hold;
 use crate::links::Links;
 use crate::thread::Thread;
+use bd_answers::is_out_of_use;
 use bd_base::{Act, ApplyEnd, DevId, OutOfMemory, ReqId};
 use bd_blocks::{digest_due, find_base, is_home, size_of};
 use bd_changes::destructed;
 use bd_home::{can_serve, first_waiting, serve};
+use bd_links::hold;
 use bd_machine::{Base, Id, Kept, OpenPiece};
 use bd_rules::{Release, may_destruct, may_hold};
-use bd_view::{as_piece, is_unused, look_up};
+use bd_view::{as_piece, look_up};
 
 // The piece that a thread serves next, by its name, as it is kept here.
 #[derive(Clone, Copy)]
@@ -84,8 +85,8 @@ impl<'a> Thread<'a> {
     }
 
     /// Destructs a device whose home this is, once: where the thread was told to, or, as yet, after
-    /// Shutdown, when no handle of it is open but base handles. The entry shows for malloc the digest
-    /// of its blocks, and for another device none. False, and nothing changes, where the device may
+    /// Shutdown, when it has neither a channel nor a handle but base handles, and no thread is about
+    /// to get one. The entry shows for malloc the digest of its blocks, and for another device none. False, and nothing changes, where the device may
     /// not go, or it is malloc and its blocks aren't here.
     pub(crate) fn destruct(&mut self, links: &mut Links, dev: DevId) -> Result<bool, OutOfMemory>
         requires { self.old.me < vec_len links.old.queues }
@@ -97,7 +98,7 @@ impl<'a> Thread<'a> {
         let setup = self.setup;
         let came = Release {
             free: true,
-            unused: is_unused(setup, &links.registry, dev),
+            unused: is_out_of_use(setup, &links.registry, dev),
             shut: links.shut,
         };
         if !may_destruct(&self.seen(links), setup, self.me, came, dev) {

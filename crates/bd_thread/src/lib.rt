@@ -2,8 +2,8 @@
 #![tactic(auto)]
 
 mod completion;
+mod drops;
 mod ending;
-mod held;
 mod homes;
 pub mod law;
 mod lines;
@@ -16,7 +16,7 @@ mod thread;
 mod turn;
 mod view;
 
-pub use links::{Links, Queue};
+pub use links::Links;
 pub use requests::Refused;
 pub use thread::Thread;
 pub use turn::Turned;

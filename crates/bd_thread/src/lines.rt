@@ -1,39 +1,49 @@
-//! The lines of a thread's script: opens, closes, and each line's end.
-ghost use Rattle.std.specs.Prelude.{◌≡◌, ◌<◌, ℕ, true, vec_len, IfOk, OnOk};
+//! The lines of a thread's script: opens with their channels, closes with their puts, claims, and each
+//! line's end.
+ghost use Rattle.std.specs.Prelude.{◌≡◌, ◌<◌, true, vec_len, IfOk, IfSome, OnOk};
 ghost use Rattle.bd_machine.specs.Events.{change_reg};
 ghost use Rattle.bd_machine.specs.Guards.{is_built_event};
-ghost use Rattle.bd_changes.specs.Lone.{lone};
+ghost use Rattle.bd_machine.specs.View.{View};
+ghost use Rattle.bd_registry.specs.State.{rows_of};
 ghost use Rattle.bd_view.specs.Came.{came_shut};
 ghost use Rattle.bd_thread.specs.Acted.{Acted};
-ghost use Rattle.bd_thread.specs.Lines.{may_ask, Closes, EndsLine, IsAnswered, Opens};
+ghost use Rattle.bd_thread.specs.Lines.{close_asked, close_due, get_due, made_by, may_ask, may_ask_after, may_close, Claims, Closes, EndsLine, Follows, IsAnswered, IsFollowed, Opens};
 ghost use Rattle.bd_thread.specs.Requests.{KeepsTickets};
+ghost use Rattle.bd_thread.specs.Seen.{view_of};
+ghost use Rattle.bd_base.specs.declared.event.RegEvent.TheVariants as events;
 
 use crate::links::Links;
 use crate::thread::Thread;
-use bd_answers::answer_to;
+use bd_answers::made;
 use bd_asked::{asks_event, bound_to, next_line, outcome_of, undecided_job};
-use bd_base::{Act, Answer, Job, OutOfMemory, RegEvent, Setup};
-use bd_changes::{closed, decide, line_done, register};
-use bd_machine::Part;
+use bd_base::{Act, Answer, DevId, DevList, HandleId, Job, OutOfMemory, RegEvent, Rows};
+use bd_changes::{closed, decide, line_done};
+use bd_events::{dropped, got, put_down};
+use bd_links::next_stamp;
+use bd_machine::{Between, Handle};
+use bd_view::{Records, Sees};
 
-// The part as this answer to an open or a close leaves it.
-fn answered(
-    part: &mut Part,
-    setup: &Setup,
-    shut: bool,
-    event: &RegEvent,
-    answer: &Answer,
-) -> Result<(), OutOfMemory>
-    requires { is_built_event event.now ≡ true }
-    ensures { OnOk result ((t : ℕ) → part.new ≡ (change_reg setup.now t (lone part.old) (came_shut shut) event.now answer.now).part) }
+// The channel that has to follow an open of this thread.
+fn get_due(me: u32, between: Option<Between>) -> Option<RegEvent>
+    ensures { result ≡ get_due me between }
 {
-    match event {
-        RegEvent::Open { .. } => {
-            decide(part, shut, answer);
-            Ok(())
+    match between {
+        Some(Between::Opening { thread, dev }) if thread == me => {
+            Some(RegEvent::GetChannel { dev })
         }
-        RegEvent::Close { handle } => closed(part, setup, shut, *handle, answer),
-        _ => unreachable!(),
+        _ => None,
+    }
+}
+
+// The close of the handle, where it has to follow a put of this thread.
+fn close_due(handle: HandleId, me: u32, between: Option<Between>) -> Option<RegEvent>
+    ensures { result ≡ close_due handle me between }
+{
+    match between {
+        Some(Between::Closing { thread, dev: _ }) if thread == me => {
+            Some(RegEvent::Close { handle })
+        }
+        _ => None,
     }
 }
 
@@ -72,7 +82,13 @@ impl<'a> Thread<'a> {
     pub(crate) fn may_ask(&self, links: &Links, event: &RegEvent) -> bool
         ensures { result ≡ may_ask self.now links.now event.now }
     {
-        let between = links.registry.between;
+        self.may_ask_after(links, links.registry.between(), event)
+    }
+
+    // Whether the rules let the thread ask the event, where this has to follow at the registry.
+    fn may_ask_after(&self, links: &Links, between: Option<Between>, event: &RegEvent) -> bool
+        ensures { result ≡ may_ask_after self.now links.now between event.now }
+    {
         asks_event(
             &self.seen(links),
             self.setup,
@@ -83,33 +99,91 @@ impl<'a> Thread<'a> {
         )
     }
 
-    // The registry answers an open or a close, and the part is as the answer leaves it.
+    // The channels that a get makes on the thread; none for another event.
+    fn made_by(&self, links: &Links, event: &RegEvent) -> Result<DevList, OutOfMemory>
+        ensures { IfOk result (λ devs. devs ≡ made_by self.now.setup.now (view_of self.now links.now) event.now) }
+    {
+        match event {
+            RegEvent::GetChannel { dev } => {
+                made(self.alloc, self.setup, &links.registry, self.me, *dev)
+            }
+            _ => Ok(Rows::new(self.alloc)),
+        }
+    }
+
+    // The part is as this answer to an event leaves it, which makes these channels where it is a get.
+    fn answered(
+        &mut self,
+        shut: bool,
+        made: &[DevId],
+        event: &RegEvent,
+        answer: &Answer,
+    ) -> Result<(), OutOfMemory>
+        requires { is_built_event event.now ≡ true }
+        ensures { OnOk result ((v : View) → v.part ≡ self.old.part → made.now ≡ made_by self.old.setup.now v event.now
+            → self.new ≡ record self.old { part = (change_reg self.old.setup.now self.old.me v (came_shut shut) event.now answer.now).part }) }
+    {
+        let setup = self.setup;
+        let me = self.me;
+        match event {
+            RegEvent::Open { .. } | RegEvent::Claim { .. } => {
+                decide(&mut self.part, shut, answer);
+                Ok(())
+            }
+            RegEvent::Close { handle } => closed(&mut self.part, setup, shut, *handle, answer),
+            RegEvent::GetChannel { .. } => match answer {
+                Answer::Got { frozen, .. } => got(&mut self.part, frozen.as_slice(), made),
+                _ => Ok(()),
+            },
+            RegEvent::PutChannel { dev, closing } => {
+                put_down(&mut self.part, me, *dev, *closing, answer)
+            }
+            RegEvent::DropChannel { dev } => dropped(&mut self.part, setup, me, *dev, answer),
+            _ => unreachable!(),
+        }
+    }
+
+    // The registry answers an event, and the part is as the answer leaves it. Where stamps run out it
+    // answers out of memory.
     pub(crate) fn ask(&mut self, links: &mut Links, event: RegEvent) -> Result<(), OutOfMemory>
         requires built { is_built_event event ≡ true }
         requires asked { may_ask self.old links.old event ≡ true }
+        requires rows { links.old.registry.setup ≡ rows_of self.old.setup.now }
         ensures acted { OnOk result (Acted self.old links.old self.new links.new) }
         ensures tickets { OnOk result (KeepsTickets self.old → KeepsTickets self.new) }
         ensures answered { OnOk result (IsAnswered event self.old links.old self.new links.new) }
     {
-        let setup = self.setup;
-        let answer = answer_to(self.alloc, setup, &links.registry, self.me, &event)?;
-        answered(&mut self.part, setup, links.shut, &event, &answer)?;
-        register(
-            self.alloc,
-            setup,
-            &mut links.registry,
-            self.me,
-            &event,
-            &answer,
-        )?;
+        let Some(stamp) = next_stamp(&links.entries, links.registry.last_stamp()) else {
+            return Err(OutOfMemory);
+        };
+        let made = self.made_by(links, &event)?;
+        let answer = links.registry.event(self.alloc, self.me, stamp, &event)?;
+        self.answered(links.shut, made.as_slice(), &event, &answer)?;
         self.note(links, Act::Reg { event, answer })?;
         Ok(())
     }
 
+    // Asks at once for what has to follow, where anything has.
+    fn follow(&mut self, links: &mut Links, due: Option<RegEvent>) -> Result<(), OutOfMemory>
+        requires built { IfSome due (λ event. is_built_event event ≡ true) }
+        requires asked { IfSome due (λ event. may_ask self.old links.old event ≡ true) }
+        requires rows { links.old.registry.setup ≡ rows_of self.old.setup.now }
+        ensures acted { OnOk result (Acted self.old links.old self.new links.new) }
+        ensures tickets { OnOk result (KeepsTickets self.old → KeepsTickets self.new) }
+        ensures follows { OnOk result (Follows self.old links.old self.new links.new due) }
+    {
+        if let Some(event) = due {
+            self.ask(links, event)?;
+        }
+        Ok(())
+    }
+
     /// Opens the device that the next line names, where it asks for that and the rules let it: true,
-    /// and the registry's answer decides the line. Else, or after Shutdown, nothing changes.
+    /// the registry's answer decides the line, and a device that was opened gives the thread its
+    /// channel at once. Else, or after Shutdown, nothing changes.
     pub(crate) fn open(&mut self, links: &mut Links) -> Result<bool, OutOfMemory>
         requires me { self.old.me < vec_len links.old.queues }
+        requires rows { links.old.registry.setup ≡ rows_of self.old.setup.now }
         ensures acted { OnOk result (Acted self.old links.old self.new links.new) }
         ensures tickets { OnOk result (KeepsTickets self.old → KeepsTickets self.new) }
         ensures opened { IfOk result (Opens self.old links.old self.new links.new) }
@@ -129,28 +203,103 @@ impl<'a> Thread<'a> {
             return Ok(false);
         }
         self.ask(links, event)?;
+        let due = get_due(self.me, links.registry.between());
+        self.follow(links, due)?;
         Ok(true)
     }
 
+    // Whether the rules let the thread put the handle's channel, and close it then.
+    pub(crate) fn may_close(&self, links: &Links, handle: Handle) -> bool
+        ensures { result ≡ may_close self.now links.now handle }
+    {
+        let dev = handle.dev;
+        let after = Some(Between::Closing {
+            thread: self.me,
+            dev,
+        });
+        self.may_ask(links, &RegEvent::PutChannel { dev, closing: true })
+            && self.may_ask_after(links, after, &RegEvent::Close { handle: handle.id })
+    }
+
+    // Puts the channel of a handle, and where that was granted closes the handle at once.
+    pub(crate) fn put_and_close(
+        &mut self,
+        links: &mut Links,
+        handle: Handle,
+    ) -> Result<(), OutOfMemory>
+        requires may { may_close self.old links.old handle ≡ true }
+        requires rows { links.old.registry.setup ≡ rows_of self.old.setup.now }
+        ensures acted { OnOk result (Acted self.old links.old self.new links.new) }
+        ensures tickets { OnOk result (KeepsTickets self.old → KeepsTickets self.new) }
+        ensures closed { OnOk result (IsFollowed (events.PutChannel handle.dev true) (close_due handle.id) self.old links.old self.new links.new) }
+    {
+        let dev = handle.dev;
+        self.ask(links, RegEvent::PutChannel { dev, closing: true })?;
+        let due = close_due(handle.id, self.me, links.registry.between());
+        self.follow(links, due)
+    }
+
+    // The handle that the next line closes, where it asks for that, the name is bound to a handle that
+    // is open here, and the thread may close it. None after Shutdown.
+    fn closing(&self, links: &Links) -> Option<Handle>
+        ensures { result ≡ close_asked self.now links.now }
+    {
+        if links.shut {
+            return None;
+        }
+        let Job::Close { handle } = undecided_job(self.setup, self.me, &self.part)? else {
+            return None;
+        };
+        let handle = self.seen(links).handle(bound_to(&self.part, handle)?)?;
+        if self.may_close(links, handle) {
+            Some(handle)
+        } else {
+            None
+        }
+    }
+
     /// Closes the handle that the next line names, where it asks for that, the name is bound and the
-    /// rules let it (no request is open on the handle): true, and the registry's answer decides the
-    /// line. Else, or after Shutdown, nothing changes.
+    /// rules let it (no request is open on the handle): true, its channel is put, and the registry's
+    /// answer to the close that follows at once decides the line. Else, or after Shutdown, nothing
+    /// changes.
     pub(crate) fn close(&mut self, links: &mut Links) -> Result<bool, OutOfMemory>
         requires me { self.old.me < vec_len links.old.queues }
+        requires rows { links.old.registry.setup ≡ rows_of self.old.setup.now }
         ensures acted { OnOk result (Acted self.old links.old self.new links.new) }
         ensures tickets { OnOk result (KeepsTickets self.old → KeepsTickets self.new) }
         ensures closed { IfOk result (Closes self.old links.old self.new links.new) }
     {
+        let Some(handle) = self.closing(links) else {
+            return Ok(false);
+        };
+        self.put_and_close(links, handle)?;
+        Ok(true)
+    }
+
+    /// Claims the handle that the next line names, where it asks for that, the name is bound and the
+    /// rules let it: true, and the registry's answer decides the line. Else, or after Shutdown, nothing
+    /// changes.
+    pub(crate) fn claim(&mut self, links: &mut Links) -> Result<bool, OutOfMemory>
+        requires me { self.old.me < vec_len links.old.queues }
+        requires rows { links.old.registry.setup ≡ rows_of self.old.setup.now }
+        ensures acted { OnOk result (Acted self.old links.old self.new links.new) }
+        ensures tickets { OnOk result (KeepsTickets self.old → KeepsTickets self.new) }
+        ensures claimed { IfOk result (Claims self.old links.old self.new links.new) }
+    {
         if links.shut {
             return Ok(false);
         }
-        let Some(Job::Close { handle }) = undecided_job(self.setup, self.me, &self.part) else {
+        let Some(Job::Claim { handle, kind }) = undecided_job(self.setup, self.me, &self.part)
+        else {
             return Ok(false);
         };
         let Some(id) = bound_to(&self.part, handle) else {
             return Ok(false);
         };
-        let event = RegEvent::Close { handle: id };
+        let event = RegEvent::Claim {
+            handle: id,
+            kind: *kind,
+        };
         if !self.may_ask(links, &event) {
             return Ok(false);
         }

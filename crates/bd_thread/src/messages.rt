@@ -2,28 +2,34 @@
 ghost use Rattle.std.specs.Prelude.{◌≡◌, ◌<◌, true, is_some, length, vec_len, IfOk, OnOk, Some, None};
 ghost use Rattle.bd_machine.specs.Alone.{held_after};
 ghost use Rattle.bd_machine.specs.Guards.{is_built_token};
+ghost use Rattle.bd_links.specs.Queues.{queues_of};
+ghost use Rattle.bd_links.specs.Tokens.{here_in, Sets};
 ghost use Rattle.bd_thread.specs.Acted.{Acted};
 ghost use Rattle.bd_thread.specs.Requests.{KeepsTickets};
-ghost use Rattle.bd_thread.specs.Seen.{here_in, queues_of, Sets};
 ghost use Rattle.bd_thread.specs.Sent.{first_brought, kept_on_way, landed, may_put, KeepsRequests, Puts, Takes};
 
-use crate::held::{hold, let_go, take_out};
-use crate::links::{Links, Queue, pop, push};
+use crate::links::Links;
 use crate::thread::Thread;
 use bd_base::{Act, OutOfMemory, Token};
 use bd_changes::{arrived, news_of, progress_took, sent, took};
+use bd_links::{Queue, hold, let_go, pop, push, take_out};
 use bd_machine::{Id, Kept};
 use bd_rules::{brings, count_at, id_of, may_go};
 use bd_turns::Message;
 
-// Whether it is a piece or a mark: threads put and take no other tokens yet.
+// Whether it is a piece, a mark or a channel to be dropped: threads put and take no other tokens
+// yet.
 fn is_built_token(what: &Token) -> bool
     ensures { result ≡ is_built_token what.now }
 {
-    matches!(what, Token::Piece(_, _) | Token::Mark(_))
+    matches!(
+        what,
+        Token::Piece(_, _) | Token::Mark(_) | Token::Channel(_)
+    )
 }
 
-// Whether the first message to the thread brings the token that it names, a piece or a mark.
+// Whether the first message to the thread brings the token that it names: a piece, a mark or a
+// channel to be dropped.
 fn may_take(queues: &[Queue], me: usize) -> bool
     requires { me < length queues.now }
     ensures { result ≡ is_some (first_brought (queues_of queues.now me)) }
@@ -86,7 +92,8 @@ fn copy_of(what: &Token) -> Result<Token, OutOfMemory>
 }
 
 impl<'a> Thread<'a> {
-    /// Takes the first message, where it brings the token that it names, a piece or a mark.
+    /// Takes the first message, where it brings the token that it names: a piece, a mark or a channel
+    /// to be dropped. None, and nothing changes, where it doesn't, or there is none.
     pub(crate) fn take(&mut self, links: &mut Links) -> Result<Option<Id>, OutOfMemory>
         requires { self.old.me < vec_len links.old.queues }
         ensures acted { OnOk result (Acted self.old links.old self.new links.new) }
@@ -125,7 +132,8 @@ impl<'a> Thread<'a> {
         Ok(Some(id))
     }
 
-    /// Whether there is a queue to the thread, and the token, a piece or a mark, may go there.
+    /// Whether there is a queue to the thread, and the token (a piece, a mark or a channel to be
+    /// dropped) may go there.
     pub(crate) fn may_put(&self, links: &Links, to: u32, what: &Token) -> bool
         ensures { result ≡ may_put self.now links.now to what.now }
     {
@@ -134,8 +142,8 @@ impl<'a> Thread<'a> {
             && may_go(&self.seen(links), self.setup, self.me, to, what)
     }
 
-    /// Puts a token last in the queue to the thread, where it may go there: a piece that is here,
-    /// or a mark that is due to that thread.
+    /// Puts a token last in the queue to the thread, where it may go there: a piece that is here, or
+    /// a mark or a channel to be dropped that is due to that thread. Else nothing changes.
     pub(crate) fn put(
         &mut self,
         links: &mut Links,

@@ -2,12 +2,12 @@
 ghost use Rattle.std.specs.Prelude.{◌≡◌, ◌++◌, OnOk};
 ghost use Rattle.bd_machine.specs.Alone.{held_after};
 ghost use Rattle.bd_machine.specs.Requests.{pieces_made};
+ghost use Rattle.bd_links.specs.Tokens.{here_in};
 ghost use Rattle.bd_thread.specs.Cuts.{pieces_to};
-ghost use Rattle.bd_thread.specs.Seen.{here_in};
 
-use crate::held::hold;
 use bd_base::{OutOfMemory, ReqId, Setup, Token};
 use bd_blocks::new_piece;
+use bd_links::hold;
 use bd_machine::{Extent, Id, Kept, OpenRequest};
 use std::collections::VecDeque;
 

@@ -12,7 +12,6 @@ ghost use Rattle.bd_thread.specs.Requests.{refusal, IsAccepted, IsAsked, IsFresh
 ghost use Rattle.bd_thread.specs.Seen.{number_of, view_of};
 
 use crate::completion::{Ending, drop_request, ending_of};
-use crate::held::hold;
 use crate::links::Links;
 use crate::pieces::{hold_pieces, send_pieces};
 use crate::thread::Thread;
@@ -20,6 +19,7 @@ use bd_asked::{MOST_REQUESTS, next_line};
 use bd_base::{Act, DevId, Errno, HandleId, OutOfMemory, ReqId, Rows, Status};
 use bd_blocks::{extents, home};
 use bd_changes::{accepted, completed};
+use bd_links::hold;
 use bd_machine::{Decided, Extent, Id, Kept, Open, OpenRequest};
 use bd_msg::{Purse, Ticket};
 use bd_rules::{admit, new_request, uncut};

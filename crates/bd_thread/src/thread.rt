@@ -1,12 +1,14 @@
 //! A thread: what it holds.
 ghost use Rattle.std.specs.Prelude.{◌≡◌, IfOk, OnOk};
+ghost use Rattle.bd_links.specs.Entries.{longer};
 ghost use Rattle.bd_thread.specs.Requests.{KeepsTickets};
-ghost use Rattle.bd_thread.specs.Seen.{longer, untaken};
+ghost use Rattle.bd_thread.specs.Seen.{untaken};
 ghost use Rattle.bd_thread.specs.Starts.{IsNew};
 
-use crate::links::{Links, add};
+use crate::links::Links;
 use bd_base::{Act, OutOfMemory, Setup, Token};
 use bd_blocks::part_at_start;
+use bd_links::add;
 use bd_machine::{Id, Kept, Part};
 use bd_msg::Purse;
 use std::alloc::Global;

@@ -1,16 +1,18 @@
 //! A thread's turn: messages, the work of its stores, the script, and what is still to be put.
 ghost use Rattle.std.specs.Prelude.{◌≡◌, ◌+◌, ◌<◌, ◌≤◌, Some, true, vec_len, IfOk, IfSome, OnOk};
 ghost use Rattle.bd_thread.specs.Acted.{Acted};
-ghost use Rattle.bd_thread.specs.Seen.{number_of};
+ghost use Rattle.bd_thread.specs.Seen.{number_of, setup_of};
 ghost use Rattle.bd_thread.specs.Requests.{IsAsked, IsFresh, KeepsTickets};
 ghost use Rattle.bd_thread.specs.Moves.{turned_of, AddsMore, IsNextTicket, SendsFirst, Serves};
 ghost use Rattle.bd_thread.specs.Waits.{first_due, may_send, token_of, Idles, IsFilled, NoLine, NoMessage, NoPiece, NoPieceOn, NoSubmission, NothingToPost, NothingToSend, Quiets};
+ghost use Rattle.bd_registry.specs.State.{rows_of};
 
-use crate::links::{Links, is_full};
+use crate::links::Links;
 use crate::requests::Refused;
 use crate::thread::Thread;
 use bd_asked::{MOST_REQUESTS, bound_to, undecided_job};
 use bd_base::{DevId, Errno, HandleId, Job, OutOfMemory, ReqId, ThreadId, Token};
+use bd_links::is_full;
 use bd_machine::{Id, News};
 use bd_msg::{Mint, Ticket};
 use bd_rules::has_range;
@@ -218,19 +220,22 @@ impl<'a> Thread<'a> {
 
     // Does the next line, as far as it goes on.
     fn command(&mut self, links: &mut Links) -> Result<bool, OutOfMemory>
-        requires { self.old.me < vec_len links.old.queues }
+        requires me { self.old.me < vec_len links.old.queues }
+        requires rows { links.old.registry.setup ≡ rows_of self.old.setup.now }
         ensures acted { OnOk result (Acted self.old links.old self.new links.new) }
         ensures tickets { OnOk result (KeepsTickets self.old → KeepsTickets self.new) }
         ensures quiet { OnOk result (Idles NoLine self.old links.old self.new links.new) }
     {
         self.open(links)?;
         self.close(links)?;
+        self.claim(links)?;
         self.submit_line(links)?;
         self.end_line(links)
     }
 
     fn command_all(&mut self, links: &mut Links) -> Result<(), OutOfMemory>
-        requires { self.old.me < vec_len links.old.queues }
+        requires me { self.old.me < vec_len links.old.queues }
+        requires rows { links.old.registry.setup ≡ rows_of self.old.setup.now }
         ensures acted { OnOk result (Acted self.old links.old self.new links.new) }
         ensures tickets { OnOk result (KeepsTickets self.old → KeepsTickets self.new) }
         ensures quiet { OnOk result (Idles NoLine self.old links.old self.new links.new) }
@@ -286,8 +291,8 @@ impl<'a> Thread<'a> {
         }
     }
 
-    // Puts the first message that is due on its way, where it is a mark, unless the queue that it
-    // goes to is full.
+    // Puts the first message that is due on its way, where it is a mark or a channel to be dropped,
+    // unless the queue that it goes to is full.
     fn put_due(&mut self, links: &mut Links) -> Result<bool, OutOfMemory>
         requires { self.old.me < vec_len links.old.queues }
         ensures acted { OnOk result (Acted self.old links.old self.new links.new) }
@@ -317,7 +322,7 @@ impl<'a> Thread<'a> {
         Ok(())
     }
 
-    fn put_marks(&mut self, links: &mut Links) -> Result<(), OutOfMemory>
+    fn put_all_due(&mut self, links: &mut Links) -> Result<(), OutOfMemory>
         requires { self.old.me < vec_len links.old.queues }
         ensures acted { OnOk result (Acted self.old links.old self.new links.new) }
         ensures tickets { OnOk result (KeepsTickets self.old → KeepsTickets self.new) }
@@ -331,13 +336,14 @@ impl<'a> Thread<'a> {
         Ok(())
     }
 
-    /// A turn: at most 8 messages, at most 8 pieces of each store, at most 8 lines of the script (after
+    /// A turn: at most 8 messages, the channels that are to be dropped, at most 8 pieces of each store, at most 8 lines of the script (after
     /// Shutdown the closes and destructs that are left, in their place), and what is still to be put,
     /// until the queue that it goes to is full. `Quiet` only where none of this could be done. It answers
     /// out of memory also where a number runs out: after 2^62 requests of the thread, or where a count
     /// of messages, handles, pieces or lines would pass its type.
     pub fn turn(&mut self, links: &mut Links) -> Result<Turned, OutOfMemory>
-        requires { number_of self.old < vec_len links.old.queues }
+        requires me { number_of self.old < vec_len links.old.queues }
+        requires rows { links.old.registry.setup ≡ rows_of (setup_of self.old) }
         ensures acted { OnOk result (Acted self.old links.old self.new links.new) }
         ensures tickets { OnOk result (KeepsTickets self.old → KeepsTickets self.new) }
         ensures turned { IfOk result (AddsMore links.old links.new) }
@@ -345,11 +351,12 @@ impl<'a> Thread<'a> {
     {
         let before = links.entries.len();
         self.receive_all(links)?;
+        self.drop_all(links)?;
         self.serve_all(links)?;
         self.command_all(links)?;
         self.end_all(links)?;
         self.put_outbox(links)?;
-        self.put_marks(links)?;
+        self.put_all_due(links)?;
         Ok(tell(before, links.entries.len()))
     }
 }

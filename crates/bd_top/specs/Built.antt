@@ -7,10 +7,11 @@ use Rattle.bd_base.specs.declared.job.Line.{Line}
 use Rattle.bd_base.specs.declared.job.Script.{Script}
 use Rattle.bd_machine.specs.Admission.{has_range}
 
--- the command is carried out: it opens, closes, submits on a range, waits, posts or awaits a mark
+-- the command is carried out: it opens, closes, claims, submits on a range, waits, posts or awaits a mark
 abbrev pub is_built_job : Job → Bool
 is_built_job (jobs.Open handle dev write) = true
 is_built_job (jobs.Close handle) = true
+is_built_job (jobs.Claim handle kind) = true
 is_built_job (jobs.Submit handle op lba count) = has_range op
 is_built_job jobs.Wait = true
 is_built_job (jobs.Post mark) = true

@@ -44,7 +44,7 @@ AreCompletedOnce trace = (r : ReqId) → IsCompletedOnce r trace
 abbrev pub AreDestructedOnce : Setup → List Entry → Type 0
 AreDestructedOnce setup trace = (n : ℕ) → n < length setup.devices → count_of (is_destruct_of (dev_of n)) trace ≡ 1
 
--- where a device is destructed, it was closed for the last time before
+-- where a device is destructed, its last close and put came before
 abbrev pub AreAfterLastClose : Setup → List Entry → Type 0
 AreAfterLastClose setup trace = (dev : DevId) (before : List Entry) (e : Entry) (after : List Entry)
     → trace ≡ before ++ e ∷ after → is_destruct_of dev e.act ≡ true → IsAfterLastClose setup [] dev before after

@@ -18,9 +18,14 @@ fn is_built_job(job: &Job) -> bool
     ensures { result ≡ is_built_job job.now }
 {
     match job {
-        Job::Open { .. } | Job::Close { .. } | Job::Wait | Job::Post(_) | Job::Await(_) => true,
+        Job::Open { .. }
+        | Job::Close { .. }
+        | Job::Claim { .. }
+        | Job::Wait
+        | Job::Post(_)
+        | Job::Await(_) => true,
         Job::Submit { op, .. } => has_range(op),
-        Job::Claim { .. } | Job::Remove { .. } | Job::Sleep(_) | Job::Gone { .. } => false,
+        Job::Remove { .. } | Job::Sleep(_) | Job::Gone { .. } => false,
     }
 }
 

@@ -11,8 +11,6 @@ mod delay;
 #[cfg(test)]
 mod error;
 #[cfg(test)]
-mod iodev;
-#[cfg(test)]
 mod jobs;
 #[cfg(test)]
 mod msg;

@@ -45,19 +45,20 @@ two_threads = record {
 abbrev turns : List Entry
 turns =
     at 1 1 (acts.Reg (events.Open (codes "Null0") true) (answers.Opened (handle 0) (dev 0))) ∷
-    at 2 1 (acts.Script 1 outcomes.Done) ∷
-    at 3 1 (acts.Accept (req 1 0) (dev 0) (handle 0) (write 5) 0 1) ∷
-    at 4 1 (acts.Script 2 (outcomes.Accepted (req 1 0))) ∷
-    at 5 1 (acts.Cut (req 1 0) 1) ∷
-    at 6 1 (acts.Put 0 0 (tokens.Piece (req 1 0) 0)) ∷
-    at 7 1 (acts.Script 3 outcomes.Done) ∷
-    at 8 1 (acts.Put 0 1 (tokens.Mark (codes "x"))) ∷
-    at 9 0 (acts.Took 1 0 (tokens.Piece (req 1 0) 0)) ∷
-    at 10 0 (acts.Apply (req 1 0) 0 (dev 0) ends.Done) ∷
-    at 11 0 (acts.Put 1 0 (tokens.Piece (req 1 0) 0)) ∷
-    at 12 0 (acts.Took 1 1 (tokens.Mark (codes "x"))) ∷
-    at 13 1 (acts.Took 0 0 (tokens.Piece (req 1 0) 0)) ∷
-    at 14 1 (acts.Complete (req 1 0) Success None) ∷ []
+    at 2 1 (acts.Reg (events.GetChannel (dev 0)) (answers.Got true [])) ∷
+    at 3 1 (acts.Script 1 outcomes.Done) ∷
+    at 4 1 (acts.Accept (req 1 0) (dev 0) (handle 0) (write 5) 0 1) ∷
+    at 5 1 (acts.Script 2 (outcomes.Accepted (req 1 0))) ∷
+    at 6 1 (acts.Cut (req 1 0) 1) ∷
+    at 7 1 (acts.Put 0 0 (tokens.Piece (req 1 0) 0)) ∷
+    at 8 1 (acts.Script 3 outcomes.Done) ∷
+    at 9 1 (acts.Put 0 1 (tokens.Mark (codes "x"))) ∷
+    at 10 0 (acts.Took 1 0 (tokens.Piece (req 1 0) 0)) ∷
+    at 11 0 (acts.Apply (req 1 0) 0 (dev 0) ends.Done) ∷
+    at 12 0 (acts.Put 1 0 (tokens.Piece (req 1 0) 0)) ∷
+    at 13 0 (acts.Took 1 1 (tokens.Mark (codes "x"))) ∷
+    at 14 1 (acts.Took 0 0 (tokens.Piece (req 1 0) 0)) ∷
+    at 15 1 (acts.Complete (req 1 0) Success None) ∷ []
 
 write_is_let_through : refused_by two_threads (view_at_start two_threads []) (shared_at_start two_threads) turns ≡ None
 unfolding local_after

@@ -23,7 +23,6 @@ use Rattle.bd_machine.specs.declared.state.Place.{Place}
 use Rattle.bd_machine.specs.declared.state.Place.TheVariants.{At, Ring, Nowhere}
 use Rattle.bd_machine.specs.declared.state.State.{State}
 use Rattle.bd_machine.specs.declared.state.Tracked.{Tracked}
-use Rattle.bd_machine.specs.AsYet.{as_yet}
 use Rattle.bd_machine.specs.Asked.{asks_between}
 use Rattle.bd_machine.specs.BlockMap.{home, row_of, size_of}
 use Rattle.bd_machine.specs.Content.{Told}
@@ -157,13 +156,8 @@ module _ (setup : Setup) (s : State) (e : Entry) (fresh : IsFresh s) (allowed : 
   reported : (act : Act) → Passes (guards_in setup s e.thread act) → (dev : DevId) → is_report_of dev act ≡ true → list_any (same_owed (owes.Report dev)) (part_of s e.thread).owed ≡ true
   reported (acts.Reg (events.Destructed d) a) h dev is =
       subst (λ (x : DevId). list_any (same_owed (owes.Report x)) (part_of s e.thread).owed ≡ true) (dev_exact d dev is)
-      (go s.registry.between (asked_for (asks_between setup e.thread (view s e.thread) (came_for setup s e.thread (acts.Reg (events.Destructed d) a)) (events.Destructed d) s.registry.between) (passed (guards_in setup s e.thread (acts.Reg (events.Destructed d) a)) h).1.0))
+      (go s.registry.between (passed (guards_in setup s e.thread (acts.Reg (events.Destructed d) a)) h).1.0)
     where
-      -- nothing else asks it as yet
-      asked_for : (b : Bool) → (b || (as_yet && false)) ≡ true → b ≡ true
-      asked_for true k = refl
-      asked_for false k = k
-
       no : (b : Bool) → (b && false) ≡ false
       no true = refl
       no false = refl

@@ -16,7 +16,7 @@ use Rattle.bd_machine.specs.Guards.{guards, change, is_built}
 use Rattle.bd_machine.specs.BlockMap.{home, row_of}
 use Rattle.bd_machine.specs.Homes.{is_home, is_told, is_called_for, is_digest_due, has_destructed}
 use Rattle.bd_machine.specs.Messages.{count_at, brings}
-use Rattle.bd_machine.specs.Registry.{is_free, is_unused}
+use Rattle.bd_machine.specs.Registry.{is_free, is_out_of_use}
 use Rattle.bd_machine.specs.Run.{after_all}
 use Rattle.bd_machine.specs.Step.{IsAllowed, first_failing, guards_in, guards_shutdown, is_in_order, is_shutdown, change_in, after}
 use Rattle.bd_machine.specs.View.{View, Came, Change, Taking, view, part_of, came_for, asked}
@@ -91,11 +91,11 @@ module _ (setup : Setup) (s : State) (t : ℕ) (queues : ℕ → List Message) w
           let l = and_parts (is_some (row_of setup dev)) (home setup dev == t) k.0 in
           destruct_is_free setup s t dev told (eqb-true (home setup dev) t l.1) is g.1
 
-      go : (b : Bool) → is_told v dev ≡ b → ((is_told v dev && is_free setup s.registry dev) || (as_yet && s.shut && is_unused setup s.registry dev)) ≡ ((is_told v dev && true) || (as_yet && s.shut && is_unused setup s.registry dev))
-      go true is = ap (λ f. (is_told v dev && f) || (as_yet && s.shut && is_unused setup s.registry dev)) (free_if is)
+      go : (b : Bool) → is_told v dev ≡ b → ((is_told v dev && is_free setup s.registry dev) || (as_yet && s.shut && is_out_of_use setup s.registry dev)) ≡ ((is_told v dev && true) || (as_yet && s.shut && is_out_of_use setup s.registry dev))
+      go true is = ap (λ f. (is_told v dev && f) || (as_yet && s.shut && is_out_of_use setup s.registry dev)) (free_if is)
       go false is =
-          ap (λ b. (b && is_free setup s.registry dev) || (as_yet && s.shut && is_unused setup s.registry dev)) is
-          ∙ sym (ap (λ b. (b && true) || (as_yet && s.shut && is_unused setup s.registry dev)) is)
+          ap (λ b. (b && is_free setup s.registry dev) || (as_yet && s.shut && is_out_of_use setup s.registry dev)) is
+          ∙ sym (ap (λ b. (b && true) || (as_yet && s.shut && is_out_of_use setup s.registry dev)) is)
 
   pub alike : (act : Act) → IsTold setup s → Stand s.tokens t (part_of s t).taken (queues t) → LocallyPasses act → IsAlike act
   alike (acts.Took source number what) told st h =

@@ -5,14 +5,16 @@ mod answers;
 mod as_yet;
 mod handles;
 mod names;
+mod records;
 mod same;
 mod sees;
 mod tokens;
 
 pub use answers::same_answer;
 pub use as_yet::AS_YET;
-pub use handles::{handle_of, is_unused, own_handle};
+pub use handles::{handle_of, own_handle};
 pub use names::{PieceId, Submission};
+pub use records::Records;
 pub use same::{
     same_decision, same_errno, same_handle_if_any, same_id, same_kind, same_news, same_op,
     same_outcome, same_owed, same_request, same_stage, same_status, same_threads, same_walk_kind,

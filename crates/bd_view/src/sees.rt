@@ -7,7 +7,7 @@ use bd_machine::{Handle, Id, Kept, Part};
 pub trait Sees {
     ghost use Rattle.std.specs.Prelude.{◌≡◌, ℕ, filter};
     ghost use Rattle.std.specs.Option.{option_copied};
-    ghost use Rattle.bd_machine.specs.Registry.{handle_of};
+    ghost use Rattle.bd_machine.specs.Registry.{handle_of, is_on};
     ghost use Rattle.bd_machine.specs.View.{View, is_of};
 
     ghost view_of: { Self → View };
@@ -30,9 +30,10 @@ pub trait Sees {
     fn handle(&self, id: HandleId) -> Option<Handle>
         ensures { result ≡ handle_of (view_of self.now).handles id };
 
-    /// The open handles of all threads: those of this one are the handles that it sees.
-    fn handles(&self) -> &[Handle]
-        ensures { filter (is_of (thread_of self.now)) result.now ≡ (view_of self.now).handles };
+    /// Open handles: those of this thread on the device are the handles that it sees on it. Others may
+    /// stand beside them, of any thread and any device.
+    fn handles_of(&self, dev: DevId) -> &[Handle]
+        ensures { filter (is_of (thread_of self.now)) (filter (is_on dev) result.now) ≡ filter (is_on dev) (view_of self.now).handles };
 
     /// How many references the thread has to a device; none where it has no channel of it.
     fn channels(&self, dev: DevId) -> Option<u128>

@@ -1,8 +1,9 @@
 //! The machine played by hand: a whole trace, and entries that it refuses. Digests are by python's
 //! hashlib.
 use bd_base::{
-    Act, Answer, ApplyEnd, DevId, DevRow, Entry, Errno, Fill, HandleId, Job, Kind, Line, Name, Op,
-    OutOfMemory, Outcome, RegEvent, ReqId, Rows, Script, Setup, Shown, Status, Token,
+    Act, Answer, ApplyEnd, ClaimKind, DevId, DevRow, Dropped, Entry, Errno, Fill, HandleId, Job,
+    Kind, Line, Name, Op, OutOfMemory, Outcome, RegEvent, ReqId, Rows, Script, Setup, Shown,
+    Status, Token,
 };
 use bd_play::{Machine, StepNo};
 use std::alloc::Global;
@@ -39,16 +40,18 @@ enum Word {
     // A read of the first block past the end.
     Beyond,
     Wait,
+    Claim,
     Close,
 }
 
-const SCRIPT: [Word; 7] = [
+const SCRIPT: [Word; 8] = [
     Word::Open,
     Word::Submit(WRITE),
     Word::Wait,
     Word::Submit(Op::Read),
     Word::Wait,
     Word::Beyond,
+    Word::Claim,
     Word::Close,
 ];
 
@@ -73,6 +76,10 @@ fn job(alloc: Global, word: Word) -> Result<Job, OutOfMemory> {
             count: 1,
         }),
         Word::Wait => Ok(Job::Wait),
+        Word::Claim => Ok(Job::Claim {
+            handle,
+            kind: ClaimKind::Exclusive,
+        }),
         Word::Close => Ok(Job::Close { handle }),
     }
 }
@@ -120,16 +127,35 @@ fn setup(alloc: Global) -> Result<Setup, OutOfMemory> {
     })
 }
 
+// What thread 0 asks of the registry, with the answer, by what differs.
+#[derive(Clone, Copy)]
+enum Ask {
+    Open(u128),
+    // Whether the channel is made by this get.
+    Get(bool),
+    Claim,
+    Put,
+    Close,
+    Drop,
+    Remove,
+}
+
+// What a message carries: a piece, or the channel that is to be dropped.
+#[derive(Clone, Copy)]
+enum What {
+    Piece(u64, u32),
+    Channel,
+}
+
 // An act of thread 0, by what differs.
 #[derive(Clone, Copy)]
 enum Deed {
-    Opened(u128),
-    Closed,
+    Reg(Ask),
     Accept(ReqId, u32, Op, u64),
     Refuse(Op, u64),
     Cut(u64, u32),
-    Put(u128, u64, u32),
-    Took(u128, u64),
+    Put(u128, What),
+    Took(u128, What),
     Apply(u64, ApplyEnd),
     Complete(u64, Status, Option<Shown>),
     Script(u32, Outcome),
@@ -142,59 +168,107 @@ fn req(seq: u64) -> ReqId {
     ReqId { thread: 0, seq }
 }
 
-fn opened(alloc: Global, handle: u128) -> Result<Act, OutOfMemory> {
+fn event(alloc: Global, ask: Ask) -> Result<RegEvent, OutOfMemory> {
     let name = Name::from_slice(alloc, b"Malloc0")?;
-    Ok(Act::Reg {
-        event: RegEvent::Open { name, write: true },
-        answer: Answer::Opened {
+    match ask {
+        Ask::Open(_) => Ok(RegEvent::Open { name, write: true }),
+        Ask::Get(_) => Ok(RegEvent::GetChannel { dev: DEV }),
+        Ask::Claim => Ok(RegEvent::Claim {
+            handle: HANDLE,
+            kind: ClaimKind::Exclusive,
+        }),
+        Ask::Put => Ok(RegEvent::PutChannel {
+            dev: DEV,
+            closing: true,
+        }),
+        Ask::Close => Ok(RegEvent::Close { handle: HANDLE }),
+        Ask::Drop => Ok(RegEvent::DropChannel { dev: DEV }),
+        Ask::Remove => Ok(RegEvent::BeginRemove { name }),
+    }
+}
+
+fn answer(alloc: Global, ask: Ask) -> Answer {
+    match ask {
+        Ask::Open(handle) => Answer::Opened {
             handle: HandleId(handle),
             dev: DEV,
         },
-    })
+        Ask::Get(fresh) => Answer::Got {
+            fresh,
+            frozen: Rows::new(alloc),
+        },
+        Ask::Claim => Answer::Claimed,
+        Ask::Put => Answer::PutDown { left: 0 },
+        Ask::Close => Answer::Closed { destruct: None },
+        Ask::Drop => Answer::Dropped {
+            what: Dropped::Last,
+            zero: None,
+            destruct: None,
+        },
+        Ask::Remove => Answer::Refused(Errno::Busy),
+    }
+}
+
+fn token(what: What) -> Token {
+    match what {
+        What::Piece(seq, k) => Token::Piece(req(seq), k),
+        What::Channel => Token::Channel(DEV),
+    }
+}
+
+fn accepted(req: ReqId, dev: DevId, op: Op, lba: u64) -> Act {
+    Act::Accept {
+        req,
+        dev,
+        handle: HANDLE,
+        op,
+        lba,
+        count: 1,
+    }
+}
+
+fn refused(op: Op, lba: u64) -> Act {
+    Act::Refuse {
+        handle: Some(HANDLE),
+        op,
+        lba,
+        count: 1,
+        errno: Errno::Inval,
+    }
+}
+
+fn applied(req: ReqId, end: ApplyEnd) -> Act {
+    Act::Apply {
+        req,
+        k: 0,
+        dev: DEV,
+        end,
+    }
 }
 
 fn act(alloc: Global, deed: Deed) -> Result<Act, OutOfMemory> {
     match deed {
-        Deed::Opened(handle) => opened(alloc, handle),
-        Deed::Closed => Ok(Act::Reg {
-            event: RegEvent::Close { handle: HANDLE },
-            answer: Answer::Closed { destruct: None },
+        Deed::Reg(ask) => Ok(Act::Reg {
+            event: event(alloc, ask)?,
+            answer: answer(alloc, ask),
         }),
-        Deed::Accept(req, dev, op, lba) => Ok(Act::Accept {
-            req,
-            dev: DevId(dev),
-            handle: HANDLE,
-            op,
-            lba,
-            count: 1,
-        }),
-        Deed::Refuse(op, lba) => Ok(Act::Refuse {
-            handle: Some(HANDLE),
-            op,
-            lba,
-            count: 1,
-            errno: Errno::Inval,
-        }),
+        Deed::Accept(req, dev, op, lba) => Ok(accepted(req, DevId(dev), op, lba)),
+        Deed::Refuse(op, lba) => Ok(refused(op, lba)),
         Deed::Cut(seq, pieces) => Ok(Act::Cut {
             req: req(seq),
             pieces,
         }),
-        Deed::Put(number, seq, k) => Ok(Act::Put {
+        Deed::Put(number, what) => Ok(Act::Put {
             to: 0,
             number,
-            what: Token::Piece(req(seq), k),
+            what: token(what),
         }),
-        Deed::Took(number, seq) => Ok(Act::Took {
+        Deed::Took(number, what) => Ok(Act::Took {
             source: 0,
             number,
-            what: Token::Piece(req(seq), 0),
+            what: token(what),
         }),
-        Deed::Apply(seq, end) => Ok(Act::Apply {
-            req: req(seq),
-            k: 0,
-            dev: DEV,
-            end,
-        }),
+        Deed::Apply(seq, end) => Ok(applied(req(seq), end)),
         Deed::Complete(seq, status, shown) => Ok(Act::Complete {
             req: req(seq),
             status,
@@ -217,86 +291,117 @@ const ONE: ReqId = ReqId { thread: 0, seq: 1 };
 const TWO: ReqId = ReqId { thread: 0, seq: 2 };
 
 // The whole history of the script, with the stamps 1, 2, 3 and so on.
-const TRACE: [Deed; 28] = [
-    Deed::Opened(0),
+const TRACE: [Deed; 35] = [
+    Deed::Reg(Ask::Open(0)),
+    Deed::Reg(Ask::Get(true)),
     Deed::Script(1, Outcome::Done),
     Deed::Accept(ZERO, 0, WRITE, 0),
     Deed::Script(2, Outcome::Accepted(ZERO)),
     Deed::Cut(0, 1),
-    Deed::Put(0, 0, 0),
-    Deed::Took(0, 0),
+    Deed::Put(0, What::Piece(0, 0)),
+    Deed::Took(0, What::Piece(0, 0)),
     Deed::Apply(0, ApplyEnd::Done),
-    Deed::Put(1, 0, 0),
-    Deed::Took(1, 0),
+    Deed::Put(1, What::Piece(0, 0)),
+    Deed::Took(1, What::Piece(0, 0)),
     Deed::Complete(0, Status::Success, None),
     Deed::Script(3, Outcome::Done),
     Deed::Accept(ONE, 0, Op::Read, 0),
     Deed::Script(4, Outcome::Accepted(ONE)),
     Deed::Cut(1, 1),
-    Deed::Put(2, 1, 0),
-    Deed::Took(2, 1),
+    Deed::Put(2, What::Piece(1, 0)),
+    Deed::Took(2, What::Piece(1, 0)),
     Deed::Apply(1, ApplyEnd::Done),
-    Deed::Put(3, 1, 0),
-    Deed::Took(3, 1),
+    Deed::Put(3, What::Piece(1, 0)),
+    Deed::Took(3, What::Piece(1, 0)),
     Deed::Complete(1, Status::Success, Some(SHOWN)),
     Deed::Script(5, Outcome::Done),
     Deed::Refuse(Op::Read, 64),
     Deed::Script(6, Outcome::Errno(Errno::Inval)),
-    Deed::Closed,
+    Deed::Reg(Ask::Claim),
     Deed::Script(7, Outcome::Done),
+    Deed::Reg(Ask::Put),
+    Deed::Reg(Ask::Close),
+    Deed::Script(8, Outcome::Done),
+    Deed::Put(4, What::Channel),
+    Deed::Took(4, What::Channel),
+    Deed::Reg(Ask::Drop),
     Deed::Shutdown,
     Deed::Destruct(0, Some(CONTENT)),
 ];
 
 // A guard, and an act that it refuses after the first entries of the trace.
-const REFUSED: [(u32, usize, Deed); 34] = [
-    // an act that isn't built, a reset
+const REFUSED: [(u32, usize, Deed); 51] = [
+    // an act that isn't built, a reset, an event that isn't built
     (0, 0, Deed::Pend),
-    (0, 2, Deed::Accept(ZERO, 0, Op::Reset, 0)),
+    (0, 3, Deed::Accept(ZERO, 0, Op::Reset, 0)),
+    (0, 3, Deed::Reg(Ask::Remove)),
     // a put with the wrong number; of a piece that there isn't; of one that is out; of one that
-    // wasn't served; a take before its put; a take of what was taken
-    (2, 5, Deed::Put(7, 0, 0)),
-    (3, 5, Deed::Put(0, 0, 5)),
-    (3, 6, Deed::Put(1, 0, 0)),
-    (4, 7, Deed::Put(1, 0, 0)),
-    (5, 5, Deed::Took(0, 0)),
-    (5, 7, Deed::Took(0, 0)),
-    // a handle number that isn't the next one, an open and a close that no line asks
-    (6, 0, Deed::Opened(7)),
-    (7, 2, Deed::Opened(1)),
-    (7, 4, Deed::Closed),
+    // wasn't served; of a channel that has a reference; a take before its put; a take of what was
+    // taken; of a channel that wasn't put
+    (2, 6, Deed::Put(7, What::Piece(0, 0))),
+    (3, 6, Deed::Put(0, What::Piece(0, 5))),
+    (3, 7, Deed::Put(1, What::Piece(0, 0))),
+    (4, 8, Deed::Put(1, What::Piece(0, 0))),
+    (4, 27, Deed::Put(4, What::Channel)),
+    (5, 6, Deed::Took(0, What::Piece(0, 0))),
+    (5, 8, Deed::Took(0, What::Piece(0, 0))),
+    (5, 30, Deed::Took(4, What::Channel)),
+    // a handle number that isn't the next one, a channel that isn't there yet, a second claim of a
+    // handle, an open that its own claim refuses
+    (6, 0, Deed::Reg(Ask::Open(7))),
+    (6, 1, Deed::Reg(Ask::Get(false))),
+    (6, 26, Deed::Reg(Ask::Claim)),
+    (6, 26, Deed::Reg(Ask::Open(1))),
+    // an open, a close and a claim that no line asks
+    (7, 3, Deed::Reg(Ask::Open(1))),
+    (7, 5, Deed::Reg(Ask::Close)),
+    (7, 5, Deed::Reg(Ask::Claim)),
+    // between an open and its channel another open, a close; a second channel
+    (7, 1, Deed::Reg(Ask::Open(1))),
+    (7, 1, Deed::Reg(Ask::Close)),
+    (7, 2, Deed::Reg(Ask::Get(false))),
+    // a close before its put, a get and a drop between the two, a drop before its message
+    (7, 27, Deed::Reg(Ask::Close)),
+    (7, 28, Deed::Reg(Ask::Get(false))),
+    (7, 28, Deed::Reg(Ask::Drop)),
+    (7, 31, Deed::Reg(Ask::Drop)),
     // a block that the line doesn't name, a device that isn't the handle's, a block past the end, an
     // id of another thread, an id that is used, a refusal without a cause
-    (8, 2, Deed::Accept(ZERO, 0, WRITE, 1)),
-    (8, 2, Deed::Accept(ZERO, 1, WRITE, 0)),
-    (9, 22, Deed::Accept(TWO, 0, Op::Read, 64)),
+    (8, 3, Deed::Accept(ZERO, 0, WRITE, 1)),
+    (8, 3, Deed::Accept(ZERO, 1, WRITE, 0)),
+    (9, 23, Deed::Accept(TWO, 0, Op::Read, 64)),
     (
         10,
-        2,
+        3,
         Deed::Accept(ReqId { thread: 1, seq: 0 }, 0, WRITE, 0),
     ),
-    (10, 12, Deed::Accept(ZERO, 0, Op::Read, 0)),
-    (11, 2, Deed::Refuse(WRITE, 0)),
+    (10, 13, Deed::Accept(ZERO, 0, Op::Read, 0)),
+    (11, 3, Deed::Refuse(WRITE, 0)),
     // cut twice, cut into two, served twice, a fault of memory
-    (17, 5, Deed::Cut(0, 1)),
-    (18, 4, Deed::Cut(0, 2)),
-    (19, 8, Deed::Apply(0, ApplyEnd::Done)),
-    (20, 7, Deed::Apply(0, ApplyEnd::Fault)),
+    (17, 6, Deed::Cut(0, 1)),
+    (18, 5, Deed::Cut(0, 2)),
+    (19, 9, Deed::Apply(0, ApplyEnd::Done)),
+    (20, 8, Deed::Apply(0, ApplyEnd::Fault)),
     // completed without an accept, with a piece out, before the cut, as failed, without its data
-    (26, 2, Deed::Complete(0, Status::Success, None)),
-    (26, 8, Deed::Complete(0, Status::Success, None)),
-    (27, 3, Deed::Complete(0, Status::Success, None)),
-    (27, 10, Deed::Complete(0, Status::Failed, None)),
-    (28, 20, Deed::Complete(1, Status::Success, None)),
+    (26, 3, Deed::Complete(0, Status::Success, None)),
+    (26, 9, Deed::Complete(0, Status::Success, None)),
+    (27, 4, Deed::Complete(0, Status::Success, None)),
+    (27, 11, Deed::Complete(0, Status::Failed, None)),
+    (28, 21, Deed::Complete(1, Status::Success, None)),
     // destructed with a handle open, twice, a device that there isn't, without its digest
-    (31, 24, Deed::Destruct(0, Some(CONTENT))),
-    (31, 28, Deed::Destruct(0, Some(CONTENT))),
-    (31, 27, Deed::Destruct(1, None)),
-    (32, 27, Deed::Destruct(0, None)),
-    // a line out of order, another outcome, a Shutdown with a request open, with a line to do
-    (33, 1, Deed::Script(2, Outcome::Done)),
-    (34, 1, Deed::Script(1, Outcome::Errno(Errno::Exists))),
-    (35, 5, Deed::Shutdown),
+    (31, 25, Deed::Destruct(0, Some(CONTENT))),
+    (31, 35, Deed::Destruct(0, Some(CONTENT))),
+    (31, 34, Deed::Destruct(1, None)),
+    (32, 34, Deed::Destruct(0, None)),
+    // a line out of order, another outcome
+    (33, 2, Deed::Script(2, Outcome::Done)),
+    (34, 2, Deed::Script(1, Outcome::Errno(Errno::Exists))),
+    // a Shutdown with a request open, with a channel that is due, on its way, to be dropped; with a
+    // line to do
+    (35, 6, Deed::Shutdown),
+    (35, 30, Deed::Shutdown),
+    (35, 31, Deed::Shutdown),
+    (35, 32, Deed::Shutdown),
     (36, 0, Deed::Shutdown),
 ];
 
@@ -334,7 +439,7 @@ fn answer_after(
 #[test]
 fn first_path_is_a_complete_run(rt: HostRuntime) {
     let alloc = rt.alloc();
-    for row in &[(27, false), (28, true)] {
+    for row in &[(34, false), (35, true)] {
         let (n, complete) = *row;
         let is_complete = match played(alloc, n) {
             Ok(machine) => machine.is_complete() == Ok(complete),

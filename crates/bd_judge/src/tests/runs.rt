@@ -2,7 +2,8 @@
 //! machine's table.
 use crate::judging::{Verdict, judge};
 use bd_base::{
-    Act, Bytes, DevRow, Entry, Fill, Job, Kind, Line, Name, Op, OutOfMemory, Rows, Script, Setup,
+    Act, Bytes, ClaimKind, DevRow, Entry, Fill, Job, Kind, Line, Name, Op, OutOfMemory, Rows,
+    Script, Setup,
 };
 use bd_machine::guard::OUTCOME_DUE;
 use bd_outside::{MemHost, MemSink, OpenGate, StillClock};
@@ -21,6 +22,7 @@ enum Word {
     Read(u8, u64),
     Write(u8, u64, u64),
     Wait,
+    Claim(u8, ClaimKind),
     Close(u8),
     Post(&'static str),
     Await(&'static str),
@@ -74,6 +76,32 @@ const BOTH_WORDS: [&[Word]; 2] = [
     ],
 ];
 
+// Two readers share a claim, another key and a writer are refused, and one handle is left open.
+const CLAIMS: &str =
+    "0 open a Malloc0 r\n0 claim a shared 7\n0 post x\n0 await y\n0 open c Malloc0 w\n0 close a\n0 open a Malloc0 r\n0 close a\n1 await x\n1 open b Malloc0 r\n1 claim b shared 8\n1 claim b shared 7\n1 write b 1 1 9\n1 wait\n1 post y\n";
+
+const CLAIMS_WORDS: [&[Word]; 2] = [
+    &[
+        Word::Open(b'a', "Malloc0", false),
+        Word::Claim(b'a', ClaimKind::Shared(7)),
+        Word::Post("x"),
+        Word::Await("y"),
+        Word::Open(b'c', "Malloc0", true),
+        Word::Close(b'a'),
+        Word::Open(b'a', "Malloc0", false),
+        Word::Close(b'a'),
+    ],
+    &[
+        Word::Await("x"),
+        Word::Open(b'b', "Malloc0", false),
+        Word::Claim(b'b', ClaimKind::Shared(8)),
+        Word::Claim(b'b', ClaimKind::Shared(7)),
+        Word::Write(b'b', 1, 9),
+        Word::Wait,
+        Word::Post("y"),
+    ],
+];
+
 fn submit(alloc: Global, handle: u8, op: Op, lba: u64) -> Result<Job, OutOfMemory> {
     Ok(Job::Submit {
         handle: Name::from_slice(alloc, &[handle])?,
@@ -96,6 +124,10 @@ fn job(alloc: Global, word: Word) -> Result<Job, OutOfMemory> {
             submit(alloc, handle, op, lba)
         }
         Word::Wait => Ok(Job::Wait),
+        Word::Claim(handle, kind) => Ok(Job::Claim {
+            handle: Name::from_slice(alloc, &[handle])?,
+            kind,
+        }),
         Word::Post(mark) => Ok(Job::Post(Name::from_slice(alloc, mark.as_bytes())?)),
         Word::Await(mark) => Ok(Job::Await(Name::from_slice(alloc, mark.as_bytes())?)),
         Word::Close(handle) => Ok(Job::Close {
@@ -185,13 +217,19 @@ fn history(alloc: Global, script: &str, options: &[&str]) -> Result<Vec<Entry>, 
 }
 
 // A script, its words by thread, and the options of the run.
-const COMPLETE: [(&str, &[&[Word]], &[&str]); 6] = [
+const COMPLETE: [(&str, &[&[Word]], &[&str]); 8] = [
     (FIRST, &[&FIRST_WORDS], &[]),
     (REFUSALS, &[&REFUSALS_WORDS], &[]),
     ("", &[&[]], &[]),
     ("", &[&[], &[], &[]], &["--threads", "3"]),
     (BOTH, &BOTH_WORDS, &["--threads", "2"]),
     (BOTH, &BOTH_WORDS, &["--schedule", "7", "--threads", "2"]),
+    (CLAIMS, &CLAIMS_WORDS, &["--threads", "2"]),
+    (
+        CLAIMS,
+        &CLAIMS_WORDS,
+        &["--schedule", "7", "--threads", "2"],
+    ),
 ];
 
 #[test]

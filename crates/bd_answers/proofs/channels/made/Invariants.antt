@@ -5,4 +5,4 @@ use Rattle.bd_answers.proofs.channels.made.Given as goal
 
 -- the devices so far, and those that are made of what is left, are all
 abbrev pub invariant-loop-d : goal.invariant-loop-d
-invariant-loop-d l = l.devs ++ made (references l.registry l.thread) l.d-iterator ≡ made (references l.registry l.thread) (below l.setup l.fn.dev)
+invariant-loop-d g l = l.devs ++ made (references (g.R.Records.registry_of l.registry) l.thread) l.d-iterator ≡ made (references (g.R.Records.registry_of l.registry) l.thread) (below l.setup l.fn.dev)

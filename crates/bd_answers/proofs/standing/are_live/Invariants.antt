@@ -6,4 +6,4 @@ use Rattle.bd_answers.proofs.standing.are_live.Given as goal
 
 -- all devices are live exactly where those that are left are
 abbrev pub invariant-loop-d : goal.invariant-loop-d
-invariant-loop-d l = list_all (is_live l.registry) l.d-iterator ≡ list_all (is_live l.registry) (below l.setup l.fn.dev)
+invariant-loop-d g l = list_all (is_live (g.R.Records.registry_of l.registry)) l.d-iterator ≡ list_all (is_live (g.R.Records.registry_of l.registry)) (below l.setup l.fn.dev)

@@ -1,7 +1,7 @@
 use Rattle.std.proofs.Common.{◌≡◌, ◌-◌}
 use Rattle.std.specs.List.{range_with_len}
+use Rattle.bd_links.specs.Tokens.{here_in}
 use Rattle.bd_thread.specs.Completions.{gone}
-use Rattle.bd_thread.specs.Seen.{here_in}
 use Rattle.bd_thread.proofs.completion.drop_pieces.Given as goal
 
 -- what is here without the pieces that are left is what is here without all

@@ -1,7 +1,7 @@
 use Rattle.std.proofs.Common.{sym, ◌∙◌, ap}
 use Rattle.bd_machine.specs.declared.state.Kept.{Kept}
 use Rattle.bd_machine.specs.Alone.{held_after}
-use Rattle.bd_thread.specs.Seen.{here_in}
+use Rattle.bd_links.specs.Tokens.{here_in}
 use Rattle.bd_thread.specs.Sent.{landed}
 use Rattle.bd_thread.proofs.messages.land.Goals as goal
 

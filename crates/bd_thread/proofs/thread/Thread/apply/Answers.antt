@@ -9,11 +9,14 @@ use Rattle.bd_machine.specs.declared.state.Id.TheVariants.{Piece}
 use Rattle.bd_machine.specs.declared.state.Kept.{Kept}
 use Rattle.bd_machine.specs.BlockMap.{home}
 use Rattle.bd_machine.specs.Homes.{is_base, is_first_at}
+use Rattle.bd_links.specs.Entries.{longer}
+use Rattle.bd_links.specs.Queues.{queues_of}
+use Rattle.bd_links.specs.Tokens.{here_in}
 use Rattle.bd_thread.specs.declared.links.Links.{Links}
 use Rattle.bd_thread.specs.declared.thread.Thread.{Thread}
 use Rattle.bd_thread.specs.Acted.{Acted}
 use Rattle.bd_thread.specs.Requests.{KeepsTickets}
-use Rattle.bd_thread.specs.Seen.{here_in, longer, queues_of, untaken}
+use Rattle.bd_thread.specs.Seen.{untaken}
 use Rattle.bd_thread.specs.Served.{may_hold}
 use Rattle.bd_thread.proofs.Applies.{apply_steps, at_home}
 use Rattle.bd_thread.proofs.Going.{acted_by, carried}
@@ -39,9 +42,9 @@ returns-clause-acted c =
     let first = ap (λ (bs : List Base). is_first_at n.req n.k (find (is_base dev) bs)) bases-are ∙ c.in-Some.ensures.next.first in
     let is = ap (λ (ts : List (Id × Kept)). here_in ts id) tokens-are ∙ c.in-Some.ensures.next.here in
     let ready = ap (λ (bs : List Base). can_serve size dev (find (is_base dev) bs) n.piece.now) bases-are ∙ c.in-Some.ensures.next.ready in
-    let stepped = apply_steps t.setup.now t.me t.part here links.registry links.shut (length links.entries) (queues_of links.queues.items) n.req n.k dev n.piece.now size c.in_ok-piece.piece c.serve.new.bases (here_in c.hold.new.tokens.items)
+    let stepped = apply_steps t.setup.now t.me t.part here links.registry.state links.shut (length links.entries) (queues_of links.queues.items) n.req n.k dev n.piece.now size c.in_ok-piece.piece c.serve.new.bases (here_in c.hold.new.tokens.items)
     home-is c.size_of-size.ensures first is ready holds c.in_ok-piece.ensures.bases c.in_ok-piece.ensures.piece c.in_ok-hold.ensures in
-    carried (Acted t links) new after _ _ c.in_ok-note.ensures.thread c.in_ok-note.ensures.links (acted_by t links new after act refl refl refl refl stepped)
+    carried (Acted t links) new after _ _ c.in_ok-note.ensures.thread c.in_ok-note.ensures.links (acted_by t links new after act refl refl refl refl refl stepped)
 
 pub returns-clause-tickets : goal.returns-clause-tickets
 returns-clause-tickets c = λ keeps.

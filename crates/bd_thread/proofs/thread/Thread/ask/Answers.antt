@@ -1,18 +1,19 @@
-use Rattle.std.proofs.Common.{◌≡◌, Some, refl, sym, ◌∙◌, ap}
+use Rattle.std.proofs.Common.{◌≡◌, length, refl, sym, ◌∙◌, ap}
 use Rattle.bd_base.specs.declared.act.Act.TheVariants as acts
 use Rattle.bd_base.specs.declared.event.Answer.{Answer}
-use Rattle.bd_machine.specs.declared.state.Part.{Part}
-use Rattle.bd_machine.specs.declared.state.Registry.{Registry}
-use Rattle.bd_machine.specs.Changes.{registry_after}
-use Rattle.bd_view.specs.Came.{came_shut}
+use Rattle.bd_base.specs.declared.setup.Setup.{Setup}
+use Rattle.bd_machine.specs.Registry.{answer_to}
+use Rattle.bd_registry.specs.State.{Registered, registered}
+use Rattle.bd_registry.proofs.Rows.{answer_of_rows, after_of_rows}
+use Rattle.bd_links.specs.Entries.{longer, next_stamp}
 use Rattle.bd_thread.specs.Acted.{Acted}
-use Rattle.bd_thread.specs.Lines.{answered, IsAnswered}
+use Rattle.bd_thread.specs.Lines.{answered, asked_registry, event_stamp, IsAnswered}
 use Rattle.bd_thread.specs.Requests.{KeepsTickets}
-use Rattle.bd_thread.specs.Seen.{longer, untaken, view_of}
+use Rattle.bd_thread.specs.Seen.{untaken, view_of}
 use Rattle.bd_thread.specs.declared.links.Links.{Links}
 use Rattle.bd_thread.specs.declared.thread.Thread.{Thread}
 use Rattle.bd_thread.proofs.Going.{carried}
-use Rattle.bd_thread.proofs.Registering.{answered_tickets, asked_acted, part_by}
+use Rattle.bd_thread.proofs.Registering.{answered_tickets, asked_acted}
 use Rattle.bd_thread.proofs.thread.Thread.ask.Goals as goal
 
 pub returns : goal.returns
@@ -21,13 +22,23 @@ returns c =
     let links = c.args.links.now in
     let event = c.args.event in
     let answer : Answer = c.in_ok-answer.answer in
-    let registry : Registry = registry_after t.setup.now links.registry t.me (Some (record { event = event; answer = answer })) in
-    let part : c.answered.new.part ≡ _ = c.in_ok-answered.ensures t.me ∙ sym (part_by t.setup.now t.me (view_of t links) (came_shut links.shut) event answer c.requires.built) in
+    let setup : Setup = t.setup.now in
+    -- the answer and the change by the thread's own setup
+    let given : answer_to setup links.registry.state t.me event ≡ answer =
+    sym (answer_of_rows setup links.registry.state t.me event) ∙ ap (λ (s : Setup). answer_to s links.registry.state t.me event) (sym c.requires.rows) ∙ sym c.in_ok-answer.ensures.answer in
+    let registry : c.event.new.self ≡ asked_registry t links event answer =
+    c.in_ok-answer.ensures.after
+    ∙ ap (λ n. registered links.registry t.me n event answer) (c.in-Some.ensures.stamp ∙ ap (next_stamp (length links.entries)) c.last_stamp.ensures)
+    ∙ after_of_rows setup links.registry t.me (event_stamp links) event answer c.requires.rows in
     let new : Thread = record t { part = answered t links event answer } in
-    let after : Links = record links { registry = registry; entries = longer t.me links.entries (acts.Reg event answer) } in
-    let thread = c.in_ok-note.ensures.thread ∙ ap (λ (p : Part). let n : Thread = record t { part = untaken p } in n) part in
-    let shared = c.in_ok-note.ensures.links ∙ ap (λ (r : Registry). let l : Links = record after { registry = r } in l) c.in_ok-register.ensures in
-    let is : IsAnswered event t links new after = record { answer = answer; given = sym c.in_ok-answer.ensures; thread = refl; links = refl } in
+    let after : Links = record links { registry = asked_registry t links event answer; entries = longer t.me links.entries (acts.Reg event answer) } in
+    let left = c.in_ok-answered.ensures (view_of t links) refl (c.as_slice.ensures ∙ c.in_ok-made.ensures) in
+    let thread = c.in_ok-note.ensures.thread ∙ ap (λ (n : Thread). let m : Thread = record n { part = untaken n.part } in m) left in
+    let asked : Links = record links { registry = c.event.new.self } in
+    let shared = c.in_ok-note.ensures.links
+    ∙ ap (λ (n : Thread). let l : Links = record asked { entries = longer n.me links.entries (acts.Reg event answer) } in l) left
+    ∙ ap (λ (r : Registered). let l : Links = record after { registry = r } in l) registry in
+    let is : IsAnswered event t links new after = record { answer = answer; given = given; thread = refl; links = refl } in
     record {
       acted = carried (Acted t links) new after _ _ thread shared (asked_acted t links new after event c.requires.built c.requires.asked is);
       tickets = carried (λ n l. KeepsTickets t → KeepsTickets n) new after _ _ thread shared (answered_tickets t links event answer c.requires.built);

@@ -1,28 +1,6 @@
-use Rattle.std.proofs.Common.{◌≡◌, Some, sym, ◌∙◌, ap}
-use Rattle.std.specs.Option.{option_copied}
-use Rattle.bd_base.specs.declared.event.RegEvent.TheVariants as events
-use Rattle.bd_machine.specs.Asked.{bound_to, undecided_job}
-use Rattle.bd_thread.specs.Lines.{close_of, job_now}
-use Rattle.bd_thread.proofs.Registering.{asked_by, close_named, unasked_by}
+use Rattle.std.proofs.Common.{sym, ◌∙◌}
+use Rattle.bd_thread.proofs.Registering.{closing_may}
 use Rattle.bd_thread.proofs.thread.Thread.close.Goals as goal
 
-pub returns-then-not-may_ask-clause-closed : goal.returns-then-not-may_ask-clause-closed
-returns-then-not-may_ask-clause-closed c =
-    let t = c.args.self.now in
-    let links = c.args.links.now in
-    let id = c.in-Some.id in
-    let job = sym c.undecided_job.ensures ∙ ap option_copied c.in-Some-Close.is ∙ ap Some c.in-Some-Close.field-0-is in
-    let bound : bound_to t.part c.in-Some-Close.handle ≡ Some id = sym c.bound_to.ensures ∙ c.in-Some.is in
-    let named = close_named t.part c.in-Some-Close.handle id links.shut (undecided_job t.setup.now t.me t.part) c.if-links.false job bound in
-    unasked_by t links (events.Close id) (close_of t.part (job_now t links)) named (sym c.may_ask.ensures ∙ c.if-not-may_ask.true)
-
-pub returns-clause-closed : goal.returns-clause-closed
-returns-clause-closed c =
-    let t = c.args.self.now in
-    let links = c.args.links.now in
-    let id = c.in-Some.id in
-    let job = sym c.undecided_job.ensures ∙ ap option_copied c.in-Some-Close.is ∙ ap Some c.in-Some-Close.field-0-is in
-    let bound : bound_to t.part c.in-Some-Close.handle ≡ Some id = sym c.bound_to.ensures ∙ c.in-Some.is in
-    let named = close_named t.part c.in-Some-Close.handle id links.shut (undecided_job t.setup.now t.me t.part) c.if-links.false job bound in
-    asked_by t links c.ask.new.self c.ask.new.links (events.Close id) (close_of t.part (job_now t links)) named
-    (sym c.may_ask.ensures ∙ c.if-not-may_ask.false) c.in_ok-ask.ensures.answered
+pub put_and_close-requires-clause-may : goal.put_and_close-requires-clause-may
+put_and_close-requires-clause-may c = closing_may c.args.self.now c.args.links.now c.in-Some.handle (sym c.closing.ensures ∙ c.in-Some.is)

@@ -1,12 +1,11 @@
-use Rattle.std.proofs.Common.{◌<◌}
 use Rattle.bd_thread.specs.Acted.{Acted}
 use Rattle.bd_thread.specs.Requests.{KeepsTickets}
-use Rattle.bd_thread.specs.Waits.{Idles, NoHandle}
+use Rattle.bd_thread.specs.Waits.{Idles, NoHandleBelow}
 use Rattle.bd_thread.proofs.thread.Thread.close_all_left.Given as goal
 
-abbrev pub invariant-loop-round : goal.invariant-loop-round
-invariant-loop-round l = record {
+abbrev pub invariant-loop-place : goal.invariant-loop-place
+invariant-loop-place l = record {
   acted : Acted l.initial.self l.initial.links l.self l.links;
   tickets : KeepsTickets l.initial.self → KeepsTickets l.self;
-  quiet : Idles (λ t links. 0 < l._round → NoHandle t links) l.initial.self l.initial.links l.self l.links;
+  quiet : Idles (NoHandleBelow l.place) l.initial.self l.initial.links l.self l.links;
 }

@@ -1,10 +1,11 @@
 use Rattle.std.proofs.Common.{◌∙◌, List, length, refl, ap, rules}
 use Rattle.bd_base.specs.declared.act.Act.TheVariants as acts
 use Rattle.bd_machine.specs.declared.state.Extent.{Extent}
+use Rattle.bd_links.specs.Entries.{longer}
 use Rattle.bd_thread.specs.Acted.{Acted}
 use Rattle.bd_thread.specs.Cuts.{IsCut}
 use Rattle.bd_thread.specs.Requests.{KeepsTickets}
-use Rattle.bd_thread.specs.Seen.{longer, untaken}
+use Rattle.bd_thread.specs.Seen.{untaken}
 use Rattle.bd_thread.specs.declared.links.Links.{Links}
 use Rattle.bd_thread.specs.declared.thread.Thread.{Thread}
 use Rattle.bd_thread.proofs.Cutting.{cut_acted, cut_held}

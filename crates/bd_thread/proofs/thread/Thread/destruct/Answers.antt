@@ -8,12 +8,15 @@ use Rattle.bd_machine.specs.BlockMap.{is_malloc}
 use Rattle.bd_machine.specs.Homes.{is_base, may_destruct}
 use Rattle.bd_machine.specs.View.{View}
 use Rattle.bd_view.specs.Came.{came_free}
+use Rattle.bd_links.specs.Entries.{longer}
+use Rattle.bd_links.specs.Queues.{queues_of}
+use Rattle.bd_links.specs.Tokens.{here_in}
 use Rattle.bd_thread.specs.declared.links.Links.{Links}
 use Rattle.bd_thread.specs.declared.thread.Thread.{Thread}
 use Rattle.bd_thread.specs.Acted.{Acted}
 use Rattle.bd_thread.specs.Destructs.{may_device_go}
 use Rattle.bd_thread.specs.Requests.{KeepsTickets}
-use Rattle.bd_thread.specs.Seen.{here_in, longer, queues_of, untaken}
+use Rattle.bd_thread.specs.Seen.{untaken}
 use Rattle.bd_thread.proofs.Destructs.{destruct_steps}
 use Rattle.bd_thread.proofs.Going.{acted_by, carried}
 use Rattle.bd_thread.proofs.Tickets.{same_tickets}
@@ -30,11 +33,11 @@ returns-clause-acted c =
     let new : Thread = record t { part = untaken c.destructed.new.part } in
     let after : Links = record links { entries = longer t.me links.entries act } in
     let rule : View → Bool → Bool = λ v unused. may_destruct setup t.me v (came_free true unused links.shut) dev in
-    let may : may_device_go t links dev ≡ true = sym (ap₂ rule c.seen.ensures c.is_unused.ensures) ∙ sym c.may_destruct.ensures ∙ c.if-not-may_destruct.false in
+    let may : may_device_go t links dev ≡ true = sym (ap₂ rule c.seen.ensures c.is_out_of_use.ensures) ∙ sym c.may_destruct.ensures ∙ c.if-not-may_destruct.false in
     let due : digest_due (is_malloc setup dev) (find (is_base dev) t.part.bases) ≡ Some digest =
     ap (λ (bs : List Base). digest_due (is_malloc setup dev) (find (is_base dev) bs)) (sym c.as_slice.ensures) ∙ sym c.digest_due.ensures ∙ c.in-Some.is in
-    let stepped = destruct_steps setup t.me t.part c.destructed.new.part (here_in t.held.items) links.registry links.shut (length links.entries) (queues_of links.queues.items) dev digest may due c.in_ok-destructed.ensures in
-    carried (Acted t links) new after _ _ c.in_ok-note.ensures.thread c.in_ok-note.ensures.links (acted_by t links new after act refl refl refl refl stepped)
+    let stepped = destruct_steps setup t.me t.part c.destructed.new.part (here_in t.held.items) links.registry.state links.shut (length links.entries) (queues_of links.queues.items) dev digest may due c.in_ok-destructed.ensures in
+    carried (Acted t links) new after _ _ c.in_ok-note.ensures.thread c.in_ok-note.ensures.links (acted_by t links new after act refl refl refl refl refl stepped)
 
 pub returns-clause-tickets : goal.returns-clause-tickets
 returns-clause-tickets c = λ keeps.

@@ -1,9 +1,10 @@
 use Rattle.std.proofs.Common.{refl, ap}
 use Rattle.bd_base.specs.declared.act.Act.TheVariants as acts
+use Rattle.bd_links.specs.Entries.{longer}
 use Rattle.bd_thread.specs.Acted.{Acted}
 use Rattle.bd_thread.specs.Completions.{IsCompleted}
 use Rattle.bd_thread.specs.Requests.{KeepsTickets}
-use Rattle.bd_thread.specs.Seen.{longer, untaken}
+use Rattle.bd_thread.specs.Seen.{untaken}
 use Rattle.bd_thread.specs.declared.links.Links.{Links}
 use Rattle.bd_thread.specs.declared.thread.Thread.{Thread}
 use Rattle.bd_thread.proofs.Completing.{completed_acted}

@@ -4,10 +4,13 @@ use Rattle.bd_base.specs.declared.act.Act.TheVariants as acts
 use Rattle.bd_machine.specs.declared.state.Part.{Part}
 use Rattle.bd_machine.specs.Asked.{next_line, outcome_by}
 use Rattle.bd_machine.specs.View.{View}
+use Rattle.bd_links.specs.Entries.{longer}
+use Rattle.bd_links.specs.Queues.{queues_of}
+use Rattle.bd_links.specs.Tokens.{here_in}
 use Rattle.bd_thread.specs.Acted.{Acted}
 use Rattle.bd_thread.specs.Lines.{done, IsEnded}
 use Rattle.bd_thread.specs.Requests.{KeepsTickets}
-use Rattle.bd_thread.specs.Seen.{here_in, longer, queues_of, untaken, view_of}
+use Rattle.bd_thread.specs.Seen.{untaken, view_of}
 use Rattle.bd_thread.specs.declared.links.Links.{Links}
 use Rattle.bd_thread.specs.declared.thread.Thread.{Thread}
 use Rattle.bd_thread.proofs.Ends.{ended_by, line_steps}
@@ -30,7 +33,7 @@ returns c =
     let part : record t { part = untaken c.line_done.new.part } ≡ new = ap (λ (p : Part). let n : Thread = record t { part = untaken p } in n) c.in_ok-line_done.ensures in
     let acted : Acted t links new after =
     acted_into t links new after (acts.Script line.number outcome) (done t line.job) (here_in t.held.items) refl refl refl refl refl
-    (line_steps t.setup.now t.me t.part (here_in t.held.items) links.registry links.shut (length links.entries) (queues_of links.queues.items) line outcome c.if-links.false next due) in
+    (line_steps t.setup.now t.me t.part (here_in t.held.items) links.registry.state links.shut (length links.entries) (queues_of links.queues.items) line outcome c.if-links.false next due) in
     let ended : IsEnded outcome t links new after = record { line = line; next = next; thread = refl; links = refl } in
     let thread = c.in_ok-note.ensures.thread ∙ part in
     record {

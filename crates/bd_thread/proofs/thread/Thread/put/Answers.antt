@@ -6,11 +6,14 @@ use Rattle.bd_machine.specs.declared.state.Part.{Part}
 use Rattle.bd_machine.specs.Messages.{count_at}
 use Rattle.bd_machine.specs.Same.{same_id}
 use Rattle.bd_turns.specs.declared.queue.Message.{Message}
+use Rattle.bd_links.specs.Entries.{longer}
+use Rattle.bd_links.specs.Queues.{queues_of}
+use Rattle.bd_links.specs.Tokens.{here_in}
 use Rattle.bd_thread.specs.declared.links.Links.{Links}
 use Rattle.bd_thread.specs.declared.thread.Thread.{Thread}
 use Rattle.bd_thread.specs.Acted.{Acted}
 use Rattle.bd_thread.specs.Requests.{KeepsTickets}
-use Rattle.bd_thread.specs.Seen.{here_in, longer, queues_of, untaken}
+use Rattle.bd_thread.specs.Seen.{untaken}
 use Rattle.bd_thread.specs.Sent.{kept_on_way}
 use Rattle.bd_thread.proofs.Going.{acted_by, carried}
 use Rattle.bd_thread.proofs.Put.{put_steps, may_parts}
@@ -30,8 +33,8 @@ returns-clause-acted c =
     let after : Links = record links { queues = c.push.new.queues; entries = longer t.me links.entries (acts.Put to number what) } in
     let may = may_parts t links to what (search rules) in
     carried (Acted t links) new after _ _ c.in_ok-note.ensures.thread c.in_ok-note.ensures.links
-    (acted_by t links new after (acts.Put to number what) refl refl c.in_ok-push.ensures.len refl
-    (put_steps t.setup.now t.me t.part c.put.new.part here (here_in c.leave.new.tokens.items) links.registry links.shut (length links.entries) queues (queues_of c.push.new.queues.items) to number what c.in_ok-kept.kept
+    (acted_by t links new after (acts.Put to number what) refl refl c.in_ok-push.ensures.len refl refl
+    (put_steps t.setup.now t.me t.part c.put.new.part here (here_in c.leave.new.tokens.items) links.registry.state links.shut (length links.entries) queues (queues_of c.push.new.queues.items) to number what c.in_ok-kept.kept
     (c.count_at-number.ensures ∙ ap (λ (counts : List (ℕ × ℕ)). count_at counts to) c.as_slice.ensures)
     may.1 may.2
     (ap (λ (id : Id). kept_on_way what (here id)) (sym c.id_of-id.ensures) ∙ c.in_ok-kept.ensures.kept)

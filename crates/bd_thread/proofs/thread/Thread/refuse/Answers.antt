@@ -1,6 +1,6 @@
 use Rattle.std.proofs.Common.{refl}
+use Rattle.bd_links.specs.Entries.{longer}
 use Rattle.bd_thread.specs.Requests.{refuse_act, refused, IsRefused}
-use Rattle.bd_thread.specs.Seen.{longer}
 use Rattle.bd_thread.specs.declared.links.Links.{Links}
 use Rattle.bd_thread.specs.declared.thread.Thread.{Thread}
 use Rattle.bd_thread.proofs.Going.{carried}

@@ -7,11 +7,14 @@ use Rattle.bd_machine.specs.Guards.{is_built_token}
 use Rattle.bd_machine.specs.Messages.{brings, count_at, taken_by}
 use Rattle.bd_machine.specs.Table.{write}
 use Rattle.bd_machine.specs.View.{Move, id_of}
+use Rattle.bd_links.specs.Entries.{longer}
+use Rattle.bd_links.specs.Queues.{queues_of}
+use Rattle.bd_links.specs.Tokens.{here_in}
 use Rattle.bd_thread.specs.declared.links.Links.{Links}
 use Rattle.bd_thread.specs.declared.thread.Thread.{Thread}
 use Rattle.bd_thread.specs.Acted.{Acted}
 use Rattle.bd_thread.specs.Requests.{KeepsTickets}
-use Rattle.bd_thread.specs.Seen.{here_in, longer, queues_of, untaken}
+use Rattle.bd_thread.specs.Seen.{untaken}
 use Rattle.bd_thread.specs.Sent.{landed, KeepsRequests}
 use Rattle.bd_thread.proofs.Going.{acted_by, carried}
 use Rattle.bd_thread.proofs.Took.{brought_first, brought_keeps, brought_moves, took_steps}
@@ -42,8 +45,8 @@ returns-clause-acted c =
     let new : Thread = record t { part = untaken c.arrived.new.part; held = c.land.new.tokens } in
     let after : Links = record links { queues = c.pop.new.queues; entries = longer t.me links.entries (acts.Took m.sender number m.what) } in
     carried (Acted t links) new after _ _ c.in_ok-note.ensures.thread c.in_ok-note.ensures.links
-    (acted_by t links new after (acts.Took m.sender number m.what) refl refl c.in-Some.ensures.len refl
-    (took_steps setup t.me t.part here links.registry links.shut (length links.entries) queues m number c.arrived.new.part (here_in c.land.new.tokens.items) rest (rest t.me)
+    (acted_by t links new after (acts.Took m.sender number m.what) refl refl c.in-Some.ensures.len refl refl
+    (took_steps setup t.me t.part here links.registry.state links.shut (length links.entries) queues m number c.arrived.new.part (here_in c.land.new.tokens.items) rest (rest t.me)
     next brought part held first c.in-Some.ensures.some.rest))
 
 pub returns-clause-tickets : goal.returns-clause-tickets

@@ -1,0 +1,11 @@
+pub mod Fields
+pub mod Moves
+pub mod Ledger
+pub mod Threads
+pub mod Rows
+pub mod Covered
+pub mod Held
+pub mod HeldOn
+pub mod Bare
+pub mod Quiet
+pub mod Drains

@@ -1,0 +1,4 @@
+pub mod Here
+pub mod Written
+pub mod Emptied
+pub mod Longer

@@ -1,0 +1,5 @@
+pub mod Handles
+pub mod State
+pub mod Names
+pub mod Registered
+pub mod Tables
