@@ -16,8 +16,8 @@ mod threads;
 pub use bases::{base_place, find_base};
 pub use bd_stack::{
     at, base_handle, base_of, below, blocks_of, boundary_of, depth_of, device_named, firsts, home,
-    is_aio, is_base_handle, is_delay, is_error, is_home, is_malloc, row_of, size_of, stands_on,
-    users,
+    is_aio, is_base_handle, is_delay, is_error, is_home, is_malloc, number_named, row_of, size_of,
+    stands_on, users,
 };
 pub use channels::{get_channel, references, set_count};
 pub use digest::{digest_blocks, digest_due, is_digest_due};

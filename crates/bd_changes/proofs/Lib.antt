@@ -1,3 +1,4 @@
+pub mod Arriving
 pub mod Dues
 pub mod Each
 pub mod Firsts

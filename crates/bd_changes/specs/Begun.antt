@@ -47,3 +47,11 @@ token_moved t (tokens.Piece req k) (Some (keeps.Piece p)) id = here_with id (tak
 token_moved t (tokens.Walk walk) (Some (keeps.Walk w)) id = walk_moved t walk (arrived_walk w)
 token_moved t what (Some (keeps.Notice told)) id = closed_notice id told
 token_moved t what _ id = []
+
+-- a message with this token may bring what is kept so: any may bring a notice
+abbrev pub is_of_kind : Token → Kept → Bool
+is_of_kind (tokens.Request req) (keeps.Request r) = true
+is_of_kind (tokens.Piece req k) (keeps.Piece p) = true
+is_of_kind (tokens.Walk walk) (keeps.Walk w) = true
+is_of_kind what (keeps.Notice told) = true
+is_of_kind what _ = false

@@ -7,5 +7,5 @@ mod held;
 mod queue;
 
 pub use entries::{add, next_stamp};
-pub use held::{hold, let_go, take_out};
+pub use held::{hold, hold_begun, hold_walk, land, let_go, take_out};
 pub use queue::{Queue, empty_queues, is_full, pop, push};

@@ -1,5 +1,5 @@
--- What the words for changes of a part leave of it: what was put, the number of the next request, what was destructed, and what bases store.
-use Rattle.std.proofs.Common.{◌≡◌, ℕ, ◌+◌, ◌==◌, ◌≤◌, Bool, true, false, cond, ◌&&◌, List, [], ◌∷◌, Option, Some, None, refl, sym, ◌∙◌, ap, arith, le_of_eq}
+-- What the words for changes of a part leave of it: what was put, the number of the next request, what was destructed, what bases store, and the open requests.
+use Rattle.std.proofs.Common.{◌≡◌, ℕ, ◌+◌, ◌==◌, ◌≤◌, Bool, true, false, cond, not, ◌&&◌, List, [], ◌∷◌, filter, Option, Some, None, refl, sym, ◌∙◌, ap, arith, le_of_eq}
 use Rattle.bd_base.specs.declared.event.Answer.{Answer}
 use Rattle.bd_base.specs.declared.event.Answer.TheVariants as answers
 use Rattle.bd_base.specs.declared.event.RegEvent.{RegEvent}
@@ -22,6 +22,7 @@ use Rattle.bd_machine.specs.declared.state.Kept.{Kept}
 use Rattle.bd_machine.specs.declared.state.Kept.TheVariants as keeps
 use Rattle.bd_machine.specs.declared.state.News.{News}
 use Rattle.bd_machine.specs.declared.state.News.TheVariants as news
+use Rattle.bd_machine.specs.declared.state.Open.{Open}
 use Rattle.bd_machine.specs.declared.state.OpenPiece.{OpenPiece}
 use Rattle.bd_machine.specs.declared.state.OpenRequest.{OpenRequest}
 use Rattle.bd_machine.specs.declared.state.OpenWalk.{OpenWalk}
@@ -51,6 +52,7 @@ use Rattle.bd_base.specs.declared.request.Way.{Way}
 use Rattle.bd_machine.specs.Marks.{remarked, frozen_as, freeze_set, removal_set}
 use Rattle.bd_machine.specs.Messages.{queued, bases_took, request_took, told_part, freezes, went, told_walk, taken_by, arrived_walk, closed_notice}
 use Rattle.bd_machine.specs.Registry.{made, device_named}
+use Rattle.bd_machine.specs.Same.{same_request}
 use Rattle.bd_machine.specs.Table.{change_first, write}
 use Rattle.bd_machine.specs.Threads.{is_nobody}
 use Rattle.bd_machine.specs.Users.{is_base_handle}
@@ -66,9 +68,10 @@ pub record Core : Type 0 where
   pub taken : List (ℕ × ℕ)
   pub next : ℕ
   pub timings : List Timing
+  pub requests : List Open
 
 abbrev pub core : Part → Core
-core p = record { put = p.put; next_request = p.next_request; destructed = p.destructed; contents = stored p.bases; taken = p.taken; next = p.next; timings = timings p.limited }
+core p = record { put = p.put; next_request = p.next_request; destructed = p.destructed; contents = stored p.bases; taken = p.taken; next = p.next; timings = timings p.limited; requests = p.requests }
 
 -- the second part is the first, but for what else changes
 pub record Keeps (p q : Part) : Type 0 where
@@ -160,7 +163,7 @@ marked_keeps setup t v dev Thaw = record { rest = refl; walks = refl }
 marked_keeps setup t v dev Removal = keeps_then v.part (remarked dev removal_set v.part) (put_owed setup t dev (remarked dev removal_set v.part)) (record { rest = refl; walks = refl }) (put_owed_keeps setup t dev (remarked dev removal_set v.part))
 
 abbrev with_timings : Part → List Timing → Core
-with_timings p rows = record { put = p.put; next_request = p.next_request; destructed = p.destructed; contents = stored p.bases; taken = p.taken; next = p.next; timings = rows }
+with_timings p rows = record { put = p.put; next_request = p.next_request; destructed = p.destructed; contents = stored p.bases; taken = p.taken; next = p.next; timings = rows; requests = p.requests }
 
 timing_stays : (dev : DevId) (f : Limited → Limited) → ((l : Limited) → timing_of (f l) ≡ timing_of l) → (rows : List Limited) → timings (change_first (is_limit dev) f rows) ≡ timings rows
 timing_stays dev f h [] = refl
@@ -178,7 +181,7 @@ departed_keeps : (p : Part) (req : ReqId) (o : Option DevId) → Keeps p (depart
 departed_keeps p req None = record { rest = refl; walks = refl }
 departed_keeps p req (Some dev) = record { rest = ap (with_timings p) (timing_stays dev (left_by req) (λ l. refl) p.limited); walks = refl }
 
-stopped_keeps : (setup : Setup) (p : Part) (req : ReqId) (x : Option OpenRequest) → Keeps p (stopped setup p req x)
+pub stopped_keeps : (setup : Setup) (p : Part) (req : ReqId) (x : Option OpenRequest) → Keeps p (stopped setup p req x)
 stopped_keeps setup p req None = record { rest = refl; walks = refl }
 stopped_keeps setup p req (Some r) = departed_keeps p req (next_limited setup r)
 
@@ -261,9 +264,9 @@ took_contents p Held req k bases = refl
 took_contents p Served req k bases = refl
 
 abbrev with_contents : Part → List Stored → Core
-with_contents p contents = record { put = p.put; next_request = p.next_request; destructed = p.destructed; contents = contents; taken = p.taken; next = p.next; timings = timings p.limited }
+with_contents p contents = record { put = p.put; next_request = p.next_request; destructed = p.destructed; contents = contents; taken = p.taken; next = p.next; timings = timings p.limited; requests = p.requests }
 
-taken_grows : (setup : Setup) (t : ℕ) (what : Token) (p : Part) (x : Option Kept) (id : Id) → Grows p (taken_by setup t what p x id).part
+pub taken_grows : (setup : Setup) (t : ℕ) (what : Token) (p : Part) (x : Option Kept) (id : Id) → Grows p (taken_by setup t what p x id).part
 taken_grows setup t what p None id = record { rest = refl; walks = le_of_eq refl }
 taken_grows setup t (tokens.Request req) p (Some (keeps.Request r)) id = grows_of p _ (request_took_keeps setup req r r.trip p)
 taken_grows setup t (tokens.Piece req k) p (Some (keeps.Piece q)) id = record { rest = ap (with_contents p) (took_contents q q.progress req k p.bases); walks = le_of_eq refl }
@@ -330,7 +333,7 @@ is_plain (acts.Destruct dev digest) = false
 is_plain (acts.Tick dev now slices) = false
 is_plain _ = true
 
-visit_grows : (setup : Setup) (t : ℕ) (v : View) (walk : WalkId) (dev : DevId) (kind : WalkKind) → Grows v.part (walked_if_any t walk (marked_by setup t v dev kind) (walk_here v walk)).part
+pub visit_grows : (setup : Setup) (t : ℕ) (v : View) (walk : WalkId) (dev : DevId) (kind : WalkKind) → Grows v.part (walked_if_any t walk (marked_by setup t v dev kind) (walk_here v walk)).part
 visit_grows setup t v walk dev kind =
     let p : Part = marked_by setup t v dev kind in
     grows_then v.part p (walked_if_any t walk p (walk_here v walk)).part (marked_keeps setup t v dev kind) (walked_if_grows t walk p (walk_here v walk))
@@ -345,9 +348,14 @@ abbrev pub next_by_act : Act → ℕ → ℕ
 next_by_act (acts.Script line outcome) next = next + 1
 next_by_act _ next = next
 
--- the part with the act's message counted as taken, and its line as done
+-- the open requests, after an act
+abbrev pub requests_by_act : Act → List Open → List Open
+requests_by_act (acts.Complete req status shown) requests = filter (λ r. not (same_request r.id req)) requests
+requests_by_act _ requests = requests
+
+-- the part with the act's message counted as taken, its line as done, and its request as completed
 abbrev pub counted : Act → Part → Part
-counted act p = record p { taken = taken_by_act act p.taken; next = next_by_act act p.next }
+counted act p = record p { taken = taken_by_act act p.taken; next = next_by_act act p.next; requests = requests_by_act act p.requests }
 
 pub plain_grows : (setup : Setup) (t : ℕ) (v : View) (act : Act) (came : Came) → is_plain act ≡ true → Grows (counted act v.part) (change_by setup t v act came).part
 plain_grows setup t v (acts.Put to number what) came h = cc

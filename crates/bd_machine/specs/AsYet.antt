@@ -1,4 +1,4 @@
--- What holds as yet, while no thread removes a device or refuses a piece.
+-- What holds as yet, while a Shutdown removes no device and no thread refuses a piece.
 use Rattle.std.specs.Prelude.{Bool, true}
 
 -- While this is true:

@@ -23,12 +23,15 @@ use Rattle.bd_machine.specs.Scripts.{guards_script, change_script}
 use Rattle.bd_machine.specs.Walks.{guards_visit, change_visit}
 use Rattle.bd_machine.specs.View.{View, Came, Change}
 
--- ---- what is built as yet: messages are pieces, marks and channels to be dropped; events are those of handles, claims and channels; and no request is a reset or an abort
+-- ---- what is built as yet: all that isn't a reset, an abort that names a request, a limit, an injection or a delay
 
 abbrev pub is_built_token : Token → Bool
 is_built_token (tokens.Piece req k) = true
 is_built_token (tokens.Mark mark) = true
 is_built_token (tokens.Channel dev) = true
+is_built_token (tokens.Walk walk) = true
+is_built_token (tokens.Gone handle) = true
+is_built_token (tokens.Device dev) = true
 is_built_token _ = false
 
 abbrev pub is_built_event : RegEvent → Bool
@@ -38,6 +41,8 @@ is_built_event (events.Claim handle kind) = true
 is_built_event (events.GetChannel dev) = true
 is_built_event (events.PutChannel dev closing) = true
 is_built_event (events.DropChannel dev) = true
+is_built_event (events.BeginRemove name) = true
+is_built_event (events.Destructed dev) = true
 is_built_event _ = false
 
 abbrev pub is_built_as_yet : Act → Bool
@@ -48,6 +53,8 @@ is_built_as_yet (acts.Accept req dev handle op lba count) = has_range op
 is_built_as_yet (acts.Refuse handle op lba count errno) = has_range op
 is_built_as_yet (acts.Cut req pieces) = true
 is_built_as_yet (acts.Apply req k dev end) = true
+is_built_as_yet (acts.Abort req cause) = true
+is_built_as_yet (acts.Visit walk dev kind) = true
 is_built_as_yet (acts.Complete req status shown) = true
 is_built_as_yet (acts.Destruct dev digest) = true
 is_built_as_yet (acts.Script line outcome) = true

@@ -1,4 +1,3 @@
-pub mod Arriving
 pub mod Closing
 pub mod Moving
 pub mod Noting

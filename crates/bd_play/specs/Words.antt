@@ -108,14 +108,6 @@ is_of_course (acts.Abort req cause) = true
 is_of_course (acts.Tick dev now slices) = true
 is_of_course _ = false
 
--- a message with this token may bring what is kept so: any may bring a notice
-abbrev pub is_of_kind : Token → Kept → Bool
-is_of_kind (tokens.Request req) (keeps.Request r) = true
-is_of_kind (tokens.Piece req k) (keeps.Piece p) = true
-is_of_kind (tokens.Walk walk) (keeps.Walk w) = true
-is_of_kind what (keeps.Notice told) = true
-is_of_kind what _ = false
-
 -- what a submission asks for; nothing for any other act
 abbrev pub submission_of : Act → Submission
 submission_of (acts.Accept req dev handle op lba count) = record { op = op; lba = lba; count = count }

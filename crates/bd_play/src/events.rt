@@ -3,15 +3,14 @@ ghost use Rattle.std.specs.Prelude.{◌≡◌, true, IfOk, OnOk};
 ghost use Rattle.bd_base.specs.declared.act.Act.TheVariants as acts;
 ghost use Rattle.bd_changes.specs.Begun.{with_walk};
 ghost use Rattle.bd_machine.specs.Events.{alone, got_by, injection_taken};
-ghost use Rattle.bd_machine.specs.Registry.{device_named};
 ghost use Rattle.bd_play.specs.Words.{answered, changed, is_plain, made_by, may_begin, refused, seen};
 
 use crate::course::stays;
 use crate::side::Side;
 use bd_answers::{answer_to, made};
 use bd_asked::asks_event;
-use bd_base::{Answer, DevId, Name, OutOfMemory, RegEvent, ReqId, Setup, WalkId};
-use bd_blocks::device_named;
+use bd_base::{Answer, DevId, OutOfMemory, RegEvent, ReqId, WalkId};
+use bd_blocks::number_named;
 use bd_changes::{closed, decide};
 use bd_copies::Duplicate;
 use bd_course::asked_once_more;
@@ -97,19 +96,6 @@ fn answered_plainly(
             decide(part, side.state.shut, answer);
             Ok(())
         }
-    }
-}
-
-// The number of the device of a name. More devices than 32 bits count answer out of memory.
-fn number_named(setup: &Setup, name: &Name) -> Result<Option<u32>, OutOfMemory>
-    ensures { IfOk result (λ n. n ≡ device_named setup.now name.now) }
-{
-    match device_named(setup, name) {
-        Some(n) => match u32::try_from(n) {
-            Ok(n) => Ok(Some(n)),
-            Err(_) => Err(OutOfMemory),
-        },
-        None => Ok(None),
     }
 }
 

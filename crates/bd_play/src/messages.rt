@@ -1,12 +1,12 @@
 //! Put and Took.
 ghost use Rattle.std.specs.Prelude.{◌≡◌, cond, option_copied, IfOk, OnOk};
 ghost use Rattle.bd_base.specs.declared.act.Act.TheVariants as acts;
-ghost use Rattle.bd_changes.specs.Begun.{stays};
+ghost use Rattle.bd_changes.specs.Begun.{is_of_kind, stays};
 ghost use Rattle.bd_machine.specs.Messages.{news_of, news_put, token_put};
 ghost use Rattle.bd_machine.specs.Step.{moved, place_after};
 ghost use Rattle.bd_machine.specs.View.{Closed, Here, To, message_of};
 ghost use Rattle.bd_machine.specs.declared.state.Id.TheVariants as ids;
-ghost use Rattle.bd_play.specs.Words.{brought, changed, is_of_kind, made_by, moves_of, moves_taken, refused, seen};
+ghost use Rattle.bd_play.specs.Words.{brought, changed, made_by, moves_of, moves_taken, refused, seen};
 
 use crate::side::Side;
 use bd_base::{OutOfMemory, Rows, Token};
@@ -202,7 +202,7 @@ fn place_of_arrived(thread: u32, what: &Token, kept: &Kept) -> Place
 }
 
 // The token that a message brought, with this kept of it, is on the thread or ends.
-#[tactic(auto, using(crate::proofs::Arriving::arrives))]
+#[tactic(auto, using(bd_changes::proofs::Arriving::arrives))]
 fn arrive(
     alloc: Global,
     tokens: &mut Rows<(Id, Tracked)>,

@@ -1,6 +1,6 @@
 //! Which entry is allowed, and the state after it.
 ghost use Rattle.std.specs.Prelude.{◌≡◌, ◌<◌, length, IfOk, None, OnOk, true};
-ghost use Rattle.bd_machine.specs.Guards.{is_built, is_built_as_yet, is_built_event, is_built_token, taken_injection};
+ghost use Rattle.bd_machine.specs.Guards.{is_built, is_built_as_yet, taken_injection};
 ghost use Rattle.bd_machine.specs.Changes.{registry_after};
 ghost use Rattle.bd_machine.specs.Step.{after, is_in_order, is_shutdown, refusal};
 ghost use Rattle.bd_machine.specs.Table.{change_at};
@@ -20,32 +20,9 @@ use bd_course::{
 use bd_machine::guard::{IN_ORDER, UNBUILT};
 use bd_machine::{Part, Registry, State, TakenInjection};
 use bd_rules::has_range;
-use bd_view::{AS_YET, PieceId, Submission};
+use bd_view::{AS_YET, PieceId, Submission, is_built_event, is_built_token};
 use bd_walks::refused_visit;
 use std::alloc::Global;
-
-fn is_built_token(what: &Token) -> bool
-    ensures { result ≡ is_built_token what.now }
-{
-    matches!(
-        what,
-        Token::Piece(_, _) | Token::Mark(_) | Token::Channel(_)
-    )
-}
-
-fn is_built_event(event: &RegEvent) -> bool
-    ensures { result ≡ is_built_event event.now }
-{
-    matches!(
-        event,
-        RegEvent::Open { .. }
-            | RegEvent::Close { .. }
-            | RegEvent::Claim { .. }
-            | RegEvent::GetChannel { .. }
-            | RegEvent::PutChannel { .. }
-            | RegEvent::DropChannel { .. }
-    )
-}
 
 fn is_built_as_yet(act: &Act) -> bool
     ensures { result ≡ is_built_as_yet act.now }
@@ -58,6 +35,8 @@ fn is_built_as_yet(act: &Act) -> bool
         Act::Refuse { op, .. } => has_range(*op),
         Act::Cut { .. } => true,
         Act::Apply { .. } => true,
+        Act::Abort { .. } => true,
+        Act::Visit { .. } => true,
         Act::Complete { .. } => true,
         Act::Destruct { .. } => true,
         Act::Script { .. } => true,

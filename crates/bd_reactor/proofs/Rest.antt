@@ -4,6 +4,7 @@ use Rattle.std.specs.List.{list_all, list_any, range_with_len, slice_get}
 use Rattle.std.proofs.lemmas.Bool.{and_parts}
 use Rattle.std.proofs.lemmas.List.{length-append}
 use Rattle.std.proofs.lemmas.Nat.{mod_below}
+use Rattle.bd_base.specs.declared.id.HandleId.{HandleId}
 use Rattle.bd_base.specs.declared.setup.Setup.{Setup}
 use Rattle.bd_machine.specs.declared.state.Handle.{Handle}
 use Rattle.bd_machine.specs.declared.state.Id.{Id}
@@ -11,9 +12,11 @@ use Rattle.bd_machine.specs.declared.state.Kept.{Kept}
 use Rattle.bd_machine.specs.declared.state.Owed.{Owed}
 use Rattle.bd_machine.specs.declared.state.State.{State}
 use Rattle.bd_machine.specs.declared.state.TakenInjection.{TakenInjection}
+use Rattle.bd_machine.specs.Admission.{is_gone}
 use Rattle.bd_machine.specs.Asked.{is_script_blocked, open_on}
 use Rattle.bd_machine.specs.BlockMap.{base_of, home}
 use Rattle.bd_machine.specs.Lines.{shutdown_at}
+use Rattle.bd_machine.specs.Registry.{handle_of}
 use Rattle.bd_machine.specs.Rest.{is_idle_owed, is_nothing_owed}
 use Rattle.bd_machine.specs.Run.{IsCompleteRun, state_after}
 use Rattle.bd_machine.specs.Same.{same_dev, same_handle}
@@ -29,8 +32,8 @@ use Rattle.bd_links.specs.Queues.{queues_of}
 use Rattle.bd_links.specs.Tokens.{here_in}
 use Rattle.bd_thread.specs.declared.links.Links.{Links}
 use Rattle.bd_thread.specs.declared.thread.Thread.{Thread}
-use Rattle.bd_thread.specs.Resting.{are_empty, has_destructed_all, is_blocked, is_done_with, is_empty, rests, shut_down}
-use Rattle.bd_thread.specs.Seen.{local, number_of, setup_of}
+use Rattle.bd_thread.specs.Resting.{are_empty, has_destructed_all, is_blocked, is_done_with, is_empty, is_settled, rests, shut_down}
+use Rattle.bd_thread.specs.Seen.{local, number_of, setup_of, view_of}
 use Rattle.bd_reactor.specs.declared.node.NodeState.TheVariants.{Idle, Done, Busy}
 use Rattle.bd_reactor.specs.Whole.{IsWhole, shared_of, view_or, views_of}
 use Rattle.bd_reactor.proofs.Places.{all_at, all_below, has_at}
@@ -59,42 +62,82 @@ none_taken None h = refl
 none_taken (Some x) h = cc
 
 -- what a thread at rest has
-record Rests (t : Thread) : Type 0 where
+record Rests (t : Thread) (links : Links) : Type 0 where
   held : t.held.items ≡ []
   due : t.part.due ≡ []
   owed : t.part.owed ≡ []
-  gone : t.part.gone ≡ []
   injection : t.part.injection ≡ None
+  settled : list_all (is_settled t links) t.part.gone ≡ true
 
-rests_of : (t : Thread) → rests t ≡ true → Rests t
-rests_of t h =
+rests_of : (t : Thread) (links : Links) → rests t links ≡ true → Rests t links
+rests_of t links h =
     let held : Bool = length t.held.items == 0 in
     let due : Bool = length t.part.due == 0 in
     let owed : Bool = length t.part.owed == 0 in
-    let gone : Bool = length t.part.gone == 0 in
-    let p = and_parts (held && due && owed && gone) (is_none t.part.injection) h in
-    let q = and_parts (held && due && owed) gone p.0 in
+    let injection : Bool = is_none t.part.injection in
+    let p = and_parts (held && due && owed && injection) (list_all (is_settled t links) t.part.gone) h in
+    let q = and_parts (held && due && owed) injection p.0 in
     let r = and_parts (held && due) owed q.0 in
     let u = and_parts held due r.0 in
     record {
       held = nothing t.held.items u.0;
       due = nothing t.part.due u.1;
       owed = nothing t.part.owed r.1;
-      gone = nothing t.part.gone q.1;
-      injection = none_taken t.part.injection p.1;
+      injection = none_taken t.part.injection q.1;
+      settled = p.1;
     }
 
--- where no remove event came, no handle is one that the thread closes by itself
-none_left_open : (setup : Setup) (v : View) → v.part.gone ≡ [] → (hs : List Handle) → list_any (is_left_open_in setup v) hs ≡ false
-none_left_open setup v e [] = refl
-none_left_open setup v e (h ∷ hs) =
-    ap (λ b. (not (is_base_handle setup h.id) && b && (open_on v.part h.id == 0)) || list_any (is_left_open_in setup v) hs) (ap (list_any (same_handle h.id)) e)
-    ∙ ap (λ b. b || list_any (is_left_open_in setup v) hs) (no_mark (not (is_base_handle setup h.id)) (open_on v.part h.id == 0))
-    ∙ none_left_open setup v e hs
+-- ---- handles that a thread closes by itself
+
+-- a handle whose remove event was taken is a base handle, or isn't open
+gone_settled : (t : Thread) (links : Links) (id : HandleId) (gone : List HandleId) → list_all (is_settled t links) gone ≡ true → list_any (same_handle id) gone ≡ true → is_settled t links id ≡ true
+gone_settled t links id [] all h = cc
+gone_settled t links id (g ∷ gs) all h = go (same_handle id g) refl h
   where
-    no_mark : (a b : Bool) → (a && false && b) ≡ false
-    no_mark true b = refl
-    no_mark false b = refl
+    parts = and_parts (is_settled t links g) (list_all (is_settled t links) gs) all
+
+    go : (b : Bool) → same_handle id g ≡ b → b || list_any (same_handle id) gs ≡ true → is_settled t links id ≡ true
+    go true e k = ap (λ (n : ℕ). is_settled t links (record { 0 = n })) (eqb-true id.0 g.0 e) ∙ parts.0
+    go false e k = gone_settled t links id gs parts.1 k
+
+-- where each of these is open by its number, none is left open
+none_left_open : (t : Thread) (links : Links) (setup : Setup) → setup_of t ≡ setup → list_all (is_settled t links) t.part.gone ≡ true → (hs : List Handle)
+    → ((id : HandleId) → handle_of (view_of t links).handles id ≡ None → handle_of hs id ≡ None)
+    → list_any (is_left_open_in setup (view_of t links)) hs ≡ false
+none_left_open t links setup given all [] among = refl
+none_left_open t links setup given all (h ∷ hs) among =
+    ap (λ b. b || list_any (is_left_open_in setup v) hs) (one (is_base_handle setup h.id) (is_gone v.part h.id) refl refl)
+    ∙ none_left_open t links setup given all hs (λ id none. behind id (same_handle h.id id) (among id none))
+  where
+    v : View
+    v = view_of t links
+
+    behind : (id : HandleId) (b : Bool) → cond b (Some h) (handle_of hs id) ≡ None → handle_of hs id ≡ None
+    behind id true e = cc
+    behind id false e = e
+
+    -- it is found by its own number
+    found : handle_of v.handles h.id ≡ None → ⊥
+    found none = mine (same_handle h.id h.id) (eq-eqb h.id.0 h.id.0 refl) (among h.id none)
+      where
+        mine : (b : Bool) → b ≡ true → cond b (Some h) (handle_of hs h.id) ≡ None → ⊥
+        mine true e k = cc
+        mine false e k = cc
+
+    settled_base : (b : Bool) (o : Option Handle) → handle_of v.handles h.id ≡ o → b || is_none o ≡ true → b ≡ true
+    settled_base true o e k = refl
+    settled_base false None e k = absurd (found e)
+    settled_base false (Some x) e k = k
+
+    one : (base gone : Bool) → is_base_handle setup h.id ≡ base → is_gone v.part h.id ≡ gone → not base && gone && (open_on v.part h.id == 0) ≡ false
+    one true gone b g = refl
+    one false false b g = refl
+    one false true b g =
+        let own : is_base_handle t.setup.now h.id ≡ true = settled_base (is_base_handle t.setup.now h.id) (handle_of v.handles h.id) refl (gone_settled t links h.id t.part.gone all g) in
+        absurd (clash (sym b ∙ ap (λ (s : Setup). is_base_handle s h.id) (sym given) ∙ own))
+      where
+        clash : false ≡ true → ⊥
+        clash e = cc
 
 one_of : (b c : Bool) → (not b || c) ≡ true → b ≡ true → c ≡ true
 one_of true c h e = h
@@ -126,26 +169,26 @@ module _ (setup : Setup) (threads : List Thread) (links : Links) (w : IsWhole se
       subst (λ (v : View). q t v) (sym (ap (view_or setup t links) u.1))
       (subst (λ (n : ℕ). q n (local u.0 links).view) own.number (gives u.0 own.given (all_at p threads t u.0 all u.1)))
 
-  pub at_rest : list_all rests threads ≡ true → are_empty links.queues.items ≡ true → AreAtRest setup seen (shared_of links)
+  pub at_rest : list_all (λ t. rests t links) threads ≡ true → are_empty links.queues.items ≡ true → AreAtRest setup seen (shared_of links)
   at_rest rest empty = record {
     none_queued = empty_at links.queues.items empty;
-    none_due = of_each rests (λ t v. v.part.due ≡ []) rest (λ t given h. (rests_of t h).due);
-    owed_idle = of_each rests (λ t v. is_nothing_owed links.registry.state v.part ≡ true) rest (λ t given h. ap (λ (os : List Owed). list_all (is_idle_owed links.registry.state) os) (rests_of t h).owed);
-    closed = of_each rests (λ t v. list_any (is_left_open_in setup v) v.handles ≡ false) rest (λ t given h. none_left_open setup (local t links).view (rests_of t h).gone (local t links).view.handles);
-    resting = of_each rests (λ t v. (id : Id) → is_resting_here setup t v id (v.here id) ≡ true) rest
-        (λ t given h id. ap (is_resting_here setup (number_of t) (local t links).view id) (none_held t.held.items (rests_of t h).held id) ∙ rests_none (number_of t) (local t links).view id);
-    untaken = of_each rests (λ t v. v.part.injection ≡ None) rest (λ t given h. (rests_of t h).injection) 0 w.some;
+    none_due = of_each (λ t. rests t links) (λ t v. v.part.due ≡ []) rest (λ t given h. (rests_of t links h).due);
+    owed_idle = of_each (λ t. rests t links) (λ t v. is_nothing_owed links.registry.state v.part ≡ true) rest (λ t given h. ap (λ (os : List Owed). list_all (is_idle_owed links.registry.state) os) (rests_of t links h).owed);
+    closed = of_each (λ t. rests t links) (λ t v. list_any (is_left_open_in setup v) v.handles ≡ false) rest (λ t given h. none_left_open t links setup given (rests_of t links h).settled (local t links).view.handles (λ id none. none));
+    resting = of_each (λ t. rests t links) (λ t v. (id : Id) → is_resting_here setup t v id (v.here id) ≡ true) rest
+        (λ t given h id. ap (is_resting_here setup (number_of t) (local t links).view id) (none_held t.held.items (rests_of t links h).held id) ∙ rests_none (number_of t) (local t links).view id);
+    untaken = of_each (λ t. rests t links) (λ t v. v.part.injection ≡ None) rest (λ t given h. (rests_of t links h).injection) 0 w.some;
   }
     where
       rests_none : (t : ℕ) (v : View) (id : Id) → is_resting_here setup t v id None ≡ true
       rests_none t v id = refl
 
-  pub done : list_all rests threads ≡ true → are_empty links.queues.items ≡ true → AreDone setup seen (shared_of links)
+  pub done : list_all (λ t. rests t links) threads ≡ true → are_empty links.queues.items ≡ true → AreDone setup seen (shared_of links)
   done rest empty = record {
     none_queued = empty_at links.queues.items empty;
-    none_here = of_each rests (λ t v. (id : Id) → v.here id ≡ None) rest (λ t given h id. none_held t.held.items (rests_of t h).held id);
-    none_due = of_each rests (λ t v. v.part.due ≡ []) rest (λ t given h. (rests_of t h).due);
-    none_owed = of_each rests (λ t v. v.part.owed ≡ []) rest (λ t given h. (rests_of t h).owed);
+    none_here = of_each (λ t. rests t links) (λ t v. (id : Id) → v.here id ≡ None) rest (λ t given h id. none_held t.held.items (rests_of t links h).held id);
+    none_due = of_each (λ t. rests t links) (λ t v. v.part.due ≡ []) rest (λ t given h. (rests_of t links h).due);
+    none_owed = of_each (λ t. rests t links) (λ t v. v.part.owed ≡ []) rest (λ t given h. (rests_of t links h).owed);
   }
 
   pub blocked : list_all (λ t. is_blocked t links) threads ≡ true → AreBlocked setup seen
@@ -167,7 +210,7 @@ module _ (setup : Setup) (threads : List Thread) (links : Links) (w : IsWhole se
   view_still i (Some t) = refl
 
   -- **a node that is idle may be shut**
-  pub shut_whole : links.shut ≡ false → list_all rests threads ≡ true → are_empty links.queues.items ≡ true → list_all (λ t. is_blocked t links) threads ≡ true → IsWhole setup threads (shut_down links)
+  pub shut_whole : links.shut ≡ false → list_all (λ t. rests t links) threads ≡ true → are_empty links.queues.items ≡ true → list_all (λ t. is_blocked t links) threads ≡ true → IsWhole setup threads (shut_down links)
   shut_whole unshut rest empty all =
       let was = state_after setup [] links.entries in
       let stamp = length links.entries + 1 in
@@ -189,6 +232,6 @@ module _ (setup : Setup) (threads : List Thread) (links : Links) (w : IsWhole se
       }
 
   -- **a node that is done has a complete run**
-  pub done_complete : links.shut ≡ true → list_all rests threads ≡ true → are_empty links.queues.items ≡ true → list_all has_destructed_all threads ≡ true → IsCompleteRun setup [] links.entries
+  pub done_complete : links.shut ≡ true → list_all (λ t. rests t links) threads ≡ true → are_empty links.queues.items ≡ true → list_all has_destructed_all threads ≡ true → IsCompleteRun setup [] links.entries
   done_complete shut rest empty all =
       (w.run, rest_is_complete setup (state_after setup [] links.entries) seen (shared_of links) w.tied w.some (done rest empty) shut (destructed all))

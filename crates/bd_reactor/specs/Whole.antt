@@ -65,9 +65,9 @@ IsNode n = IsWhole n.setup.now n.threads.items n.links
 
 -- ---- how far it is
 
--- no token is on a thread, nothing is still to be put or done, and no message is on its way
+-- no token is on a thread, nothing is still to be put or done, no handle is still to be closed, and no message is on its way
 abbrev pub is_at_rest : Node → Bool
-is_at_rest n = list_all rests n.threads.items && are_empty n.links.queues.items
+is_at_rest n = list_all (λ t. rests t n.links) n.threads.items && are_empty n.links.queues.items
 
 -- at rest, and each script is at its end or waits
 abbrev pub is_idle : Node → Bool

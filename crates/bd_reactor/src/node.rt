@@ -65,10 +65,10 @@ fn threads_of<'a>(alloc: Global, setup: &'a Setup) -> Result<Vec<Thread<'a>>, Ou
     Ok(threads)
 }
 
-fn all_rest<'a>(threads: &[Thread<'a>]) -> bool
-    ensures { result ≡ list_all rests threads.now }
+fn all_rest<'a>(threads: &[Thread<'a>], links: &Links) -> bool
+    ensures { result ≡ list_all (λ t. rests t links.now) threads.now }
 {
-    threads.iter().all(|thread| thread.rests())
+    threads.iter().all(|thread| thread.rests(links))
 }
 
 fn are_all_blocked<'a>(threads: &[Thread<'a>], links: &Links) -> bool
@@ -150,7 +150,7 @@ impl<'a> Node<'a> {
     fn is_at_rest(&self) -> bool
         ensures { result ≡ is_at_rest self.now }
     {
-        all_rest(self.threads.as_slice()) && self.links.are_empty()
+        all_rest(self.threads.as_slice(), &self.links) && self.links.are_empty()
     }
 
     fn is_idle(&self) -> bool

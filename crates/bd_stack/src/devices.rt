@@ -1,5 +1,5 @@
 //! Devices: their rows and kinds.
-ghost use Rattle.std.specs.Prelude.{◌≡◌, option_copied};
+ghost use Rattle.std.specs.Prelude.{◌≡◌, option_copied, IfOk};
 ghost use Rattle.bd_machine.specs.BlockMap.{
   blocks_of,
   boundary_of,
@@ -15,7 +15,7 @@ ghost use Rattle.bd_machine.specs.BlockMap.{
 };
 ghost use Rattle.bd_machine.specs.Registry.{device_named};
 
-use bd_base::{DevId, DevRow, Kind, Name, Setup};
+use bd_base::{DevId, DevRow, Kind, Name, OutOfMemory, Setup};
 
 /// The row of a device; none where the setup doesn't have the device.
 pub fn row_of(setup: &Setup, dev: DevId) -> Option<&DevRow>
@@ -33,6 +33,19 @@ pub fn device_named(setup: &Setup, name: &Name) -> Option<usize>
         .as_slice()
         .iter()
         .position(|row| row.name.is(name))
+}
+
+/// The number of the device of a name. More devices than 32 bits count answer out of memory.
+pub fn number_named(setup: &Setup, name: &Name) -> Result<Option<u32>, OutOfMemory>
+    ensures { IfOk result (λ n. n ≡ device_named setup.now name.now) }
+{
+    match device_named(setup, name) {
+        Some(n) => match u32::try_from(n) {
+            Ok(n) => Ok(Some(n)),
+            Err(_) => Err(OutOfMemory),
+        },
+        None => Ok(None),
+    }
 }
 
 /// How many blocks a device has; 0 where the setup doesn't have the device.

@@ -1,5 +1,5 @@
 -- What adds no entry changes nothing.
-use Rattle.std.proofs.Common.{◌≡◌, ℕ, ◌≤◌, Bool, true, false, List, length, Option, Some, None, Result, Ok, Err, OnOk, IfOk, refl, ◌∙◌, ap, subst, arith, find}
+use Rattle.std.proofs.Common.{◌≡◌, ℕ, ◌≤◌, Bool, true, false, ◌==◌, List, length, Option, Some, None, Result, Ok, Err, OnOk, IfOk, refl, ◌∙◌, ap, subst, arith, find}
 use Rattle.std.proofs.lemmas.List.{length-append}
 use Rattle.bd_base.specs.declared.act.Act.{Act}
 use Rattle.bd_base.specs.declared.act.Act.TheVariants as acts
@@ -9,9 +9,12 @@ use Rattle.bd_base.specs.declared.event.RegEvent.{RegEvent}
 use Rattle.bd_base.specs.declared.event.RegEvent.TheVariants as events
 use Rattle.bd_base.specs.declared.id.DevId.{DevId}
 use Rattle.bd_base.specs.declared.id.ReqId.{ReqId}
+use Rattle.bd_base.specs.declared.id.WalkId.{WalkId}
 use Rattle.bd_machine.specs.declared.state.Between.{Between}
 use Rattle.bd_machine.specs.declared.state.Handle.{Handle}
 use Rattle.bd_machine.specs.declared.state.Id.{Id}
+use Rattle.bd_machine.specs.declared.state.Id.TheVariants as ids
+use Rattle.bd_machine.specs.declared.state.OpenWalk.{OpenWalk}
 use Rattle.bd_machine.specs.BlockMap.{is_malloc}
 use Rattle.bd_machine.specs.Homes.{is_base}
 use Rattle.bd_machine.specs.Messages.{count_at}
@@ -25,11 +28,13 @@ use Rattle.bd_thread.specs.Acted.{Acted}
 use Rattle.bd_thread.specs.Completions.{ending_of, Completes, CompletesBy}
 use Rattle.bd_blocks.specs.Digests.{digest_due}
 use Rattle.bd_thread.specs.Destructs.{may_device_go, DestructAdded, Destructs}
-use Rattle.bd_thread.specs.Drops.{drop_asked, Drops, NoDrop}
+use Rattle.bd_thread.specs.Duties.{duty_asked, Discharges, NoDuty}
 use Rattle.bd_thread.specs.Endings.{left_on, ClosesLeft}
-use Rattle.bd_thread.specs.Lines.{claim_asked, close_asked, close_due, get_due, open_asked, outcome_now, AsksBy, Claims, Closes, ClosesBy, EndsBy, EndsLine, Follows, IsFollowed, Opens, OpensBy}
+use Rattle.bd_thread.specs.Lines.{claim_asked, close_asked, close_due, get_due, open_asked, outcome_now, remove_asked, AsksBy, Claims, Closes, ClosesBy, EndsBy, EndsLine, Follows, IsFollowed, Opens, OpensBy, Removes}
+use Rattle.bd_thread.specs.Moves.{Comes, CompletesOwn}
 use Rattle.bd_thread.specs.Seen.{view_of}
 use Rattle.bd_thread.specs.Sent.{first_brought, may_put, Puts, PutsBy, Takes, TakesBy}
+use Rattle.bd_thread.specs.Walking.{visit_due, Visits, VisitsBy}
 use Rattle.bd_thread.specs.Waits.{Idles, IsIdle, NoDestructOn, NoHandleOn, NoLine, NoMessage, NoSubmission}
 use Rattle.bd_links.proofs.Longer.{length-longer}
 use Rattle.bd_thread.proofs.Going.{acted_then}
@@ -89,6 +94,24 @@ completes_idle {P = P} req old before new after done p h few = go (ending_of old
     go None k = record { thread = k.1; links = k.2; waits = p }
     go (Some e) k = absurd (more old.me before after (acts.Complete req e.status e.shown) (ap (λ (l : Links). l.entries) k.1.links) few)
 
+pub visits_idle : {P : Thread → Links → Type 0} (walk : WalkId) (old : Thread) (before : Links) (new : Thread) (after : Links) (made : Bool) → P old before → Visits walk old before new after made → Idles P old before new after
+visits_idle {P = P} walk old before new after made p h few = go (visit_due old before walk) h
+  where
+    go : (o : Option OpenWalk) → VisitsBy walk old before new after made o → IsIdle P old before new after
+    go None k = record { thread = k.1; links = k.2; waits = p }
+    go (Some w) k = absurd (more old.me before after (acts.Visit walk w.dev w.kind) (ap (λ (l : Links). l.entries) k.1.links) few)
+
+-- what a token brings about adds no entry, or something was done
+pub comes_idle : {P : Thread → Links → Type 0} (id : Id) (old : Thread) (before : Links) (new : Thread) (after : Links) → P old before → Comes id old before new after → Idles P old before new after
+comes_idle {P = P} (ids.Piece req k) old before new after p h = go (req.thread == old.me) h
+  where
+    go : (b : Bool) → CompletesOwn b req old before new after → Idles P old before new after
+    go true k = completes_idle req old before new after k.done p k.completes
+    go false k = λ few. record { thread = k.0; links = k.1; waits = p }
+comes_idle (ids.Walk walk) old before new after p h = visits_idle walk old before new after h.made p h.visits
+comes_idle (ids.Request req) old before new after p h = λ few. record { thread = h.0; links = h.1; waits = p }
+comes_idle (ids.Notice sender receiver number) old before new after p h = λ few. record { thread = h.0; links = h.1; waits = p }
+
 asks_idle : {P : Thread → Links → Type 0} (old : Thread) (before : Links) (new : Thread) (after : Links) (asked : Bool) (o : Option RegEvent) → (o ≡ None → P old before) → AsksBy old before new after asked o → Idles P old before new after
 asks_idle old before new after asked None so h few = record { thread = h.1; links = h.2; waits = so refl }
 asks_idle old before new after asked (Some event) so h few = absurd (more old.me before after (acts.Reg event h.1.answer) (ap (λ (l : Links). l.entries) h.1.links) few)
@@ -129,8 +152,11 @@ closes_idle old before new after closed h = closes_by_idle old before new after 
 pub claims_idle : (old : Thread) (before : Links) (new : Thread) (after : Links) (claimed : Bool) → Claims old before new after claimed → Idles (λ t links. claim_asked t links ≡ None) old before new after
 claims_idle old before new after claimed h = asks_idle old before new after claimed (claim_asked old before) (λ e. e) h
 
-pub drops_idle : (old : Thread) (before : Links) (new : Thread) (after : Links) (asked : Bool) → Drops old before new after asked → Idles NoDrop old before new after
-drops_idle old before new after asked h = asks_idle old before new after asked (drop_asked old before) (λ e. e) h
+pub removes_idle : (old : Thread) (before : Links) (new : Thread) (after : Links) (removed : Bool) → Removes old before new after removed → Idles (λ t links. remove_asked t links ≡ None) old before new after
+removes_idle old before new after removed h = asks_idle old before new after removed (remove_asked old before) (λ e. e) h
+
+pub discharges_idle : (old : Thread) (before : Links) (new : Thread) (after : Links) (asked : Bool) → Discharges old before new after asked → Idles NoDuty old before new after
+discharges_idle old before new after asked h = asks_idle old before new after asked (duty_asked old before) (λ e. e) h
 
 ends_by_idle : {P : Thread → Links → Type 0} (old : Thread) (before : Links) (new : Thread) (after : Links) (ended : Bool) (o : Option Outcome) → (o ≡ None → P old before) → EndsBy old before new after ended o → Idles P old before new after
 ends_by_idle old before new after ended None so h few = record { thread = h.1; links = h.2; waits = so refl }
@@ -140,29 +166,34 @@ pub ends_idle : (old : Thread) (before : Links) (new : Thread) (after : Links) (
 ends_idle old before new after ended h = ends_by_idle old before new after ended (outcome_now old before) (λ e. e) h
 
 -- nothing can be done for the line
-pub line_idle : (o : Thread) (a : Links) (p : Thread) (b : Links) (q : Thread) (d : Links) (r : Thread) (e : Links) (s : Thread) (f : Links) (n : Thread) (g : Links)
+pub line_idle : (o : Thread) (a : Links) (p : Thread) (b : Links) (q : Thread) (d : Links) (r : Thread) (e : Links) (u : Thread) (k : Links) (s : Thread) (f : Links) (n : Thread) (g : Links)
     → Acted o a p b
     → Acted p b q d
     → Acted q d r e
-    → Acted r e s f
+    → Acted r e u k
+    → Acted u k s f
     → Acted s f n g
     → Idles (λ t links. open_asked t links ≡ None) o a p b
     → Idles (λ t links. close_asked t links ≡ None) p b q d
     → Idles (λ t links. claim_asked t links ≡ None) q d r e
-    → Idles NoSubmission r e s f
+    → Idles (λ t links. remove_asked t links ≡ None) r e u k
+    → Idles NoSubmission u k s f
     → Idles (λ t links. outcome_now t links ≡ None) s f n g
     → Idles NoLine o a n g
-line_idle o a p b q d r e s f n g open-acted close-acted claim-acted submit-acted end-acted opens closes claims submits ends =
+line_idle o a p b q d r e u k s f n g open-acted close-acted claim-acted remove-acted submit-acted end-acted opens closes claims removes submits ends =
     let two : Idles (λ t links. (open_asked t links ≡ None) × (close_asked t links ≡ None)) o a q d =
     idle_then o a p b q d open-acted close-acted (λ opening closing. (opening, closing)) opens closes in
     let two-acted = acted_then o a p b q d open-acted close-acted in
     let three : Idles (λ t links. (open_asked t links ≡ None) × (close_asked t links ≡ None) × (claim_asked t links ≡ None)) o a r e =
     idle_then o a q d r e two-acted claim-acted (λ asked claiming. (asked.0, asked.1, claiming)) two claims in
     let three-acted = acted_then o a q d r e two-acted claim-acted in
-    let four : Idles (λ t links. (open_asked t links ≡ None) × (close_asked t links ≡ None) × (claim_asked t links ≡ None) × NoSubmission t links) o a s f =
-    idle_then o a r e s f three-acted submit-acted (λ asked submission. (asked.0, asked.1, asked.2, submission)) three submits in
-    idle_then o a s f n g (acted_then o a r e s f three-acted submit-acted) end-acted
-    (λ asked outcome. record { opening = asked.0; closing = asked.1; claiming = asked.2; submission = asked.3; outcome = outcome }) four ends
+    let four : Idles (λ t links. (open_asked t links ≡ None) × (close_asked t links ≡ None) × (claim_asked t links ≡ None) × (remove_asked t links ≡ None)) o a u k =
+    idle_then o a r e u k three-acted remove-acted (λ asked removing. (asked.0, asked.1, asked.2, removing)) three removes in
+    let four-acted = acted_then o a r e u k three-acted remove-acted in
+    let five : Idles (λ t links. (open_asked t links ≡ None) × (close_asked t links ≡ None) × (claim_asked t links ≡ None) × (remove_asked t links ≡ None) × NoSubmission t links) o a s f =
+    idle_then o a u k s f four-acted submit-acted (λ asked submission. (asked.0, asked.1, asked.2, asked.3, submission)) four submits in
+    idle_then o a s f n g (acted_then o a u k s f four-acted submit-acted) end-acted
+    (λ asked outcome. record { opening = asked.0; closing = asked.1; claiming = asked.2; removing = asked.3; submission = asked.4; outcome = outcome }) five ends
 
 pub leaves_idle : (old : Thread) (before : Links) (new : Thread) (after : Links) (dev : DevId) (closed : Bool) → ClosesLeft old before new after dev closed → Idles (NoHandleOn dev) old before new after
 leaves_idle old before new after dev closed h = closes_by_idle old before new after closed (left_on dev old before) (λ e. e) h

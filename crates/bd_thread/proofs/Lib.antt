@@ -14,3 +14,4 @@ pub mod Starting
 pub mod Leftovers
 pub mod Idle
 pub mod Waiting
+pub mod Walking

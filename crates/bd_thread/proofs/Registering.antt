@@ -44,7 +44,8 @@ use Rattle.bd_machine.specs.Marks.{frozen_as, remarked}
 use Rattle.bd_machine.specs.Registry.{answer_to, made}
 use Rattle.bd_machine.specs.Same.{same_answer, same_dev, same_dropped, same_decision, same_holder, same_if_any, same_next_reset}
 use Rattle.bd_machine.specs.Users.{is_base_handle}
-use Rattle.bd_machine.specs.View.{Came, Move, View}
+use Rattle.bd_machine.specs.View.{Came, Change, Move, View}
+use Rattle.bd_machine.proofs.Parts.{Core, reg_grows}
 use Rattle.bd_view.specs.Came.{came_between, came_shut}
 use Rattle.bd_turns.specs.declared.queue.Message.{Message}
 use Rattle.bd_turns.specs.Local.{Local, came_local}
@@ -54,7 +55,7 @@ use Rattle.bd_links.specs.Tokens.{here_in}
 use Rattle.bd_thread.specs.declared.links.Links.{Links}
 use Rattle.bd_thread.specs.declared.thread.Thread.{Thread}
 use Rattle.bd_thread.specs.Acted.{Acted}
-use Rattle.bd_thread.specs.Lines.{answered, asked_registry, claim_if_bound, claim_of, close_asked, close_due, close_of, get_due, handle_if_any, if_asked, if_closable, job_now, may_ask, may_ask_after, may_close, open_of, AsksBy, IsAnswered, IsFollowed, OpensBy}
+use Rattle.bd_thread.specs.Lines.{answered, asked_registry, change_by, claim_if_bound, claim_of, close_asked, close_due, close_of, get_due, handle_if_any, if_asked, if_closable, job_now, may_ask, may_ask_after, may_close, open_of, remove_of, AsksBy, IsAnswered, IsFollowed, OpensBy}
 use Rattle.bd_thread.specs.Requests.{KeepsTickets}
 use Rattle.bd_thread.specs.Seen.{local, local_at, untaken, view_of}
 use Rattle.bd_links.proofs.Longer.{length-longer}
@@ -149,50 +150,45 @@ module _ (setup : Setup) (me : ℕ) where
   untaken_by (events.GetChannel dev) answer built = refl
   untaken_by (events.PutChannel dev closing) answer built = refl
   untaken_by (events.DropChannel dev) answer built = refl
+  untaken_by (events.BeginRemove name) answer built = refl
+  untaken_by (events.Destructed dev) answer built = refl
   untaken_by _ answer built = not_built built
 
-  -- it moves no token
-  unmoved_by : (v : View) (came : Came) (event : RegEvent) (answer : Answer) → is_built_event event ≡ true → (change_reg setup me v came event answer).moves ≡ []
-  unmoved_by v came (events.Open name write) answer built = refl
-  unmoved_by v came (events.Close id) answer built = refl
-  unmoved_by v came (events.Claim id kind) answer built = refl
-  unmoved_by v came (events.GetChannel dev) answer built = refl
-  unmoved_by v came (events.PutChannel dev closing) answer built = refl
-  unmoved_by v came (events.DropChannel dev) answer built = refl
-  unmoved_by v came _ answer built = not_built built
-
-  -- of what came, what it makes of the part goes by the Shutdown alone
-  part_by : (v : View) (came : Came) (event : RegEvent) (answer : Answer) → is_built_event event ≡ true
-      → (change_reg setup me v came event answer).part ≡ (change_reg setup me v (came_shut came.shut) event answer).part
-  part_by v came (events.Open name write) answer built = refl
-  part_by v came (events.Close id) answer built = refl
-  part_by v came (events.Claim id kind) answer built = refl
-  part_by v came (events.GetChannel dev) answer built = refl
-  part_by v came (events.PutChannel dev closing) answer built = refl
-  part_by v came (events.DropChannel dev) answer built = refl
-  part_by v came _ answer built = not_built built
+  -- of what came, what it changes goes by the Shutdown alone
+  change_by_shut : (v : View) (came : Came) (event : RegEvent) (answer : Answer) → is_built_event event ≡ true
+      → change_reg setup me v came event answer ≡ change_reg setup me v (came_shut came.shut) event answer
+  change_by_shut v came (events.Open name write) answer built = refl
+  change_by_shut v came (events.Close id) answer built = refl
+  change_by_shut v came (events.Claim id kind) answer built = refl
+  change_by_shut v came (events.GetChannel dev) answer built = refl
+  change_by_shut v came (events.PutChannel dev closing) answer built = refl
+  change_by_shut v came (events.DropChannel dev) answer built = refl
+  change_by_shut v came (events.BeginRemove name) answer built = refl
+  change_by_shut v came (events.Destructed dev) answer built = refl
+  change_by_shut v came _ answer built = not_built built
 
 module _ (setup : Setup) (me : ℕ) (part : Part) (here : Id → Option Kept) (registry : Registry) (shut : Bool) (stamp : ℕ) (queues : ℕ → List Message) where
   abbrev old : Local
   old = local_at me part here registry shut stamp queues
 
   -- an event with the registry's answer, where it is asked
-  pub event_steps : (event : RegEvent) (answer : Answer)
+  pub event_steps : (event : RegEvent) (answer : Answer) (here' : Id → Option Kept)
       → is_built_event event ≡ true
       → answer_to setup registry me event ≡ answer
       → asks_event setup me old.view (came_between registry.between shut) event ≡ true
+      → here' ≡ held_after (change_reg setup me old.view (came_shut shut) event answer).moves here
       → Steps setup me old (acts.Reg event answer)
-      (local_at me (untaken (change_reg setup me old.view (came_shut shut) event answer).part) here (registry_after setup registry me (Some (record { event = event; answer = answer }))) shut (stamp + 1) queues)
-  event_steps event answer built given asks =
+      (local_at me (untaken (change_reg setup me old.view (came_shut shut) event answer).part) here' (registry_after setup registry me (Some (record { event = event; answer = answer }))) shut (stamp + 1) queues)
+  event_steps event answer here' built given asks held =
       let came : Came = came_local setup me old (acts.Reg event answer) in
-      let same : (change_reg setup me old.view came event answer).part ≡ (change_reg setup me old.view (came_shut shut) event answer).part = part_by setup me old.view came event answer built in
+      let same : change_reg setup me old.view came event answer ≡ change_reg setup me old.view (came_shut shut) event answer = change_by_shut setup me old.view came event answer built in
       steps setup me old
-      (local_at me (untaken (change_reg setup me old.view (came_shut shut) event answer).part) here (registry_after setup registry me (Some (record { event = event; answer = answer }))) shut (stamp + 1) queues)
+      (local_at me (untaken (change_reg setup me old.view (came_shut shut) event answer).part) here' (registry_after setup registry me (Some (record { event = event; answer = answer }))) shut (stamp + 1) queues)
       (acts.Reg event answer) refl built
       (ap (λ (a : Answer). same_answer answer a) given ∙ answer_self answer, (asked_local setup me old event answer asks, tt))
       (local_eq _ _
-      (ap (λ o. let p : Part = record (change_reg setup me old.view came event answer).part { injection = o } in p) (untaken_by setup me event answer built) ∙ ap untaken same)
-      (ap (λ (ms : List Move). held_after ms here) (unmoved_by setup me old.view came event answer built))
+      (ap (λ o. let p : Part = record (change_reg setup me old.view came event answer).part { injection = o } in p) (untaken_by setup me event answer built) ∙ ap (λ (c : Change). untaken c.part) same)
+      (ap (λ (c : Change). held_after c.moves here) same ∙ sym held)
       (sym (handles_own me registry.handles event answer))
       (sym (channels_own setup me registry (Some (record { event = event; answer = answer }))))
       refl (still_shut shut) refl refl)
@@ -208,76 +204,27 @@ asked_acted t before new after event built asks is =
     let here = here_in t.held.items in
     let act : Act = acts.Reg event is.answer in
     let registry : Registry = registry_after t.setup.now before.registry.state t.me (Some (record { event = event; answer = is.answer })) in
-    let p : Thread = record t { part = answered t before event is.answer } in
+    let p : Thread = record t { part = answered t before event is.answer; held = new.held; outbox = new.outbox } in
     let q : Links = record before { registry = asked_registry t before event is.answer; entries = longer t.me before.entries act } in
-    let stepped = event_steps t.setup.now t.me t.part here before.registry.state before.shut (length before.entries) queues event is.answer built is.given asks in
-    let ends : local_at t.me p.part here registry before.shut (length before.entries + 1) queues ≡ local p q =
-    ap (λ (n : ℕ). local_at t.me p.part here registry before.shut n queues) (sym (length-longer t.me before.entries act)) in
+    let held : here_in new.held.items ≡ held_after (change_by t before event is.answer).moves here = is.held ∙ ap (λ (ms : List Move). held_after ms here) (sym is.begins) in
+    let stepped = event_steps t.setup.now t.me t.part here before.registry.state before.shut (length before.entries) queues event is.answer (here_in new.held.items) built is.given asks held in
+    let ends : local_at t.me p.part (here_in new.held.items) registry before.shut (length before.entries + 1) queues ≡ local p q =
+    ap (λ (n : ℕ). local_at t.me p.part (here_in new.held.items) registry before.shut n queues) (sym (length-longer t.me before.entries act)) in
     subst (λ (n : Thread). Acted t before n after) (sym is.thread)
     (subst (λ (l : Links). Acted t before p l) (sym is.links)
     (acted_step t before p q act refl refl refl refl refl (subst (Steps t.setup.now t.me (local t before) act) ends stepped)))
 
--- ---- open requests and their tickets
-
--- the open requests and the number of the next request are as they were
-record KeepsOpen (old new : Part) : Type 0 where
-  requests : new.requests ≡ old.requests
-  next : new.next_request ≡ old.next_request
-
-same_open : (part : Part) → KeepsOpen part part
-same_open part = record { requests = refl; next = refl }
-
-born_open : (frozen : List DevId) (devs : List DevId) (first part : Part) → KeepsOpen first part → KeepsOpen first (all_born frozen devs part)
-born_open frozen [] first part h = h
-born_open frozen (d ∷ ds) first part h = born_open frozen ds first (born frozen d part) (record { requests = h.requests; next = h.next })
-
-got_open : (setup : Setup) (v : View) (dev : DevId) (answer : Answer) → KeepsOpen v.part (got_by setup v dev answer)
-got_open setup v dev (answers.Got fresh frozen) = born_open frozen (made v.channels (below setup dev)) v.part v.part (same_open v.part)
-got_open setup v dev _ = same_open v.part
-
-closed_open : (setup : Setup) (came : Came) (id : HandleId) (answer : Answer) (part : Part) → KeepsOpen part (closed_by setup came id answer part)
-closed_open setup came id answer part = go (is_base_handle setup id) (is_gone part id)
-  where
-    go : (base gone : Bool) → KeepsOpen part (cond base (paid (owes.Close id) part) (cond gone part (decided_by came answer part)))
-    go true gone = record { requests = refl; next = refl }
-    go false true = same_open part
-    go false false = record { requests = refl; next = refl }
-
-put_open : (t : ℕ) (dev : DevId) (closing : Bool) (answer : Answer) (part : Part) → KeepsOpen part (put_down_by t dev answer (put_paid dev closing part))
-put_open t dev true (answers.PutDown left) part = record { requests = refl; next = refl }
-put_open t dev false (answers.PutDown left) part = record { requests = refl; next = refl }
-put_open t dev true _ part = record { requests = refl; next = refl }
-put_open t dev false _ part = record { requests = refl; next = refl }
-
-drop_open : (t : ℕ) (dev : DevId) (answer : Answer) (part : Part) → KeepsOpen part (dropped_by t dev answer part)
-drop_open t dev (answers.Dropped what zero destruct) part = go (is_dropped what)
-  where
-    go : (b : Bool) → KeepsOpen part (with_due (channel_due t zero) (cond b (remarked dev (frozen_as false) part) part))
-    go true = record { requests = refl; next = refl }
-    go false = record { requests = refl; next = refl }
-drop_open t dev _ part = same_open part
-
--- what is more than this is due
-due_open : (due : List Due) (first part : Part) → KeepsOpen first part → KeepsOpen first (with_due due part)
-due_open due first part h = record { requests = h.requests; next = h.next }
-
-change_open : (setup : Setup) (t : ℕ) (v : View) (came : Came) (event : RegEvent) (answer : Answer) → is_built_event event ≡ true → KeepsOpen v.part (change_reg setup t v came event answer).part
-change_open setup t v came (events.Open name write) answer built = record { requests = refl; next = refl }
-change_open setup t v came (events.Close id) answer built =
-    due_open (device_due setup (destruct_of answer)) v.part (closed_by setup came id answer v.part) (closed_open setup came id answer v.part)
-change_open setup t v came (events.Claim id kind) answer built = record { requests = refl; next = refl }
-change_open setup t v came (events.GetChannel dev) answer built = got_open setup v dev answer
-change_open setup t v came (events.PutChannel dev closing) answer built = put_open t dev closing answer v.part
-change_open setup t v came (events.DropChannel dev) answer built =
-    let part : Part = paid (owes.Drop dev) v.part in
-    let h = drop_open t dev answer part in
-    due_open (device_due setup (destruct_of answer)) v.part (dropped_by t dev answer part) (record { requests = h.requests; next = h.next })
-change_open setup t v came _ answer built = not_built built
-
-pub answered_tickets : (t : Thread) (before : Links) (event : RegEvent) (answer : Answer) → is_built_event event ≡ true → KeepsTickets t → KeepsTickets (record t { part = answered t before event answer })
-answered_tickets t before event answer built keeps =
-    let h = change_open t.setup.now t.me (view_of t before) (came_shut before.shut) event answer built in
-    same_tickets t _ refl h.requests h.next keeps
+-- open requests and their tickets stay
+pub answered_tickets : (t : Thread) (before : Links) (new : Thread) (event : RegEvent) (answer : Answer)
+    → new.purse.ids ≡ t.purse.ids
+    → new.part ≡ answered t before event answer
+    → KeepsTickets t
+    → KeepsTickets new
+answered_tickets t before new event answer ids part keeps =
+    let rest = (reg_grows t.setup.now t.me (view_of t before) (came_shut before.shut) event answer).rest in
+    same_tickets t new ids
+    (ap (λ (p : Part). p.requests) part ∙ ap (λ (c : Core). c.requests) rest)
+    (ap (λ (p : Part). p.next_request) part ∙ ap (λ (c : Core). c.next_request) rest) keeps
 
 -- ---- the same, said exactly
 
@@ -312,6 +259,10 @@ unopened_by t before event o is may = subst (OpensBy t before t before false) (s
 -- the open that the line names
 pub open_named : (handle dev : List ℕ) (write shut : Bool) (o : Option Job) → shut ≡ false → o ≡ Some (jobs.Open handle dev write) → open_of (cond shut None o) ≡ Some (events.Open dev write)
 open_named handle dev write shut o unshut line = ap (λ b. open_of (cond b None o)) unshut ∙ ap open_of line
+
+-- the removal that the line names
+pub remove_named : (dev : List ℕ) (shut : Bool) (o : Option Job) → shut ≡ false → o ≡ Some (jobs.Remove dev) → remove_of (cond shut None o) ≡ Some (events.BeginRemove dev)
+remove_named dev shut o unshut line = ap (λ b. remove_of (cond b None o)) unshut ∙ ap remove_of line
 
 -- the claim that the line names
 pub claim_named : (part : Part) (handle : List ℕ) (kind : ClaimKind) (id : HandleId) (shut : Bool) (o : Option Job)
@@ -360,12 +311,12 @@ pub close_follows : (t : Thread) (before : Links) (new : Thread) (after : Links)
     → IsAnswered (events.PutChannel h.dev true) t before new after
     → IfSome (close_due h.id new.me after.registry.state.between) (λ event. may_ask new after event ≡ true)
 close_follows t before new after h may is =
-    let p : Thread = record t { part = answered t before (events.PutChannel h.dev true) is.answer } in
+    let p : Thread = record t { part = answered t before (events.PutChannel h.dev true) is.answer; held = new.held; outbox = new.outbox } in
     subst (λ (n : Thread). IfSome (close_due h.id n.me after.registry.state.between) (λ event. may_ask n after event ≡ true)) (sym is.thread)
     (subst (λ (l : Links). IfSome (close_due h.id t.me l.registry.state.between) (λ event. may_ask p l event ≡ true)) (sym is.links)
     (go is.answer))
   where
-    go : (answer : Answer) → let n : Thread = record t { part = answered t before (events.PutChannel h.dev true) answer } in let l : Links = record before {
+    go : (answer : Answer) → let n : Thread = record t { part = answered t before (events.PutChannel h.dev true) answer; held = new.held; outbox = new.outbox } in let l : Links = record before {
       registry = asked_registry t before (events.PutChannel h.dev true) answer;
       entries = longer t.me before.entries (acts.Reg (events.PutChannel h.dev true) answer);
     } in IfSome (close_due h.id t.me (between_after t.me (events.PutChannel h.dev true) answer)) (λ event. may_ask n l event ≡ true)
@@ -373,7 +324,7 @@ close_follows t before new after h may is =
         mine (t.me == t.me) (and_parts (may_ask t before (events.PutChannel h.dev true)) (may_ask_after t before (Some (Closing t.me h.dev)) (events.Close h.id)) may).1
       where
         mine : (b : Bool) → may_ask_after t before (Some (Closing t.me h.dev)) (events.Close h.id) ≡ true
-            → IfSome (cond b (Some (events.Close h.id)) None) (λ event. may_ask (record t { part = answered t before (events.PutChannel h.dev true) (answers.PutDown left) }) (record before {
+            → IfSome (cond b (Some (events.Close h.id)) None) (λ event. may_ask (record t { part = answered t before (events.PutChannel h.dev true) (answers.PutDown left); held = new.held; outbox = new.outbox }) (record before {
               registry = asked_registry t before (events.PutChannel h.dev true) (answers.PutDown left);
               entries = longer t.me before.entries (acts.Reg (events.PutChannel h.dev true) (answers.PutDown left));
             }) event ≡ true)

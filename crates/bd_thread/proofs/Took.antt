@@ -1,29 +1,33 @@
 -- **Took.** A thread takes the first message of its queue.
-use Rattle.std.proofs.Common.{◌≡◌, ℕ, ◌+◌, Bool, true, false, cond, not, ◌&&◌, ◌||◌, ◌==◌, List, ◌∷◌, drop, Option, Some, None, is_some, refl, sym, ◌∙◌, ap, eq-eqb}
+use Rattle.std.proofs.Common.{◌≡◌, ℕ, ◌+◌, Bool, true, false, cond, not, ◌&&◌, ◌||◌, ◌==◌, List, [], ◌∷◌, ◌++◌, drop, Option, Some, None, is_some, refl, sym, ◌∙◌, ap, eq-eqb}
 use Rattle.std.proofs.lemmas.Bool.{and_from, and_parts}
 use Rattle.bd_base.specs.declared.act.Act.TheVariants as acts
 use Rattle.bd_base.specs.declared.act.Token.{Token}
 use Rattle.bd_base.specs.declared.act.Token.TheVariants as tokens
-use Rattle.bd_base.specs.declared.id.DevId.{DevId}
-use Rattle.bd_base.specs.declared.id.ReqId.{ReqId}
+use Rattle.bd_base.specs.declared.id.WalkId.{WalkId}
 use Rattle.bd_base.specs.declared.setup.Setup.{Setup}
 use Rattle.bd_machine.specs.declared.state.Id.{Id}
 use Rattle.bd_machine.specs.declared.state.Kept.{Kept}
 use Rattle.bd_machine.specs.declared.state.Kept.TheVariants as keeps
-use Rattle.bd_machine.specs.declared.state.News.TheVariants as news
+use Rattle.bd_machine.specs.declared.state.OpenWalk.{OpenWalk}
 use Rattle.bd_machine.specs.declared.state.Part.{Part}
 use Rattle.bd_machine.specs.declared.state.Registry.{Registry}
-use Rattle.bd_machine.specs.Alone.{held_after}
+use Rattle.bd_machine.specs.Alone.{held_after, held_by}
 use Rattle.bd_machine.specs.AsYet.{as_yet}
 use Rattle.bd_machine.specs.Guards.{is_built_token}
 use Rattle.bd_machine.specs.Messages.{brings, count_at, taken_by}
+use Rattle.bd_machine.specs.Same.{same_id}
 use Rattle.bd_machine.specs.Table.{write}
-use Rattle.bd_machine.specs.View.{Change, Taking, id_of}
+use Rattle.bd_machine.specs.View.{Change, Closed, Here, Move, Taking, id_of}
+use Rattle.bd_machine.proofs.Parts.{Core, taken_grows}
+use Rattle.bd_changes.specs.Begun.{begun, is_of_kind, stays, taken, token_moved}
+use Rattle.bd_changes.proofs.Arriving.{arrives}
+use Rattle.bd_links.specs.Tokens.{left_of}
 use Rattle.bd_turns.specs.declared.queue.Message.{Message}
 use Rattle.bd_turns.specs.Local.{first_of}
 use Rattle.bd_turns.proofs.Going.{first_comes}
 use Rattle.bd_thread.specs.Seen.{local_at, untaken}
-use Rattle.bd_thread.specs.Sent.{first_brought, landed}
+use Rattle.bd_thread.specs.Sent.{first_brought}
 use Rattle.bd_thread.proofs.Going.{Steps, steps, local_eq, still_shut}
 
 module _ (setup : Setup) (t : ℕ) (p : Part) (here : Id → Option Kept) (registry : Registry) (shut : Bool) (stamp : ℕ) (queues : ℕ → List Message) (m : Message) (number : ℕ) where
@@ -61,81 +65,59 @@ brought_first queue m ms h first = go (is_built_token m.what && brings m.what (S
 
 -- ---- the token that the message brought
 
-module _ (setup : Setup) (t : ℕ) (part : Part) (id : Id) where
-  brought_mark : (mark : List ℕ) (kept : Kept) → brings (tokens.Mark mark) (Some kept) ≡ true → (taken_by setup t (tokens.Mark mark) part (Some kept) id).moves ≡ landed id kept
-  brought_mark mark (keeps.Notice (news.Mark name)) h = refl
-  brought_mark mark (keeps.Notice (news.Go req threads)) h = cc
-  brought_mark mark (keeps.Notice (news.Gone handle)) h = refl
-  brought_mark mark (keeps.Notice (news.Channel dev)) h = refl
-  brought_mark mark (keeps.Notice (news.Device dev)) h = refl
-  brought_mark mark (keeps.Request r) h = cc
-  brought_mark mark (keeps.Piece p) h = cc
-  brought_mark mark (keeps.Walk w) h = cc
+-- a message that brings its token is of that token's kind
+pub brought_kind : (what : Token) (kept : Kept) → brings what (Some kept) ≡ true → is_of_kind what kept ≡ true
+brought_kind (tokens.Request req) (keeps.Request r) h = refl
+brought_kind (tokens.Request req) (keeps.Piece p) h = cc
+brought_kind (tokens.Request req) (keeps.Walk w) h = cc
+brought_kind (tokens.Piece req k) (keeps.Request r) h = cc
+brought_kind (tokens.Piece req k) (keeps.Piece p) h = refl
+brought_kind (tokens.Piece req k) (keeps.Walk w) h = cc
+brought_kind (tokens.Walk walk) (keeps.Request r) h = cc
+brought_kind (tokens.Walk walk) (keeps.Piece p) h = cc
+brought_kind (tokens.Walk walk) (keeps.Walk w) h = refl
+brought_kind (tokens.Go req threads) (keeps.Request r) h = cc
+brought_kind (tokens.Go req threads) (keeps.Piece p) h = cc
+brought_kind (tokens.Go req threads) (keeps.Walk w) h = cc
+brought_kind (tokens.Gone handle) (keeps.Request r) h = cc
+brought_kind (tokens.Gone handle) (keeps.Piece p) h = cc
+brought_kind (tokens.Gone handle) (keeps.Walk w) h = cc
+brought_kind (tokens.Channel dev) (keeps.Request r) h = cc
+brought_kind (tokens.Channel dev) (keeps.Piece p) h = cc
+brought_kind (tokens.Channel dev) (keeps.Walk w) h = cc
+brought_kind (tokens.Device dev) (keeps.Request r) h = cc
+brought_kind (tokens.Device dev) (keeps.Piece p) h = cc
+brought_kind (tokens.Device dev) (keeps.Walk w) h = cc
+brought_kind (tokens.Mark name) (keeps.Request r) h = cc
+brought_kind (tokens.Mark name) (keeps.Piece p) h = cc
+brought_kind (tokens.Mark name) (keeps.Walk w) h = cc
+brought_kind what (keeps.Notice told) h = refl
 
-  brought_channel : (dev : DevId) (kept : Kept) → brings (tokens.Channel dev) (Some kept) ≡ true → (taken_by setup t (tokens.Channel dev) part (Some kept) id).moves ≡ landed id kept
-  brought_channel dev (keeps.Notice (news.Channel d)) h = refl
-  brought_channel dev (keeps.Notice (news.Go req threads)) h = cc
-  brought_channel dev (keeps.Notice (news.Gone handle)) h = refl
-  brought_channel dev (keeps.Notice (news.Mark name)) h = refl
-  brought_channel dev (keeps.Notice (news.Device d)) h = refl
-  brought_channel dev (keeps.Request r) h = cc
-  brought_channel dev (keeps.Piece p) h = cc
-  brought_channel dev (keeps.Walk w) h = cc
+-- some moves after others
+pub held_then : (first second : List Move) (here : Id → Option Kept) → held_after (first ++ second) here ≡ held_after second (held_after first here)
+held_then [] second here = refl
+held_then (m ∷ ms) second here = held_then ms second (λ id. cond (same_id m.id id) (held_by m.going m.kept) (here id))
 
-  brought_piece : (req : ReqId) (k : ℕ) (kept : Kept) → brings (tokens.Piece req k) (Some kept) ≡ true → (taken_by setup t (tokens.Piece req k) part (Some kept) id).moves ≡ landed id kept
-  brought_piece req k (keeps.Piece p) h = refl
-  brought_piece req k (keeps.Notice told) h = cc
-  brought_piece req k (keeps.Request r) h = cc
-  brought_piece req k (keeps.Walk w) h = cc
+going_holds : (b : Bool) (kept : Kept) → held_by (cond b Here Closed) kept ≡ cond b (Some kept) None
+going_holds true kept = refl
+going_holds false kept = refl
 
-  -- of a message that is built, that is all that its taking makes of tokens
-  pub brought_moves : (what : Token) (kept : Kept) → is_built_token what && brings what (Some kept) ≡ true → (taken_by setup t what part (Some kept) id).moves ≡ landed id kept
-  brought_moves (tokens.Piece req k) kept h = brought_piece req k kept h
-  brought_moves (tokens.Mark mark) kept h = brought_mark mark kept h
-  brought_moves (tokens.Request req) kept h = cc
-  brought_moves (tokens.Walk walk) kept h = cc
-  brought_moves (tokens.Go req threads) kept h = cc
-  brought_moves (tokens.Gone handle) kept h = cc
-  brought_moves (tokens.Channel dev) kept h = brought_channel dev kept h
-  brought_moves (tokens.Device dev) kept h = cc
+-- what is here once the token landed, and a walk may have begun
+pub landed_moves : (t sender number : ℕ) (what : Token) (kept : Kept) (walk : Option (WalkId × OpenWalk)) (moves : List Move) (here : Id → Option Kept)
+    → brings what (Some kept) ≡ true
+    → moves ≡ token_moved t what (Some kept) (id_of sender t number what) ++ begun walk
+    → held_after (begun walk) (λ j. cond (same_id (id_of sender t number what) j) (left_of t what kept) (here j)) ≡ held_after moves here
+landed_moves t sender number what kept walk moves here h is =
+    let id : Id = id_of sender t number what in
+    let left : held_by (cond (stays t what kept) Here Closed) (taken kept) ≡ left_of t what kept = going_holds (stays t what kept) (taken kept) in
+    ap (λ (o : Option Kept). held_after (begun walk) (λ j. cond (same_id id j) o (here j))) (sym left)
+    ∙ ap (λ (ms : List Move). held_after (begun walk) (held_after ms here)) (sym (arrives sender t number what kept (brought_kind what kept h)))
+    ∙ sym (held_then (token_moved t what (Some kept) id) (begun walk) here)
+    ∙ ap (λ (ms : List Move). held_after ms here) (sym is)
 
-  -- neither the open requests nor the next id
-  abbrev KeepsOpen : Part → Type 0
-  KeepsOpen new = (new.requests ≡ part.requests) × (new.next_request ≡ part.next_request)
-
-  mark_keeps : (mark : List ℕ) (kept : Kept) → brings (tokens.Mark mark) (Some kept) ≡ true → KeepsOpen (taken_by setup t (tokens.Mark mark) part (Some kept) id).part
-  mark_keeps mark (keeps.Notice (news.Mark name)) h = (refl, refl)
-  mark_keeps mark (keeps.Notice (news.Go req threads)) h = cc
-  mark_keeps mark (keeps.Notice (news.Gone handle)) h = (refl, refl)
-  mark_keeps mark (keeps.Notice (news.Channel dev)) h = (refl, refl)
-  mark_keeps mark (keeps.Notice (news.Device dev)) h = (refl, refl)
-  mark_keeps mark (keeps.Request r) h = cc
-  mark_keeps mark (keeps.Piece p) h = cc
-  mark_keeps mark (keeps.Walk w) h = cc
-
-  channel_keeps : (dev : DevId) (kept : Kept) → brings (tokens.Channel dev) (Some kept) ≡ true → KeepsOpen (taken_by setup t (tokens.Channel dev) part (Some kept) id).part
-  channel_keeps dev (keeps.Notice (news.Channel d)) h = (refl, refl)
-  channel_keeps dev (keeps.Notice (news.Go req threads)) h = cc
-  channel_keeps dev (keeps.Notice (news.Gone handle)) h = (refl, refl)
-  channel_keeps dev (keeps.Notice (news.Mark name)) h = (refl, refl)
-  channel_keeps dev (keeps.Notice (news.Device d)) h = (refl, refl)
-  channel_keeps dev (keeps.Request r) h = cc
-  channel_keeps dev (keeps.Piece p) h = cc
-  channel_keeps dev (keeps.Walk w) h = cc
-
-  piece_keeps : (req : ReqId) (k : ℕ) (kept : Kept) → brings (tokens.Piece req k) (Some kept) ≡ true → KeepsOpen (taken_by setup t (tokens.Piece req k) part (Some kept) id).part
-  piece_keeps req k (keeps.Piece p) h = (refl, refl)
-  piece_keeps req k (keeps.Notice told) h = cc
-  piece_keeps req k (keeps.Request r) h = cc
-  piece_keeps req k (keeps.Walk w) h = cc
-
-  -- which leaves the open requests and the next id
-  pub brought_keeps : (what : Token) (kept : Kept) → is_built_token what && brings what (Some kept) ≡ true → KeepsOpen (taken_by setup t what part (Some kept) id).part
-  brought_keeps (tokens.Piece req k) kept h = piece_keeps req k kept h
-  brought_keeps (tokens.Mark mark) kept h = mark_keeps mark kept h
-  brought_keeps (tokens.Request req) kept h = cc
-  brought_keeps (tokens.Walk walk) kept h = cc
-  brought_keeps (tokens.Go req threads) kept h = cc
-  brought_keeps (tokens.Gone handle) kept h = cc
-  brought_keeps (tokens.Channel dev) kept h = channel_keeps dev kept h
-  brought_keeps (tokens.Device dev) kept h = cc
+-- taking a message leaves the open requests and the next id
+pub took_open : (setup : Setup) (t : ℕ) (what : Token) (part : Part) (kept : Option Kept) (id : Id)
+    → ((taken_by setup t what part kept id).part.requests ≡ part.requests) × ((taken_by setup t what part kept id).part.next_request ≡ part.next_request)
+took_open setup t what part kept id =
+    let rest = (taken_grows setup t what part kept id).rest in
+    (ap (λ (c : Core). c.requests) rest, ap (λ (c : Core). c.next_request) rest)

@@ -31,11 +31,11 @@ use Rattle.bd_machine.specs.declared.state.Owed.{Owed}
 use Rattle.bd_machine.specs.Admission.{has_range, is_gone}
 use Rattle.bd_machine.specs.AsYet.{as_yet}
 use Rattle.bd_machine.specs.Asked.{may_close as closes}
-use Rattle.bd_machine.specs.Asked.{bound_to, busy_outcome, claim_outcome, close_outcome, is_handle_on, is_job_claim, is_job_close, is_job_open, is_open_handle, is_script_blocked, is_waiting_job, is_waiting_line, job_of, most_requests, next_line, open_on, outcome_by, outcome_due, undecided_job, undecided_outcome}
+use Rattle.bd_machine.specs.Asked.{bound_to, busy_outcome, claim_outcome, close_outcome, is_handle_on, is_job_claim, is_job_close, is_job_open, is_job_remove, owes_removal, is_open_handle, is_script_blocked, is_waiting_job, is_waiting_line, job_of, most_requests, next_line, open_on, outcome_by, outcome_due, undecided_job, undecided_outcome}
 use Rattle.bd_machine.specs.Claims.{same_kind}
 use Rattle.bd_machine.specs.Guards.{is_built_token}
 use Rattle.bd_machine.specs.Messages.{is_due, is_due_to, may_go}
-use Rattle.bd_machine.specs.Registry.{handle_of}
+use Rattle.bd_machine.specs.Registry.{device_named, handle_of}
 use Rattle.bd_machine.specs.Same.{is_the, same_dev, same_handle, same_news, same_request}
 use Rattle.bd_machine.specs.Users.{is_base_handle}
 use Rattle.bd_machine.specs.View.{View}
@@ -47,8 +47,8 @@ use Rattle.bd_thread.specs.declared.thread.Thread.{Thread}
 use Rattle.bd_thread.specs.declared.turn.Turned.{Turned}
 use Rattle.bd_thread.specs.declared.turn.Turned.TheVariants.{Moved, Quiet}
 use Rattle.bd_thread.specs.Acted.{Acted}
-use Rattle.bd_thread.specs.Drops.{drop_owed, NoDrop}
-use Rattle.bd_thread.specs.Lines.{claim_if_bound, claim_of, close_of, handle_if_any, if_asked, if_closable, may_ask, may_ask_after, may_close, open_of}
+use Rattle.bd_thread.specs.Duties.{duty_owed, NoDuty}
+use Rattle.bd_thread.specs.Lines.{claim_if_bound, claim_of, close_of, handle_if_any, if_asked, if_closable, may_ask, may_ask_after, may_close, open_of, remove_of}
 use Rattle.bd_thread.specs.Moves.{turned_of}
 use Rattle.bd_thread.specs.Sent.{may_put}
 use Rattle.bd_thread.specs.Seen.{local, view_of}
@@ -89,7 +89,7 @@ none_below n m t links e below on dev less = go (cases_lt dev.0 n)
     go (inl h) = below dev h
     go (inr h) = let same : m ≡ dev.0 = omega (arith, e, h, less) in subst (λ (k : ℕ). NoPieceOn (record { 0 = k }) t links) same on
 
--- ---- after Shutdown
+-- ---- handles and devices that go
 
 pub undestructed_below : (n m : ℕ) (t : Thread) (links : Links) → m ≡ n → NoDestructBelow n t links → NoDestructOn (record { 0 = m }) t links → NoDestructBelow (n + 1) t links
 undestructed_below n m t links e below on dev less = go (cases_lt dev.0 n)
@@ -185,6 +185,20 @@ module _ (t : Thread) (links : Links) where
           let may : may_ask t free (events.Claim id kind) ≡ true = and_from (is_some (handle_of seen.handles id)) (is_job_claim t.part id kind asked) k claims in
           false_true (sym (not_asked (events.Claim id kind) (may_ask t free (events.Claim id kind)) c) ∙ may)
 
+  -- a removal is asked
+  remove_waits : (dev : List ℕ) → asked ≡ Some (jobs.Remove dev) → if_asked t free (remove_of asked) ≡ None → ⊥
+  remove_waits dev is r =
+      let event : RegEvent = events.BeginRemove dev in
+      let unasked : cond (may_ask t free event) (Some event) None ≡ None = ap (λ (j : Option Job). if_asked t free (remove_of j)) (sym is) ∙ r in
+      let may : may_ask t free event ≡ true =
+      or_middle (owes_removal t.part (device_named t.setup.now dev)) (is_job_remove dev asked) ((t.me == 0) && false) (ap (is_job_remove dev) is ∙ name_self dev) in
+      false_true (sym (not_asked event (may_ask t free event) unasked) ∙ may)
+    where
+      or_middle : (a b c : Bool) → b ≡ true → a || b || c ≡ true
+      or_middle true b c e = refl
+      or_middle false true c e = refl
+      or_middle false false c e = false_true e
+
   -- a handle of the thread that the line closes may be closed, where no request is open on it and it is no base handle
   closes_own : (handle : List ℕ) (id : HandleId) (h : Handle)
       → bound_to t.part handle ≡ Some id
@@ -235,22 +249,23 @@ module _ (t : Thread) (links : Links) where
       → if_asked t free (open_of asked) ≡ None
       → if_closable t free (handle_if_any seen.handles (close_of t.part asked)) ≡ None
       → if_asked t free (claim_of t.part asked) ≡ None
+      → if_asked t free (remove_of asked) ≡ None
       → is_submission asked && nat_lt (length t.part.requests) most_requests ≡ false
       → undecided_outcome seen job ≡ None
       → (is_waiting_job t.part job && is_none (undecided_outcome seen job)) || is_unbuilt t.setup.now seen job ≡ true
-  job_waits (jobs.Open handle dev write) is o c k s e = absurd (open_waits handle dev write is o e)
-  job_waits (jobs.Close handle) is o c k s e =
+  job_waits (jobs.Open handle dev write) is o c k r s e = absurd (open_waits handle dev write is o e)
+  job_waits (jobs.Close handle) is o c k r s e =
       close_waits handle (bound_to t.part handle) refl is (ap (λ (j : Option Job). if_closable t free (handle_if_any seen.handles (close_of t.part j))) (sym is) ∙ c) e
-  job_waits (jobs.Claim handle kind) is o c k s e =
+  job_waits (jobs.Claim handle kind) is o c k r s e =
       absurd (claim_waits handle kind (bound_to t.part handle) refl is (ap (λ (j : Option Job). if_asked t free (claim_of t.part j)) (sym is) ∙ k) e)
-  job_waits (jobs.Submit handle op lba count) is o c k s e =
+  job_waits (jobs.Submit handle op lba count) is o c k r s e =
       submission_waits (has_range op) (length t.part.requests) most_requests (ap (λ (j : Option Job). is_submission j && nat_lt (length t.part.requests) most_requests) (sym is) ∙ s)
-  job_waits (jobs.Remove dev) is o c k s e = refl
-  job_waits jobs.Wait is o c k s e = ap (λ (r : Option Outcome). is_none r || false) e
-  job_waits (jobs.Sleep time) is o c k s e = none_some e
-  job_waits (jobs.Post mark) is o c k s e = none_some e
-  job_waits (jobs.Await mark) is o c k s e = ap (λ (r : Option Outcome). is_none r || false) e
-  job_waits (jobs.Gone handle) is o c k s e = ap (λ (r : Option Outcome). is_none r || false) e
+  job_waits (jobs.Remove dev) is o c k r s e = absurd (remove_waits dev is r)
+  job_waits jobs.Wait is o c k r s e = ap (λ (r : Option Outcome). is_none r || false) e
+  job_waits (jobs.Sleep time) is o c k r s e = none_some e
+  job_waits (jobs.Post mark) is o c k r s e = none_some e
+  job_waits (jobs.Await mark) is o c k r s e = ap (λ (r : Option Outcome). is_none r || false) e
+  job_waits (jobs.Gone handle) is o c k r s e = ap (λ (r : Option Outcome). is_none r || false) e
 
   -- what is said of the next line, by what decided it
   decided_waits : (line : Line) (decided : Option Decided)
@@ -259,38 +274,41 @@ module _ (t : Thread) (links : Links) where
       → if_asked t free (open_of asked) ≡ None
       → if_closable t free (handle_if_any seen.handles (close_of t.part asked)) ≡ None
       → if_asked t free (claim_of t.part asked) ≡ None
+      → if_asked t free (remove_of asked) ≡ None
       → is_submission asked && nat_lt (length t.part.requests) most_requests ≡ false
       → outcome_by seen decided line.job ≡ None
       → (is_none decided && is_waiting_job t.part line.job && is_none (undecided_outcome seen line.job)) || asks_unbuilt t.setup.now seen (cond (is_none decided) (Some line.job) None) ≡ true
-  decided_waits line None is undecided o c k s e =
+  decided_waits line None is undecided o c k r s e =
       let asks : asked ≡ Some line.job = ap (λ (d : Option Decided). cond (is_none d) (option_map job_of (next_line t.setup.now t.me t.part)) None) undecided ∙ ap (option_map job_of) is in
-      job_waits line.job asks o c k s e
-  decided_waits line (Some d) is decided o c k s e = none_some e
+      job_waits line.job asks o c k r s e
+  decided_waits line (Some d) is decided o c k r s e = none_some e
 
   next_waits : (line : Option Line)
       → next_line t.setup.now t.me t.part ≡ line
       → if_asked t free (open_of asked) ≡ None
       → if_closable t free (handle_if_any seen.handles (close_of t.part asked)) ≡ None
       → if_asked t free (claim_of t.part asked) ≡ None
+      → if_asked t free (remove_of asked) ≡ None
       → is_submission asked && nat_lt (length t.part.requests) most_requests ≡ false
       → option_and_then (λ l. outcome_by seen t.part.decided l.job) line ≡ None
       → is_waiting_line seen line || asks_unbuilt t.setup.now seen (cond (is_none t.part.decided) (option_map job_of line) None) ≡ true
-  next_waits None is o c k s e = refl
-  next_waits (Some line) is o c k s e = decided_waits line t.part.decided is refl o c k s e
+  next_waits None is o c k r s e = refl
+  next_waits (Some line) is o c k r s e = decided_waits line t.part.decided is refl o c k r s e
 
   pub line_waits : NoLine t links → is_line_waiting t links ≡ true
-  line_waits h = go links.shut links.registry.state.between h.opening h.closing h.claiming h.submission h.outcome
+  line_waits h = go links.shut links.registry.state.between h.opening h.closing h.claiming h.removing h.submission h.outcome
     where
       go : (shut : Bool) (between : Option Between)
           → if_asked t (stood shut between) (open_of (cond shut None asked)) ≡ None
           → if_closable t (stood shut between) (handle_if_any seen.handles (close_of t.part (cond shut None asked))) ≡ None
           → if_asked t (stood shut between) (claim_of t.part (cond shut None asked)) ≡ None
+          → if_asked t (stood shut between) (remove_of (cond shut None asked)) ≡ None
           → is_submission (cond shut None asked) && nat_lt (length t.part.requests) most_requests ≡ false
           → cond shut None (outcome_due t.setup.now t.me seen) ≡ None
           → shut || is_some between || is_script_blocked t.setup.now t.me seen || asks_unbuilt t.setup.now seen asked ≡ true
-      go true between o c k s e = refl
-      go false (Some b) o c k s e = refl
-      go false None o c k s e = next_waits (next_line t.setup.now t.me t.part) refl o c k s e
+      go true between o c k r s e = refl
+      go false (Some b) o c k r s e = refl
+      go false None o c k r s e = next_waits (next_line t.setup.now t.me t.part) refl o c k r s e
 
 -- ---- what is still to be put
 
@@ -308,10 +326,10 @@ none_due t links h = go t.part.due h
     go [] h = refl
     go (d ∷ ds) h = h (omega arith)
 
-pub none_owed : (t : Thread) (links : Links) → (0 < length t.part.owed → NoDrop t links) → NoDrop t links
+pub none_owed : (t : Thread) (links : Links) → (0 < length t.part.owed → NoDuty t links) → NoDuty t links
 none_owed t links h = go t.part.owed h
   where
-    go : (os : List Owed) → (0 < length os → if_asked t links (drop_owed os) ≡ None) → if_asked t links (drop_owed os) ≡ None
+    go : (os : List Owed) → (0 < length os → if_asked t links (duty_owed t.setup.now os) ≡ None) → if_asked t links (duty_owed t.setup.now os) ≡ None
     go [] h = refl
     go (o ∷ os) h = h (omega arith)
 
@@ -362,30 +380,30 @@ pub turn_idle : (o : Thread) (a : Links) (m : Thread) (z : Links) (p : Thread) (
     → Acted u k s f
     → Acted s f n g
     → Idles NoMessage o a m z
-    → Idles NoDrop m z p b
+    → Idles NoDuty m z p b
     → Idles NoPiece p b q d
     → Idles NoLine q d r e
     → Idles NothingLeft r e u k
     → Idles NothingToSend u k s f
     → Idles NothingToPost s f n g
     → Idles IsWaiting o a n g
-turn_idle o a m z p b q d r e u k s f n g received dropped served commanded ended sent posted message drop piece line left outbox due =
-    let one : Idles (λ t links. NoMessage t links × NoDrop t links) o a p b =
-    idle_then o a m z p b received dropped (λ no_message no_drop. (no_message, no_drop)) message drop in
-    let one_acted = acted_then o a m z p b received dropped in
-    let two : Idles (λ t links. NoMessage t links × NoDrop t links × NoPiece t links) o a q d =
+turn_idle o a m z p b q d r e u k s f n g received discharged served commanded ended sent posted message duty piece line left outbox due =
+    let one : Idles (λ t links. NoMessage t links × NoDuty t links) o a p b =
+    idle_then o a m z p b received discharged (λ no_message no_duty. (no_message, no_duty)) message duty in
+    let one_acted = acted_then o a m z p b received discharged in
+    let two : Idles (λ t links. NoMessage t links × NoDuty t links × NoPiece t links) o a q d =
     idle_then o a p b q d one_acted served (λ so no_piece. (so.0, so.1, no_piece)) one piece in
     let two_acted = acted_then o a p b q d one_acted served in
-    let three : Idles (λ t links. NoMessage t links × NoDrop t links × NoPiece t links × NoLine t links) o a r e =
+    let three : Idles (λ t links. NoMessage t links × NoDuty t links × NoPiece t links × NoLine t links) o a r e =
     idle_then o a q d r e two_acted commanded (λ so no_line. (so.0, so.1, so.2, no_line)) two line in
     let three_acted = acted_then o a q d r e two_acted commanded in
-    let four : Idles (λ t links. NoMessage t links × NoDrop t links × NoPiece t links × NoLine t links × NothingLeft t links) o a u k =
+    let four : Idles (λ t links. NoMessage t links × NoDuty t links × NoPiece t links × NoLine t links × NothingLeft t links) o a u k =
     idle_then o a r e u k three_acted ended (λ so none. (so.0, so.1, so.2, so.3, none)) three left in
     let four_acted = acted_then o a r e u k three_acted ended in
-    let five : Idles (λ t links. NoMessage t links × NoDrop t links × NoPiece t links × NoLine t links × NothingLeft t links × NothingToSend t links) o a s f =
+    let five : Idles (λ t links. NoMessage t links × NoDuty t links × NoPiece t links × NoLine t links × NothingLeft t links × NothingToSend t links) o a s f =
     idle_then o a u k s f four_acted sent (λ so no_send. (so.0, so.1, so.2, so.3, so.4, no_send)) four outbox in
     idle_then o a s f n g (acted_then o a u k s f four_acted sent) posted
-    (λ so no_post. record { message = so.0; drop = so.1; piece = so.2; line = line_waits o a so.3; left = so.4; outbox = so.5; due = no_post }) five due
+    (λ so no_post. record { message = so.0; duty = so.1; piece = so.2; line = line_waits o a so.3; left = so.4; outbox = so.5; due = no_post }) five due
 
 pub quiet_by : (o : Thread) (a : Links) (n : Thread) (c : Links) (turned : Turned) → turned ≡ turned_of (length a.entries) (length c.entries) → Idles IsWaiting o a n c → Quiets o a n c turned
 quiet_by o a n c turned e h = subst (Quiets o a n c) (sym e) (go (length a.entries == length c.entries) refl)

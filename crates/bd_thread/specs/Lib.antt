@@ -3,8 +3,9 @@ pub mod Cuts
 pub mod Sent
 pub mod Seen
 pub mod Acted
+pub mod Walking
 pub mod Lines
-pub mod Drops
+pub mod Duties
 pub mod Served
 pub mod Next
 pub mod Requests

@@ -10,26 +10,32 @@ use Rattle.bd_base.specs.declared.id.DevId.{DevId}
 use Rattle.bd_base.specs.declared.id.HandleId.{HandleId}
 use Rattle.bd_base.specs.declared.job.Job.{Job}
 use Rattle.bd_base.specs.declared.job.Job.TheVariants as jobs
+use Rattle.bd_base.specs.declared.id.WalkId.{WalkId}
 use Rattle.bd_base.specs.declared.job.Line.{Line}
 use Rattle.bd_machine.specs.declared.state.Between.{Between}
 use Rattle.bd_machine.specs.declared.state.Between.TheVariants.{Opening, Closing}
 use Rattle.bd_machine.specs.declared.state.Handle.{Handle}
+use Rattle.bd_machine.specs.declared.state.OpenWalk.{OpenWalk}
 use Rattle.bd_machine.specs.declared.state.Part.{Part}
+use Rattle.bd_machine.specs.Alone.{held_after}
 use Rattle.bd_machine.specs.Asked.{asks_event, bound_to, next_line, outcome_due, undecided_job}
 use Rattle.bd_machine.specs.Changes.{registry_after}
 use Rattle.bd_machine.specs.Events.{change_reg}
 use Rattle.bd_base.specs.declared.setup.Setup.{Setup}
 use Rattle.bd_machine.specs.BlockMap.{below}
 use Rattle.bd_machine.specs.Registry.{answer_to, handle_of, made}
-use Rattle.bd_machine.specs.View.{View}
+use Rattle.bd_machine.specs.View.{Change, View}
 use Rattle.bd_machine.specs.Scripts.{change_job}
+use Rattle.bd_changes.specs.Begun.{begun}
 use Rattle.bd_changes.specs.Lone.{lone}
 use Rattle.bd_registry.specs.State.{Registered, event_row}
 use Rattle.bd_view.specs.Came.{came_between, came_shut}
 use Rattle.bd_links.specs.Entries.{longer, next_stamp}
+use Rattle.bd_links.specs.Tokens.{here_in}
 use Rattle.bd_thread.specs.declared.links.Links.{Links}
 use Rattle.bd_thread.specs.declared.thread.Thread.{Thread}
 use Rattle.bd_thread.specs.Seen.{untaken, view_of}
+use Rattle.bd_thread.specs.Walking.{sent_off}
 
 -- ---- what a line asks of the registry
 
@@ -51,6 +57,11 @@ abbrev pub claim_of : Part → Option Job → Option RegEvent
 claim_of part (Some (jobs.Claim handle kind)) = claim_if_bound kind (bound_to part handle)
 claim_of part _ = None
 
+-- the removal that a line names
+abbrev pub remove_of : Option Job → Option RegEvent
+remove_of (Some (jobs.Remove dev)) = Some (events.BeginRemove dev)
+remove_of _ = None
+
 -- the number of the handle that a line closes, where its name is bound
 abbrev pub close_of : Part → Option Job → Option HandleId
 close_of part (Some (jobs.Close handle)) = bound_to part handle
@@ -71,6 +82,10 @@ if_asked t links (Some event) = cond (may_ask t links event) (Some event) None
 -- the open that the next line asks for, where the thread may ask it
 abbrev pub open_asked : Thread → Links → Option RegEvent
 open_asked t links = if_asked t links (open_of (job_now t links))
+
+-- the removal that the next line asks for, where the thread may ask it
+abbrev pub remove_asked : Thread → Links → Option RegEvent
+remove_asked t links = if_asked t links (remove_of (job_now t links))
 
 -- the claim that the next line asks for, where the thread may ask it
 abbrev pub claim_asked : Thread → Links → Option RegEvent
@@ -99,9 +114,13 @@ abbrev pub made_by : Setup → View → RegEvent → List DevId
 made_by setup v (events.GetChannel dev) = made v.channels (below setup dev)
 made_by setup v _ = []
 
+-- what this answer to an event changes of the thread
+abbrev pub change_by : Thread → Links → RegEvent → Answer → Change
+change_by t links event answer = change_reg t.setup.now t.me (view_of t links) (came_shut links.shut) event answer
+
 -- the part of the thread after this answer to an event
 abbrev pub answered : Thread → Links → RegEvent → Answer → Part
-answered t links event answer = untaken (change_reg t.setup.now t.me (view_of t links) (came_shut links.shut) event answer).part
+answered t links event answer = untaken (change_by t links event answer).part
 
 -- the stamp of an event: one above the entries' and the registry's
 abbrev pub event_stamp : Links → ℕ
@@ -116,11 +135,15 @@ asked_registry t links event answer = record {
   state = registry_after t.setup.now links.registry.state t.me (Some (record { event = event; answer = answer }));
 }
 
--- the registry answered an event: the part and the registry are as the answer leaves them, one Reg has both, and all else stayed
+-- the registry answered an event: the part and the registry are as the answer leaves them, a walk that begins by it is here and to be put, one Reg has event and answer, and all else stayed
 pub record IsAnswered (event : RegEvent) (old : Thread) (before : Links) (new : Thread) (after : Links) : Type 0 where
   pub answer : Answer
   pub given : answer_to old.setup.now before.registry.state old.me event ≡ answer
-  pub thread : new ≡ record old { part = answered old before event answer }
+  pub walk : Option (WalkId × OpenWalk)
+  pub begins : (change_by old before event answer).moves ≡ begun walk
+  pub thread : new ≡ record old { part = answered old before event answer; held = new.held; outbox = new.outbox }
+  pub held : here_in new.held.items ≡ held_after (begun walk) (here_in old.held.items)
+  pub outbox : new.outbox.items ≡ old.outbox.items ++ sent_off walk
   pub links : after ≡ record before {
     registry = asked_registry old before event answer;
     entries = longer old.me before.entries (acts.Reg event answer);
@@ -175,6 +198,9 @@ Closes old before new after closed = ClosesBy old before new after closed (close
 
 abbrev pub Claims : Thread → Links → Thread → Links → Bool → Type 0
 Claims old before new after claimed = AsksBy old before new after claimed (claim_asked old before)
+
+abbrev pub Removes : Thread → Links → Thread → Links → Bool → Type 0
+Removes old before new after removed = AsksBy old before new after removed (remove_asked old before)
 
 -- ---- a line's end
 

@@ -1,11 +1,12 @@
--- The outcome of a turn, and of two steps of it.
-use Rattle.std.specs.Prelude.{◌≡◌, ℕ, ◌-◌, ◌<◌, ◌==◌, Bool, true, false, cond, List, [], ◌∷◌, ◌++◌, length, Option, Some, None}
+-- The outcome of a turn, and of steps of it.
+use Rattle.std.specs.Prelude.{◌≡◌, ℕ, ◌-◌, ◌<◌, ◌==◌, Bool, true, false, cond, List, [], ◌∷◌, ◌++◌, length, Option, Some, None, is_some}
 use Rattle.bd_base.specs.declared.act.Act.TheVariants as acts
 use Rattle.bd_base.specs.declared.act.ApplyEnd.TheVariants as ends
 use Rattle.bd_base.specs.declared.act.Token.{Token}
 use Rattle.bd_base.specs.declared.act.Token.TheVariants as tokens
 use Rattle.bd_base.specs.declared.id.DevId.{DevId}
 use Rattle.bd_base.specs.declared.id.ReqId.{ReqId}
+use Rattle.bd_base.specs.declared.id.WalkId.{WalkId}
 use Rattle.bd_machine.specs.declared.state.Id.{Id}
 use Rattle.bd_machine.specs.declared.state.Id.TheVariants as ids
 use Rattle.bd_machine.specs.Asked.{no_request}
@@ -15,8 +16,11 @@ use Rattle.bd_thread.specs.declared.links.Links.{Links}
 use Rattle.bd_thread.specs.declared.thread.Thread.{Thread}
 use Rattle.bd_thread.specs.declared.turn.Turned.{Turned}
 use Rattle.bd_thread.specs.declared.turn.Turned.TheVariants.{Moved, Quiet}
+use Rattle.bd_thread.specs.Completions.{Completes}
+use Rattle.bd_thread.specs.Sent.{Takes}
 use Rattle.bd_thread.specs.Served.{next_due}
 use Rattle.bd_thread.specs.Waits.{may_send}
+use Rattle.bd_thread.specs.Walking.{Visits}
 
 abbrev pub turned_of : ℕ → ℕ → Turned
 turned_of before after = cond (before == after) Quiet (Moved (after - before))
@@ -53,3 +57,38 @@ SendsBy old before new after sent _ _ = (sent ≡ false) × (new ≡ old) × (af
 
 abbrev pub SendsFirst : Thread → Links → Thread → Links → Bool → Type 0
 SendsFirst old before new after sent = SendsBy old before new after sent old.outbox.items (may_send old before old.outbox.items)
+
+-- ---- a message is taken
+
+-- its request completes, where the rules let it
+pub record MayComplete (req : ReqId) (old : Thread) (before : Links) (new : Thread) (after : Links) : Type 0 where
+  pub done : Bool
+  pub completes : Completes req old before new after done
+
+-- the walk visits the thread, where the rules let it
+pub record MayVisit (walk : WalkId) (old : Thread) (before : Links) (new : Thread) (after : Links) : Type 0 where
+  pub made : Bool
+  pub visits : Visits walk old before new after made
+
+abbrev pub CompletesOwn : Bool → ReqId → Thread → Links → Thread → Links → Type 0
+CompletesOwn true req old before new after = MayComplete req old before new after
+CompletesOwn false req old before new after = (new ≡ old) × (after ≡ before)
+
+-- what a token that came brings about: a piece that its own request completes, a walk its visit, and else nothing
+abbrev pub Comes : Id → Thread → Links → Thread → Links → Type 0
+Comes (ids.Piece req k) old before new after = CompletesOwn (req.thread == old.me) req old before new after
+Comes (ids.Walk walk) old before new after = MayVisit walk old before new after
+Comes _ old before new after = (new ≡ old) × (after ≡ before)
+
+abbrev pub ComesIfAny : Option Id → Thread → Links → Thread → Links → Type 0
+ComesIfAny None old before new after = (new ≡ old) × (after ≡ before)
+ComesIfAny (Some id) old before new after = Comes id old before new after
+
+-- the first message is taken, where it can be, and what its token brings about follows
+pub record Receives (old : Thread) (before : Links) (new : Thread) (after : Links) (taken : Bool) : Type 0 where
+  pub id : Option Id
+  pub middle : Thread
+  pub shared : Links
+  pub takes : Takes old before middle shared id
+  pub came : ComesIfAny id middle shared new after
+  pub taken_is : taken ≡ is_some id

@@ -3,20 +3,27 @@ use Rattle.std.specs.Prelude.{ℕ, Bool, true, not, ◌&&◌, ◌||◌, ◌==◌
 use Rattle.std.specs.List.{list_all, list_any, range_with_len}
 use Rattle.bd_base.specs.declared.act.Act.TheVariants as acts
 use Rattle.bd_base.specs.declared.id.DevId.{DevId}
+use Rattle.bd_base.specs.declared.id.HandleId.{HandleId}
 use Rattle.bd_base.specs.declared.setup.Setup.{Setup}
 use Rattle.bd_machine.specs.Asked.{is_script_blocked}
 use Rattle.bd_machine.specs.BlockMap.{home}
+use Rattle.bd_machine.specs.Registry.{handle_of}
 use Rattle.bd_machine.specs.Same.{same_dev}
-use Rattle.bd_machine.specs.Users.{dev_of}
+use Rattle.bd_machine.specs.Users.{dev_of, is_base_handle}
 use Rattle.bd_turns.specs.declared.queue.Message.{Message}
 use Rattle.bd_links.specs.Entries.{longer}
 use Rattle.bd_thread.specs.declared.links.Links.{Links}
 use Rattle.bd_thread.specs.declared.thread.Thread.{Thread}
 use Rattle.bd_thread.specs.Seen.{view_of}
 
--- no token is on the thread, nothing is still to be put or done, no remove event came, and its last entry took no injection
-abbrev pub rests : Thread → Bool
-rests t = (length t.held.items == 0) && (length t.part.due == 0) && (length t.part.owed == 0) && (length t.part.gone == 0) && is_none t.part.injection
+-- the handle is a base handle, or isn't open on this thread
+abbrev pub is_settled : Thread → Links → HandleId → Bool
+is_settled t links id = is_base_handle t.setup.now id || is_none (handle_of (view_of t links).handles id)
+
+-- no token is on the thread, nothing is still to be put or done, its last entry took no injection, and each handle whose remove event it took is closed, but for base handles
+abbrev pub rests : Thread → Links → Bool
+rests t links =
+    (length t.held.items == 0) && (length t.part.due == 0) && (length t.part.owed == 0) && is_none t.part.injection && list_all (is_settled t links) t.part.gone
 
 -- its script is at its end, or the next line waits
 abbrev pub is_blocked : Thread → Links → Bool

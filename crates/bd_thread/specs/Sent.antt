@@ -18,7 +18,7 @@ use Rattle.bd_thread.specs.declared.links.Links.{Links}
 use Rattle.bd_thread.specs.declared.thread.Thread.{Thread}
 use Rattle.bd_thread.specs.Seen.{local}
 
--- the first message, where it brings the token that it names, and that is a piece, a mark or a channel to be dropped: no thread takes others yet
+-- the first message, where it brings the token that it names, and that is one that threads take as yet
 abbrev pub first_brought : List Message → Option Message
 first_brought [] = None
 first_brought (m ∷ ms) = cond (is_built_token m.what && brings m.what (Some m.kept)) (Some m) None
@@ -32,12 +32,6 @@ TakesBy old before new after id (Some m) =
 abbrev pub Takes : Thread → Links → Thread → Links → Option Id → Type 0
 Takes old before new after id = TakesBy old before new after id (first_brought (queues_of before.queues.items old.me))
 
--- what becomes of the token of a message that was taken: what is sent once is closed, and all else is here; a piece that was served is its own thread's again
-abbrev pub landed : Id → Kept → List Move
-landed id (keeps.Notice told) = closed_notice id told
-landed id (keeps.Piece p) = here_with id (keeps.Piece (record p { progress = progress_took p.progress }))
-landed id kept = here_with id kept
-
 -- what is kept of a token on its way, where this is kept of it here: a request or a piece is out, or on its way back; what is sent once is only told
 abbrev pub on_way : Option News → Option Kept → Option Kept
 on_way None here = option_map sent here
@@ -46,7 +40,7 @@ on_way (Some told) here = Some (keeps.Notice told)
 abbrev pub kept_on_way : Token → Option Kept → Option Kept
 kept_on_way what here = on_way (news_of what) here
 
--- there is a queue to this thread, the token is a piece, a mark or a channel to be dropped, and it may go there
+-- there is a queue to this thread, the token is one that threads put as yet, and it may go there
 abbrev pub may_put : Thread → Links → ℕ → Token → Bool
 may_put t links to what = nat_lt to (vec_len links.queues) && is_built_token what && may_go t.setup.now t.me (local t links).view to what
 

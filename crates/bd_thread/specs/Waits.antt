@@ -25,9 +25,9 @@ use Rattle.bd_thread.specs.declared.thread.Thread.{Thread}
 use Rattle.bd_thread.specs.declared.turn.Turned.{Turned}
 use Rattle.bd_thread.specs.declared.turn.Turned.TheVariants.{Moved, Quiet}
 use Rattle.bd_thread.specs.Destructs.{may_device_go}
-use Rattle.bd_thread.specs.Drops.{NoDrop}
+use Rattle.bd_thread.specs.Duties.{NoDuty}
 use Rattle.bd_thread.specs.Endings.{left_on}
-use Rattle.bd_thread.specs.Lines.{claim_asked, close_asked, job_now, open_asked, outcome_now}
+use Rattle.bd_thread.specs.Lines.{claim_asked, close_asked, job_now, open_asked, outcome_now, remove_asked}
 use Rattle.bd_thread.specs.Seen.{local, view_of}
 use Rattle.bd_thread.specs.Sent.{first_brought}
 use Rattle.bd_thread.specs.Served.{next_due}
@@ -65,11 +65,12 @@ IsFilled t links = most_requests ≤ length t.part.requests
 abbrev pub NoSubmission : Thread → Links → Type 0
 NoSubmission t links = is_submission (job_now t links) && nat_lt (length t.part.requests) most_requests ≡ false
 
--- no act can be made for the line: nothing can be opened, closed, claimed or submitted, and it has no outcome
+-- no act can be made for the line: nothing can be opened, closed, claimed, removed or submitted, and it has no outcome
 pub record NoLine (t : Thread) (links : Links) : Type 0 where
   pub opening : open_asked t links ≡ None
   pub closing : close_asked t links ≡ None
   pub claiming : claim_asked t links ≡ None
+  pub removing : remove_asked t links ≡ None
   pub submission : NoSubmission t links
   pub outcome : outcome_now t links ≡ None
 
@@ -77,11 +78,10 @@ abbrev pub is_base_if_any : Setup → Option HandleId → Bool
 is_base_if_any setup None = false
 is_base_if_any setup (Some id) = is_base_handle setup id
 
--- what no thread does yet: a removal, a reset or an abort; nor does a script close a base handle
+-- what no thread does yet: a reset or an abort; nor does a script close a base handle
 abbrev pub is_unbuilt : Setup → View → Job → Bool
 is_unbuilt setup v (jobs.Close handle) = is_base_if_any setup (bound_to v.part handle)
 is_unbuilt setup v (jobs.Submit handle op lba count) = not (has_range op)
-is_unbuilt setup v (jobs.Remove dev) = true
 is_unbuilt setup v _ = false
 
 abbrev pub asks_unbuilt : Setup → View → Option Job → Bool
@@ -93,9 +93,9 @@ abbrev pub is_line_waiting : Thread → Links → Bool
 is_line_waiting t links =
     links.shut || is_some links.registry.state.between || is_script_blocked t.setup.now t.me (view_of t links) || asks_unbuilt t.setup.now (view_of t links) (undecided_job t.setup.now t.me t.part)
 
--- ---- after Shutdown
+-- ---- handles and devices that go
 
--- no handle that is left to the thread on a device may be closed
+-- no handle that is left to the thread on a device may be closed: one whose remove event was taken, or after Shutdown any
 abbrev pub NoHandleOn : DevId → Thread → Links → Type 0
 NoHandleOn dev t links = left_on dev t links ≡ None
 
@@ -147,7 +147,7 @@ token_of (news.Channel dev) = tokens.Channel dev
 token_of (news.Device dev) = tokens.Device dev
 token_of (news.Go req threads) = tokens.Go req threads
 
--- the first message that is due is a mark or a channel to be dropped, and there is room where it is to go
+-- the first message that is due is one that threads put as yet, and there is room where it is to go
 abbrev pub may_post : Links → List Due → Bool
 may_post links [] = false
 may_post links (d ∷ ds) = has_room links d.receiver && is_built_token (token_of d.news)
@@ -172,10 +172,10 @@ pub record IsIdle (Waits : Thread → Links → Type 0) (old : Thread) (before :
 abbrev pub Idles : (Thread → Links → Type 0) → Thread → Links → Thread → Links → Type 0
 Idles Waits old before new after = length after.entries ≤ length before.entries → IsIdle Waits old before new after
 
--- all that a thread waits for: a message that it can take, a channel that it can drop, a piece that it can serve on a device whose home it is, a line that can go on, after Shutdown a handle that it can close or a device that it can destruct, and room for the first of its outbox, if that may go there, and for the first message that is due
+-- all that a thread waits for: a message that it can take, something that it owes and can do, a piece that it can serve on a device whose home it is, a line that can go on, a handle that it can close by itself or a device that it can destruct, and room for the first of its outbox, if that may go there, and for the first message that is due
 pub record IsWaiting (t : Thread) (links : Links) : Type 0 where
   pub message : NoMessage t links
-  pub drop : NoDrop t links
+  pub duty : NoDuty t links
   pub piece : NoPiece t links
   pub line : is_line_waiting t links ≡ true
   pub left : NothingLeft t links

@@ -1,8 +1,8 @@
-//! What a thread does after Shutdown: it closes the handles that are left to it, and destructs
-//! its devices.
+//! What a thread does by itself: it closes handles whose device is being removed, and after Shutdown all
+//! that are left to it, and destructs its devices.
 ghost use Rattle.std.specs.Prelude.{◌≡◌, ◌<◌, vec_len, IfOk, OnOk};
 ghost use Rattle.bd_thread.specs.Acted.{Acted};
-ghost use Rattle.bd_thread.specs.Endings.{left_on, owes_nothing, ClosesLeft};
+ghost use Rattle.bd_thread.specs.Endings.{is_left, left_on, owes_nothing, ClosesLeft};
 ghost use Rattle.bd_thread.specs.Requests.{KeepsTickets};
 ghost use Rattle.bd_thread.specs.Waits.{Idles, NoDestruct, NoHandle, NoHandleOn, NothingLeft};
 ghost use Rattle.bd_registry.specs.State.{rows_of};
@@ -11,25 +11,30 @@ use crate::links::Links;
 use crate::thread::Thread;
 use bd_base::{DevId, OutOfMemory};
 use bd_machine::Handle;
+use bd_rules::is_gone;
 
 impl<'a> Thread<'a> {
-    // The first of the thread's handles on the device that may be closed after Shutdown: no base
-    // handle, and without open requests.
+    // Whether the thread closes the handle by itself: its remove event was taken, or it is after the
+    // Shutdown, and it may be closed (no base handle, and without open requests).
+    fn is_left(&self, links: &Links, handle: Handle) -> bool
+        ensures { result ≡ is_left self.now links.now handle }
+    {
+        (links.shut || is_gone(&self.part, handle.id)) && self.may_close(links, handle)
+    }
+
+    // The first of the thread's handles on the device that it closes by itself.
     fn left_on(&self, links: &Links, dev: DevId) -> Option<Handle>
         ensures { result ≡ left_on dev self.now links.now }
     {
-        if !links.shut {
-            return None;
-        }
         for h in self.handles_of(links, dev) {
-            if h.thread.0 == self.me && h.dev.0 == dev.0 && self.may_close(links, *h) {
+            if h.thread.0 == self.me && h.dev.0 == dev.0 && self.is_left(links, *h) {
                 return Some(*h);
             }
         }
         None
     }
 
-    // Closes the first handle that is left on the device after Shutdown.
+    // Closes the first handle that is left on the device.
     fn close_left(&mut self, links: &mut Links, dev: DevId) -> Result<bool, OutOfMemory>
         requires rows { links.old.registry.setup ≡ rows_of self.old.setup.now }
         ensures acted { OnOk result (Acted self.old links.old self.new links.new) }
@@ -91,15 +96,16 @@ impl<'a> Thread<'a> {
         Ok(())
     }
 
-    // Whether no Shutdown came, and the thread owes nothing.
+    // Whether no Shutdown came, the thread owes nothing, and it took no remove event.
     fn owes_nothing(&self, links: &Links) -> bool
         ensures { result ≡ owes_nothing self.now links.now }
     {
-        !links.shut && self.part.owed.len() == 0
+        !links.shut && self.part.owed.len() == 0 && self.part.gone.len() == 0
     }
 
-    /// After Shutdown puts the channels of the thread's handles and closes them, device by device, and
-    /// then, or where the thread was told to, destructs the devices whose home it is, as far as may be.
+    /// Puts the channels of the thread's handles whose remove event it took, or after Shutdown of all, and
+    /// closes them, device by device; and then destructs the devices whose home it is, where the thread was
+    /// told to, or after Shutdown, as far as may be.
     pub(crate) fn end_all(&mut self, links: &mut Links) -> Result<(), OutOfMemory>
         requires me { self.old.me < vec_len links.old.queues }
         requires rows { links.old.registry.setup ≡ rows_of self.old.setup.now }

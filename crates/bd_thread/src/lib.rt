@@ -2,7 +2,7 @@
 #![tactic(auto)]
 
 mod completion;
-mod drops;
+mod duties;
 mod ending;
 mod homes;
 pub mod law;
@@ -15,6 +15,7 @@ mod resting;
 mod thread;
 mod turn;
 mod view;
+mod walks;
 
 pub use links::Links;
 pub use requests::Refused;

@@ -1,13 +1,15 @@
-//! The lines of a thread's script: opens with their channels, closes with their puts, claims, and each
-//! line's end.
+//! The lines of a thread's script: opens with their channels, closes with their puts, claims, removals,
+//! and each line's end.
 ghost use Rattle.std.specs.Prelude.{◌≡◌, ◌<◌, true, vec_len, IfOk, IfSome, OnOk};
-ghost use Rattle.bd_machine.specs.Events.{change_reg};
+ghost use Rattle.bd_changes.specs.Begun.{with_walk};
+ghost use Rattle.bd_machine.specs.Events.{change_reg, removal_paid, removing};
 ghost use Rattle.bd_machine.specs.Guards.{is_built_event};
+ghost use Rattle.bd_machine.specs.Registry.{device_named};
 ghost use Rattle.bd_machine.specs.View.{View};
 ghost use Rattle.bd_registry.specs.State.{rows_of};
 ghost use Rattle.bd_view.specs.Came.{came_shut};
 ghost use Rattle.bd_thread.specs.Acted.{Acted};
-ghost use Rattle.bd_thread.specs.Lines.{close_asked, close_due, get_due, made_by, may_ask, may_ask_after, may_close, Claims, Closes, EndsLine, Follows, IsAnswered, IsFollowed, Opens};
+ghost use Rattle.bd_thread.specs.Lines.{close_asked, close_due, get_due, made_by, may_ask, may_ask_after, may_close, Claims, Closes, EndsLine, Follows, IsAnswered, IsFollowed, Opens, Removes};
 ghost use Rattle.bd_thread.specs.Requests.{KeepsTickets};
 ghost use Rattle.bd_thread.specs.Seen.{view_of};
 ghost use Rattle.bd_base.specs.declared.event.RegEvent.TheVariants as events;
@@ -16,11 +18,14 @@ use crate::links::Links;
 use crate::thread::Thread;
 use bd_answers::made;
 use bd_asked::{asks_event, bound_to, next_line, outcome_of, undecided_job};
-use bd_base::{Act, Answer, DevId, DevList, HandleId, Job, OutOfMemory, RegEvent, Rows};
+use bd_base::{
+    Act, Answer, DevId, DevList, HandleId, Job, Name, OutOfMemory, RegEvent, Rows, WalkId,
+};
+use bd_blocks::number_named;
 use bd_changes::{closed, decide, line_done};
-use bd_events::{dropped, got, put_down};
+use bd_events::{dropped, freed, got, put_down, removal_paid};
 use bd_links::next_stamp;
-use bd_machine::{Between, Handle};
+use bd_machine::{Between, Handle, OpenWalk};
 use bd_view::{Records, Sees};
 
 // The channel that has to follow an open of this thread.
@@ -111,40 +116,73 @@ impl<'a> Thread<'a> {
         }
     }
 
-    // The part is as this answer to an event leaves it, which makes these channels where it is a get.
+    // The part is as this answer to a removal leaves it; the walk that begins by it, if one does.
+    fn removing(
+        &mut self,
+        shut: bool,
+        name: &Name,
+        answer: &Answer,
+    ) -> Result<Option<(WalkId, OpenWalk)>, OutOfMemory>
+        ensures thread { OnOk result (self.new ≡ record self.old { part = self.new.part }) }
+        ensures change { IfOk result (λ walk. with_walk self.new.part walk
+            ≡ removing self.old.setup.now self.old.me answer.now (removal_paid (came_shut shut) answer.now (device_named self.old.setup.now name.now) self.old.part)) }
+    {
+        let named = number_named(self.setup, name)?;
+        removal_paid(&mut self.part, shut, answer, named);
+        bd_events::removing(&mut self.part, self.setup, self.me, answer)
+    }
+
+    // The part is as this answer to an event leaves it, which makes these channels where it is a get; the
+    // walk that begins by it, if one does.
     fn answered(
         &mut self,
         shut: bool,
         made: &[DevId],
         event: &RegEvent,
         answer: &Answer,
-    ) -> Result<(), OutOfMemory>
+    ) -> Result<Option<(WalkId, OpenWalk)>, OutOfMemory>
         requires { is_built_event event.now ≡ true }
-        ensures { OnOk result ((v : View) → v.part ≡ self.old.part → made.now ≡ made_by self.old.setup.now v event.now
-            → self.new ≡ record self.old { part = (change_reg self.old.setup.now self.old.me v (came_shut shut) event.now answer.now).part }) }
+        ensures thread { OnOk result (self.new ≡ record self.old { part = self.new.part }) }
+        ensures change { IfOk result (λ walk. (v : View) → v.part ≡ self.old.part → made.now ≡ made_by self.old.setup.now v event.now
+            → with_walk self.new.part walk ≡ change_reg self.old.setup.now self.old.me v (came_shut shut) event.now answer.now) }
     {
         let setup = self.setup;
         let me = self.me;
         match event {
             RegEvent::Open { .. } | RegEvent::Claim { .. } => {
                 decide(&mut self.part, shut, answer);
-                Ok(())
+                Ok(None)
             }
-            RegEvent::Close { handle } => closed(&mut self.part, setup, shut, *handle, answer),
+            RegEvent::Close { handle } => {
+                closed(&mut self.part, setup, shut, *handle, answer)?;
+                Ok(None)
+            }
             RegEvent::GetChannel { .. } => match answer {
-                Answer::Got { frozen, .. } => got(&mut self.part, frozen.as_slice(), made),
-                _ => Ok(()),
+                Answer::Got { frozen, .. } => {
+                    got(&mut self.part, frozen.as_slice(), made)?;
+                    Ok(None)
+                }
+                _ => Ok(None),
             },
             RegEvent::PutChannel { dev, closing } => {
-                put_down(&mut self.part, me, *dev, *closing, answer)
+                put_down(&mut self.part, me, *dev, *closing, answer)?;
+                Ok(None)
             }
-            RegEvent::DropChannel { dev } => dropped(&mut self.part, setup, me, *dev, answer),
+            RegEvent::DropChannel { dev } => {
+                dropped(&mut self.part, setup, me, *dev, answer)?;
+                Ok(None)
+            }
+            RegEvent::BeginRemove { name } => self.removing(shut, name, answer),
+            RegEvent::Destructed { dev } => {
+                freed(&mut self.part, *dev, answer)?;
+                Ok(None)
+            }
             _ => unreachable!(),
         }
     }
 
-    // The registry answers an event, and the part is as the answer leaves it. Where stamps run out it
-    // answers out of memory.
+    // The registry answers an event, and the part is as the answer leaves it; a walk that begins by it is
+    // here, and to be put. Where stamps run out it answers out of memory.
     pub(crate) fn ask(&mut self, links: &mut Links, event: RegEvent) -> Result<(), OutOfMemory>
         requires built { is_built_event event ≡ true }
         requires asked { may_ask self.old links.old event ≡ true }
@@ -158,7 +196,8 @@ impl<'a> Thread<'a> {
         };
         let made = self.made_by(links, &event)?;
         let answer = links.registry.event(self.alloc, self.me, stamp, &event)?;
-        self.answered(links.shut, made.as_slice(), &event, &answer)?;
+        let walk = self.answered(links.shut, made.as_slice(), &event, &answer)?;
+        self.begin(walk)?;
         self.note(links, Act::Reg { event, answer })?;
         Ok(())
     }
@@ -300,6 +339,30 @@ impl<'a> Thread<'a> {
             handle: id,
             kind: *kind,
         };
+        if !self.may_ask(links, &event) {
+            return Ok(false);
+        }
+        self.ask(links, event)?;
+        Ok(true)
+    }
+
+    /// Removes the device that the next line names, where it asks for that and the rules let it: true, and
+    /// the registry's answer decides the line; where it was granted, each handle's thread is to be told,
+    /// and a walk over the threads that have a channel begins. Else, or after Shutdown, nothing changes.
+    pub(crate) fn remove(&mut self, links: &mut Links) -> Result<bool, OutOfMemory>
+        requires me { self.old.me < vec_len links.old.queues }
+        requires rows { links.old.registry.setup ≡ rows_of self.old.setup.now }
+        ensures acted { OnOk result (Acted self.old links.old self.new links.new) }
+        ensures tickets { OnOk result (KeepsTickets self.old → KeepsTickets self.new) }
+        ensures removed { IfOk result (Removes self.old links.old self.new links.new) }
+    {
+        if links.shut {
+            return Ok(false);
+        }
+        let Some(Job::Remove { dev }) = undecided_job(self.setup, self.me, &self.part) else {
+            return Ok(false);
+        };
+        let event = RegEvent::BeginRemove { name: dev.copy()? };
         if !self.may_ask(links, &event) {
             return Ok(false);
         }

@@ -1,35 +1,23 @@
 //! Messages of a thread: those that it takes, and those that it puts.
 ghost use Rattle.std.specs.Prelude.{◌≡◌, ◌<◌, true, is_some, length, vec_len, IfOk, OnOk, Some, None};
-ghost use Rattle.bd_machine.specs.Alone.{held_after};
-ghost use Rattle.bd_machine.specs.Guards.{is_built_token};
 ghost use Rattle.bd_links.specs.Queues.{queues_of};
 ghost use Rattle.bd_links.specs.Tokens.{here_in, Sets};
 ghost use Rattle.bd_thread.specs.Acted.{Acted};
 ghost use Rattle.bd_thread.specs.Requests.{KeepsTickets};
-ghost use Rattle.bd_thread.specs.Sent.{first_brought, kept_on_way, landed, may_put, KeepsRequests, Puts, Takes};
+ghost use Rattle.bd_thread.specs.Sent.{first_brought, kept_on_way, may_put, KeepsRequests, Puts, Takes};
 
 use crate::links::Links;
 use crate::thread::Thread;
 use bd_base::{Act, OutOfMemory, Token};
-use bd_changes::{arrived, news_of, progress_took, sent, took};
-use bd_links::{Queue, hold, let_go, pop, push, take_out};
+use bd_changes::{arrived, news_of, sent, took};
+use bd_links::{Queue, hold_begun, land, let_go, pop, push, take_out};
 use bd_machine::{Id, Kept};
 use bd_rules::{brings, count_at, id_of, may_go};
 use bd_turns::Message;
+use bd_view::is_built_token;
 
-// Whether it is a piece, a mark or a channel to be dropped: threads put and take no other tokens
-// yet.
-fn is_built_token(what: &Token) -> bool
-    ensures { result ≡ is_built_token what.now }
-{
-    matches!(
-        what,
-        Token::Piece(_, _) | Token::Mark(_) | Token::Channel(_)
-    )
-}
-
-// Whether the first message to the thread brings the token that it names: a piece, a mark or a
-// channel to be dropped.
+// Whether the first message to the thread brings the token that it names, and that is one that threads
+// take.
 fn may_take(queues: &[Queue], me: usize) -> bool
     requires { me < length queues.now }
     ensures { result ≡ is_some (first_brought (queues_of queues.now me)) }
@@ -39,24 +27,6 @@ fn may_take(queues: &[Queue], me: usize) -> bool
             is_built_token(&message.what) && brings(&message.what, Some(&message.kept))
         }
         None => false,
-    }
-}
-
-// The token of a message that was taken is on this thread, unless it is sent once alone.
-fn land(tokens: &mut Vec<(Id, Kept)>, id: Id, kept: Kept) -> Result<(), OutOfMemory>
-    ensures { OnOk result (here_in tokens.new.items ≡ held_after (landed id kept) (here_in tokens.old.items)) }
-{
-    match kept {
-        Kept::Piece(mut piece) => {
-            piece.progress = progress_took(piece.progress);
-            hold(tokens, id, Kept::Piece(piece))
-        }
-        Kept::Notice(_) => {
-            let_go(tokens, id);
-            Ok(())
-        }
-        Kept::Request(request) => hold(tokens, id, Kept::Request(request)),
-        Kept::Walk(walk) => hold(tokens, id, Kept::Walk(walk)),
     }
 }
 
@@ -92,8 +62,9 @@ fn copy_of(what: &Token) -> Result<Token, OutOfMemory>
 }
 
 impl<'a> Thread<'a> {
-    /// Takes the first message, where it brings the token that it names: a piece, a mark or a channel
-    /// to be dropped. None, and nothing changes, where it doesn't, or there is none.
+    /// Takes the first message, where it brings the token that it names, and that is one that threads
+    /// take. A walk that is back on the thread that began it ends. None, and nothing changes, where the
+    /// message doesn't, or there is none.
     pub(crate) fn take(&mut self, links: &mut Links) -> Result<Option<Id>, OutOfMemory>
         requires { self.old.me < vec_len links.old.queues }
         ensures acted { OnOk result (Acted self.old links.old self.new links.new) }
@@ -111,7 +82,7 @@ impl<'a> Thread<'a> {
         let Message { sender, what, kept } = message;
         let number = count_at(self.part.taken.as_slice(), sender);
         took(&mut self.part, sender, number)?;
-        arrived(
+        let begun = arrived(
             self.alloc,
             &mut self.part,
             self.setup,
@@ -120,7 +91,8 @@ impl<'a> Thread<'a> {
             Some(&kept),
         )?;
         let id = id_of(sender, self.me, number, &what);
-        land(&mut self.held, id, kept)?;
+        land(&mut self.held, self.me, id, &what, kept)?;
+        hold_begun(&mut self.held, begun)?;
         self.note(
             links,
             Act::Took {
@@ -132,8 +104,7 @@ impl<'a> Thread<'a> {
         Ok(Some(id))
     }
 
-    /// Whether there is a queue to the thread, and the token (a piece, a mark or a channel to be
-    /// dropped) may go there.
+    /// Whether there is a queue to the thread, and the token is one that threads put and may go there.
     pub(crate) fn may_put(&self, links: &Links, to: u32, what: &Token) -> bool
         ensures { result ≡ may_put self.now links.now to what.now }
     {
@@ -142,8 +113,8 @@ impl<'a> Thread<'a> {
             && may_go(&self.seen(links), self.setup, self.me, to, what)
     }
 
-    /// Puts a token last in the queue to the thread, where it may go there: a piece that is here, or
-    /// a mark or a channel to be dropped that is due to that thread. Else nothing changes.
+    /// Puts a token last in the queue to the thread, where it may go there: a piece or a walk that is
+    /// here, or news that are due to that thread. Else nothing changes.
     pub(crate) fn put(
         &mut self,
         links: &mut Links,

@@ -2,14 +2,15 @@
 ghost use Rattle.std.specs.Prelude.{◌≡◌, ◌-◌};
 ghost use Rattle.std.specs.List.{list_all, list_any, range_with_len};
 ghost use Rattle.bd_machine.specs.Same.{same_dev};
-ghost use Rattle.bd_thread.specs.Resting.{has_destructed_all, is_blocked, is_done_with, rests};
+ghost use Rattle.bd_thread.specs.Resting.{has_destructed_all, is_blocked, is_done_with, is_settled, rests};
 
 use crate::links::Links;
 use crate::thread::Thread;
 use bd_asked::is_script_blocked;
-use bd_base::{DevId, Setup};
-use bd_blocks::home;
+use bd_base::{DevId, HandleId, Setup};
+use bd_blocks::{home, is_base_handle};
 use bd_rules::has_destructed;
+use bd_view::Sees;
 
 // Whether another thread is the device's home, or it was destructed.
 fn is_done_with(setup: &Setup, me: u32, destructed: &[DevId], n: u32) -> bool
@@ -31,16 +32,36 @@ fn are_done_with(setup: &Setup, me: u32, destructed: &[DevId], count: u32) -> bo
 }
 
 impl<'a> Thread<'a> {
-    /// Whether no token is on the thread, nothing is still to be put or done, no remove event came, and
-    /// its last entry took no injection.
-    pub fn rests(&self) -> bool
-        ensures { result ≡ rests self.now }
+    // Whether the handle is a base handle, or isn't open on this thread.
+    fn is_settled(&self, links: &Links, id: HandleId) -> bool
+        ensures { result ≡ is_settled self.now links.now id }
+    {
+        is_base_handle(self.setup, id) || self.seen(links).handle(id).is_none()
+    }
+
+    // Whether each handle whose remove event was taken is closed, but for base handles.
+    #[tactic(auto, using(crate::proofs::Left::left_from))]
+    fn closed_all_gone(&self, links: &Links) -> bool
+        ensures { result ≡ list_all (is_settled self.now links.now) self.now.part.gone }
+    {
+        for id in self.part.gone.as_slice() {
+            if !self.is_settled(links, *id) {
+                return false;
+            }
+        }
+        true
+    }
+
+    /// Whether no token is on the thread, nothing is still to be put or done, each handle whose remove
+    /// event it took is closed (but for base handles), and its last entry took no injection.
+    pub fn rests(&self, links: &Links) -> bool
+        ensures { result ≡ rests self.now links.now }
     {
         self.held.len() == 0
             && self.part.due.len() == 0
             && self.part.owed.len() == 0
-            && self.part.gone.len() == 0
             && self.part.injection.is_none()
+            && self.closed_all_gone(links)
     }
 
     /// Whether its script is at its end, or the next line waits for a mark, for a remove event, for its

@@ -3,7 +3,7 @@ ghost use Rattle.std.specs.Prelude.{◌≡◌, ◌+◌, ◌<◌, ◌≤◌, Some
 ghost use Rattle.bd_thread.specs.Acted.{Acted};
 ghost use Rattle.bd_thread.specs.Seen.{number_of, setup_of};
 ghost use Rattle.bd_thread.specs.Requests.{IsAsked, IsFresh, KeepsTickets};
-ghost use Rattle.bd_thread.specs.Moves.{turned_of, AddsMore, IsNextTicket, SendsFirst, Serves};
+ghost use Rattle.bd_thread.specs.Moves.{turned_of, AddsMore, Comes, IsNextTicket, Receives, SendsFirst, Serves};
 ghost use Rattle.bd_thread.specs.Waits.{first_due, may_send, token_of, Idles, IsFilled, NoLine, NoMessage, NoPiece, NoPieceOn, NoSubmission, NothingToPost, NothingToSend, Quiets};
 ghost use Rattle.bd_registry.specs.State.{rows_of};
 
@@ -140,21 +140,39 @@ impl<'a> Thread<'a> {
         }
     }
 
-    // Takes a message, and completes its request where it was the last of its pieces.
+    // What a token that came brings about: its request completes where it was the last of its pieces, and
+    // a walk visits this thread.
+    fn came(&mut self, links: &mut Links, id: Id) -> Result<(), OutOfMemory>
+        requires { self.old.me < vec_len links.old.queues }
+        ensures acted { OnOk result (Acted self.old links.old self.new links.new) }
+        ensures tickets { OnOk result (KeepsTickets self.old → KeepsTickets self.new) }
+        ensures came { OnOk result (Comes id self.old links.old self.new links.new) }
+    {
+        match id {
+            Id::Piece(req, _) if req.thread == self.me => {
+                self.complete(links, req)?;
+                Ok(())
+            }
+            Id::Walk(walk) => {
+                self.visit(links, walk)?;
+                Ok(())
+            }
+            _ => Ok(()),
+        }
+    }
+
+    // Takes a message, and does what its token brings about.
     fn receive(&mut self, links: &mut Links) -> Result<bool, OutOfMemory>
         requires { self.old.me < vec_len links.old.queues }
         ensures acted { OnOk result (Acted self.old links.old self.new links.new) }
         ensures tickets { OnOk result (KeepsTickets self.old → KeepsTickets self.new) }
         ensures quiet { OnOk result (Idles NoMessage self.old links.old self.new links.new) }
+        ensures receives { IfOk result (Receives self.old links.old self.new links.new) }
     {
         let Some(id) = self.take(links)? else {
             return Ok(false);
         };
-        if let Id::Piece(req, _) = id {
-            if req.thread == self.me {
-                self.complete(links, req)?;
-            }
-        }
+        self.came(links, id)?;
         Ok(true)
     }
 
@@ -229,6 +247,7 @@ impl<'a> Thread<'a> {
         self.open(links)?;
         self.close(links)?;
         self.claim(links)?;
+        self.remove(links)?;
         self.submit_line(links)?;
         self.end_line(links)
     }
@@ -291,8 +310,8 @@ impl<'a> Thread<'a> {
         }
     }
 
-    // Puts the first message that is due on its way, where it is a mark or a channel to be dropped,
-    // unless the queue that it goes to is full.
+    // Puts the first message that is due on its way, where it is one that threads put, unless the queue
+    // that it goes to is full.
     fn put_due(&mut self, links: &mut Links) -> Result<bool, OutOfMemory>
         requires { self.old.me < vec_len links.old.queues }
         ensures acted { OnOk result (Acted self.old links.old self.new links.new) }
@@ -336,9 +355,9 @@ impl<'a> Thread<'a> {
         Ok(())
     }
 
-    /// A turn: at most 8 messages, the channels that are to be dropped, at most 8 pieces of each store, at most 8 lines of the script (after
-    /// Shutdown the closes and destructs that are left, in their place), and what is still to be put,
-    /// until the queue that it goes to is full. `Quiet` only where none of this could be done. It answers
+    /// A turn: at most 8 messages, what the thread owes, at most 8 pieces of each store, at most 8 lines of
+    /// the script, the closes of handles whose device is being removed (after Shutdown of all) and the
+    /// destructs that are due, and what is still to be put, until the queue that it goes to is full. `Quiet` only where none of this could be done. It answers
     /// out of memory also where a number runs out: after 2^62 requests of the thread, or where a count
     /// of messages, handles, pieces or lines would pass its type.
     pub fn turn(&mut self, links: &mut Links) -> Result<Turned, OutOfMemory>
@@ -351,7 +370,7 @@ impl<'a> Thread<'a> {
     {
         let before = links.entries.len();
         self.receive_all(links)?;
-        self.drop_all(links)?;
+        self.discharge_all(links)?;
         self.serve_all(links)?;
         self.command_all(links)?;
         self.end_all(links)?;

@@ -21,11 +21,13 @@ fn is_built_job(job: &Job) -> bool
         Job::Open { .. }
         | Job::Close { .. }
         | Job::Claim { .. }
+        | Job::Remove { .. }
+        | Job::Gone { .. }
         | Job::Wait
         | Job::Post(_)
         | Job::Await(_) => true,
         Job::Submit { op, .. } => has_range(op),
-        Job::Remove { .. } | Job::Sleep(_) | Job::Gone { .. } => false,
+        Job::Sleep(_) => false,
     }
 }
 

@@ -11,7 +11,7 @@ mod sees;
 mod tokens;
 
 pub use answers::same_answer;
-pub use as_yet::AS_YET;
+pub use as_yet::{AS_YET, is_built_event, is_built_token};
 pub use handles::{handle_of, own_handle};
 pub use names::{PieceId, Submission};
 pub use records::Records;

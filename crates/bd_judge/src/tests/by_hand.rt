@@ -331,10 +331,9 @@ const TRACE: [Deed; 35] = [
 
 // A guard, and an act that it refuses after the first entries of the trace.
 const REFUSED: [(u32, usize, Deed); 51] = [
-    // an act that isn't built, a reset, an event that isn't built
+    // an act that isn't built, a reset
     (0, 0, Deed::Pend),
     (0, 3, Deed::Accept(ZERO, 0, Op::Reset, 0)),
-    (0, 3, Deed::Reg(Ask::Remove)),
     // a put with the wrong number; of a piece that there isn't; of one that is out; of one that
     // wasn't served; of a channel that has a reference; a take before its put; a take of what was
     // taken; of a channel that wasn't put
@@ -346,10 +345,11 @@ const REFUSED: [(u32, usize, Deed); 51] = [
     (5, 6, Deed::Took(0, What::Piece(0, 0))),
     (5, 8, Deed::Took(0, What::Piece(0, 0))),
     (5, 30, Deed::Took(4, What::Channel)),
-    // a handle number that isn't the next one, a channel that isn't there yet, a second claim of a
-    // handle, an open that its own claim refuses
+    // a handle number that isn't the next one, a channel that isn't there yet, a removal that isn't
+    // refused, a second claim of a handle, an open that its own claim refuses
     (6, 0, Deed::Reg(Ask::Open(7))),
     (6, 1, Deed::Reg(Ask::Get(false))),
+    (6, 3, Deed::Reg(Ask::Remove)),
     (6, 26, Deed::Reg(Ask::Claim)),
     (6, 26, Deed::Reg(Ask::Open(1))),
     // an open, a close and a claim that no line asks

@@ -13,5 +13,5 @@ returns-clause-complete c =
     let o = c.args.self in
     let p = done_parts o.links.shut (is_over o) (is_idle o) c.requires.done in
     let q = and_parts (is_at_rest o) (list_all has_destructed_all o.threads.items) p.1 in
-    let r = and_parts (list_all rests o.threads.items) (are_empty o.links.queues.items) q.0 in
+    let r = and_parts (list_all (λ t. rests t o.links) o.threads.items) (are_empty o.links.queues.items) q.0 in
     subst (λ (es : List Entry). IsCompleteRun o.setup.now [] es) (sym c.of.ensures) (done_complete o.setup.now o.threads.items o.links c.requires.node p.0 r.0 r.1 q.1)

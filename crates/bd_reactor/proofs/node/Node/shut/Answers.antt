@@ -13,7 +13,7 @@ returns-clause-node c =
     let o = c.args.self.now in
     let p = idle_parts o.links.shut (is_over o) (is_idle o) c.requires.idle in
     let q = and_parts (is_at_rest o) (list_all (λ t. is_blocked t o.links) o.threads.items) p.1 in
-    let r = and_parts (list_all rests o.threads.items) (are_empty o.links.queues.items) q.0 in
+    let r = and_parts (list_all (λ t. rests t o.links) o.threads.items) (are_empty o.links.queues.items) q.0 in
     on_ok_weaker c.shut_down.result
     (λ e. subst (λ (l : Links). IsWhole o.setup.now o.threads.items l) (sym e) (shut_whole o.setup.now o.threads.items o.links c.requires.node p.0 r.0 r.1 q.1))
     c.shut_down.ensures

@@ -1,13 +1,19 @@
-use Rattle.std.proofs.Common.{◌≡◌, length, refl, sym, ◌∙◌, ap}
+use Rattle.std.proofs.Common.{◌≡◌, ◌++◌, length, refl, sym, ◌∙◌, ap}
 use Rattle.bd_base.specs.declared.act.Act.TheVariants as acts
 use Rattle.bd_base.specs.declared.event.Answer.{Answer}
 use Rattle.bd_base.specs.declared.setup.Setup.{Setup}
+use Rattle.bd_machine.specs.declared.state.Part.{Part}
+use Rattle.bd_machine.specs.Alone.{held_after}
 use Rattle.bd_machine.specs.Registry.{answer_to}
+use Rattle.bd_machine.specs.View.{Change}
+use Rattle.bd_changes.specs.Begun.{begun, with_walk}
 use Rattle.bd_registry.specs.State.{Registered, registered}
 use Rattle.bd_registry.proofs.Rows.{answer_of_rows, after_of_rows}
 use Rattle.bd_links.specs.Entries.{longer, next_stamp}
+use Rattle.bd_links.specs.Tokens.{here_in}
 use Rattle.bd_thread.specs.Acted.{Acted}
-use Rattle.bd_thread.specs.Lines.{answered, asked_registry, event_stamp, IsAnswered}
+use Rattle.bd_thread.specs.Lines.{answered, asked_registry, change_by, event_stamp, IsAnswered}
+use Rattle.bd_thread.specs.Walking.{sent_off}
 use Rattle.bd_thread.specs.Requests.{KeepsTickets}
 use Rattle.bd_thread.specs.Seen.{untaken, view_of}
 use Rattle.bd_thread.specs.declared.links.Links.{Links}
@@ -30,17 +36,34 @@ returns c =
     c.in_ok-answer.ensures.after
     ∙ ap (λ n. registered links.registry t.me n event answer) (c.in-Some.ensures.stamp ∙ ap (next_stamp (length links.entries)) c.last_stamp.ensures)
     ∙ after_of_rows setup links.registry t.me (event_stamp links) event answer c.requires.rows in
-    let new : Thread = record t { part = answered t links event answer } in
+    let walk = c.in_ok-walk.walk in
+    let changed : with_walk c.answered.new.self.part walk ≡ change_by t links event answer =
+    c.in_ok-walk.ensures.change (view_of t links) refl (c.as_slice.ensures ∙ c.in_ok-made.ensures) in
+    let began = c.in_ok-begin.ensures in
+    let part : untaken c.answered.new.self.part ≡ answered t links event answer = ap (λ (x : Change). untaken x.part) changed in
+    let new : Thread = record t { part = answered t links event answer; held = c.begin.new.self.held; outbox = c.begin.new.self.outbox } in
     let after : Links = record links { registry = asked_registry t links event answer; entries = longer t.me links.entries (acts.Reg event answer) } in
-    let left = c.in_ok-answered.ensures (view_of t links) refl (c.as_slice.ensures ∙ c.in_ok-made.ensures) in
-    let thread = c.in_ok-note.ensures.thread ∙ ap (λ (n : Thread). let m : Thread = record n { part = untaken n.part } in m) left in
+    let left : c.begin.new.self ≡ record t { part = c.answered.new.self.part; held = c.begin.new.self.held; outbox = c.begin.new.self.outbox } =
+    began.thread ∙ ap (λ (n : Thread). let m : Thread = record n { held = c.begin.new.self.held; outbox = c.begin.new.self.outbox } in m) c.in_ok-walk.ensures.thread in
+    let thread = c.in_ok-note.ensures.thread
+    ∙ ap (λ (n : Thread). let m : Thread = record n { part = untaken n.part } in m) left
+    ∙ ap (λ (p : Part). let m : Thread = record new { part = p } in m) part in
     let asked : Links = record links { registry = c.event.new.self } in
     let shared = c.in_ok-note.ensures.links
     ∙ ap (λ (n : Thread). let l : Links = record asked { entries = longer n.me links.entries (acts.Reg event answer) } in l) left
     ∙ ap (λ (r : Registered). let l : Links = record after { registry = r } in l) registry in
-    let is : IsAnswered event t links new after = record { answer = answer; given = given; thread = refl; links = refl } in
+    let is : IsAnswered event t links new after = record {
+      answer = answer;
+      given = given;
+      walk = walk;
+      begins = sym (ap (λ (x : Change). x.moves) changed);
+      thread = refl;
+      held = began.held ∙ ap (λ (n : Thread). held_after (begun walk) (here_in n.held.items)) c.in_ok-walk.ensures.thread;
+      outbox = began.outbox ∙ ap (λ (n : Thread). n.outbox.items ++ sent_off walk) c.in_ok-walk.ensures.thread;
+      links = refl;
+    } in
     record {
       acted = carried (Acted t links) new after _ _ thread shared (asked_acted t links new after event c.requires.built c.requires.asked is);
-      tickets = carried (λ n l. KeepsTickets t → KeepsTickets n) new after _ _ thread shared (answered_tickets t links event answer c.requires.built);
+      tickets = carried (λ n l. KeepsTickets t → KeepsTickets n) new after _ _ thread shared (answered_tickets t links new event answer refl refl);
       answered = carried (IsAnswered event t links) new after _ _ thread shared is;
     }

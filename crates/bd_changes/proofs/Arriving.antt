@@ -8,8 +8,7 @@ use Rattle.bd_machine.specs.declared.state.Kept.TheVariants as keeps
 use Rattle.bd_machine.specs.Messages.{arrived_walk}
 use Rattle.bd_machine.specs.View.{Closed, Going, Here, Move, id_of}
 use Rattle.bd_machine.specs.Walks.{is_at_end}
-use Rattle.bd_changes.specs.Begun.{stays, taken, token_moved}
-use Rattle.bd_play.specs.Words.{is_of_kind}
+use Rattle.bd_changes.specs.Begun.{is_of_kind, stays, taken, token_moved}
 
 either_way : (b : Bool) → cond b Closed Here ≡ cond (not b) Here Closed
 either_way true = refl

@@ -1,13 +1,13 @@
 use Rattle.std.proofs.Common.{◌<◌}
 use Rattle.bd_thread.specs.Acted.{Acted}
-use Rattle.bd_thread.specs.Drops.{NoDrop}
+use Rattle.bd_thread.specs.Duties.{NoDuty}
 use Rattle.bd_thread.specs.Requests.{KeepsTickets}
 use Rattle.bd_thread.specs.Waits.{Idles}
-use Rattle.bd_thread.proofs.thread.Thread.drop_all.Given as goal
+use Rattle.bd_thread.proofs.thread.Thread.discharge_all.Given as goal
 
 abbrev pub invariant-loop-round : goal.invariant-loop-round
 invariant-loop-round l = record {
   acted : Acted l.initial.self l.initial.links l.self l.links;
   tickets : KeepsTickets l.initial.self → KeepsTickets l.self;
-  quiet : Idles (λ t links. 0 < l._round → NoDrop t links) l.initial.self l.initial.links l.self l.links;
+  quiet : Idles (λ t links. 0 < l._round → NoDuty t links) l.initial.self l.initial.links l.self l.links;
 }

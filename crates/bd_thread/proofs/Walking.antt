@@ -1,0 +1,126 @@
+-- A visit of a walk, by the local rules.
+use Rattle.std.proofs.Common.{◌≡◌, ℕ, ◌+◌, Bool, true, false, cond, List, [], ◌∷◌, ◌++◌, length, Option, Some, None, is_none, refl, sym, ◌∙◌, ap, subst}
+use Rattle.bd_base.specs.declared.act.Act.{Act}
+use Rattle.bd_base.specs.declared.act.Act.TheVariants as acts
+use Rattle.bd_base.specs.declared.id.DevId.{DevId}
+use Rattle.bd_base.specs.declared.id.WalkId.{WalkId}
+use Rattle.bd_base.specs.declared.request.WalkKind.{WalkKind}
+use Rattle.bd_base.specs.declared.request.WalkKind.TheVariants as kinds
+use Rattle.bd_base.specs.declared.setup.Setup.{Setup}
+use Rattle.bd_machine.specs.declared.state.Id.{Id}
+use Rattle.bd_machine.specs.declared.state.Kept.{Kept}
+use Rattle.bd_machine.specs.declared.state.OpenWalk.{OpenWalk}
+use Rattle.bd_machine.specs.declared.state.Part.{Part}
+use Rattle.bd_machine.specs.declared.state.Registry.{Registry}
+use Rattle.bd_machine.specs.Alone.{held_after}
+use Rattle.bd_machine.specs.Kept.{walk_here}
+use Rattle.bd_machine.specs.Step.{first_failing}
+use Rattle.bd_machine.specs.View.{Change, Move, View}
+use Rattle.bd_machine.specs.Walks.{change_visit, guards_visit, marked_by, visited, walked, walked_if_any}
+use Rattle.bd_machine.proofs.Parts.{Core, visit_grows}
+use Rattle.bd_turns.specs.declared.queue.Message.{Message}
+use Rattle.bd_turns.specs.Local.{Local}
+use Rattle.bd_walks.specs.Walking.{with_channel}
+use Rattle.bd_links.specs.Entries.{longer}
+use Rattle.bd_links.specs.Queues.{queues_of}
+use Rattle.bd_links.specs.Tokens.{here_in}
+use Rattle.bd_links.proofs.Longer.{length-longer}
+use Rattle.bd_thread.specs.declared.links.Links.{Links}
+use Rattle.bd_thread.specs.declared.thread.Thread.{Thread}
+use Rattle.bd_thread.specs.Acted.{Acted}
+use Rattle.bd_thread.specs.Requests.{KeepsTickets}
+use Rattle.bd_thread.specs.Seen.{local, local_at, untaken, view_of}
+use Rattle.bd_thread.specs.Walking.{if_visited, may_visit, visit_change, visit_due, IsVisited}
+use Rattle.bd_thread.proofs.Going.{Hold, Steps, acted_step, local_eq, steps, still_shut}
+use Rattle.bd_thread.proofs.Tickets.{same_tickets}
+
+-- where no guard fails, each holds
+hold_all : (gs : List (ℕ × Bool)) → first_failing gs ≡ None → Hold gs
+hold_all [] h = tt
+hold_all (g ∷ gs) h = go g.1 refl h
+  where
+    go : (b : Bool) → g.1 ≡ b → cond b (first_failing gs) (Some g.0) ≡ None → Hold (g ∷ gs)
+    go true e k = (e, hold_all gs k)
+    go false e k = cc
+
+none_is : {X : Type 0} (o : Option X) → is_none o ≡ true → o ≡ None
+none_is None h = refl
+none_is (Some x) h = cc
+
+-- ---- the walk that may visit
+
+-- it is here, and no guard fails
+pub record MayBe (t : Thread) (links : Links) (walk : WalkId) (w : OpenWalk) : Type 0 where
+  pub here : walk_here (view_of t links) walk ≡ Some w
+  pub passes : first_failing (guards_visit t.setup.now t.me (view_of t links) walk w.dev w.kind) ≡ None
+
+pub visit_may : (t : Thread) (links : Links) (walk : WalkId) (w : OpenWalk) → visit_due t links walk ≡ Some w → MayBe t links walk w
+visit_may t links walk w due = go (walk_here (view_of t links) walk) refl due
+  where
+    go : (o : Option OpenWalk) → walk_here (view_of t links) walk ≡ o → if_visited t links walk o ≡ Some w → MayBe t links walk w
+    go None e k = cc
+    go (Some x) e k = may (may_visit t links walk x) refl k
+      where
+        may : (b : Bool) → may_visit t links walk x ≡ b → cond b (Some x) None ≡ Some w → MayBe t links walk w
+        may false m k = cc
+        may true m k =
+            let same : x ≡ w = cc in
+            record {
+              here = e ∙ ap Some same;
+              passes = none_is _ (subst (λ (y : OpenWalk). may_visit t links walk y ≡ true) same m);
+            }
+
+-- ---- what the visit changes
+
+-- of what the thread sees, the marks go by the part and by its channel of the device
+pub marked_as : (setup : Setup) (t : ℕ) (v : View) (dev : DevId) (kind : WalkKind) → marked_by setup t (with_channel v.part (v.channels dev)) dev kind ≡ marked_by setup t v dev kind
+marked_as setup t v dev kinds.Freeze = refl
+marked_as setup t v dev kinds.Drain = refl
+marked_as setup t v dev kinds.Thaw = refl
+marked_as setup t v dev kinds.Removal = refl
+
+-- the walk goes on from the marks
+pub change_is : (t : Thread) (links : Links) (walk : WalkId) (w : OpenWalk)
+    → walk_here (view_of t links) walk ≡ Some w
+    → visit_change t links walk w ≡ walked t.me walk (visited t.me w) (marked_by t.setup.now t.me (view_of t links) w.dev w.kind)
+change_is t links walk w here = ap (walked_if_any t.me walk (marked_by t.setup.now t.me (view_of t links) w.dev w.kind)) here
+
+-- ---- the visit
+
+visit_steps : (setup : Setup) (t : ℕ) (part : Part) (here here' : Id → Option Kept) (registry : Registry) (shut : Bool) (stamp : ℕ) (queues : ℕ → List Message) (walk : WalkId) (w : OpenWalk)
+    → first_failing (guards_visit setup t (local_at t part here registry shut stamp queues).view walk w.dev w.kind) ≡ None
+    → here' ≡ held_after (change_visit setup t (local_at t part here registry shut stamp queues).view walk w.dev w.kind).moves here
+    → Steps setup t (local_at t part here registry shut stamp queues) (acts.Visit walk w.dev w.kind)
+    (local_at t (untaken (change_visit setup t (local_at t part here registry shut stamp queues).view walk w.dev w.kind).part) here' registry shut (stamp + 1) queues)
+visit_steps setup t part here here' registry shut stamp queues walk w passes held =
+    let l : Local = local_at t part here registry shut stamp queues in
+    let l' : Local = local_at t (untaken (change_visit setup t l.view walk w.dev w.kind).part) here' registry shut (stamp + 1) queues in
+    steps setup t l l' (acts.Visit walk w.dev w.kind) refl refl
+    (hold_all (guards_visit setup t l.view walk w.dev w.kind) passes)
+    (local_eq _ l' refl (sym held) refl refl refl (still_shut shut) refl refl)
+
+-- the thread that was visited goes on
+pub visited_acted : (t : Thread) (before : Links) (new : Thread) (after : Links) (walk : WalkId) (w : OpenWalk)
+    → visit_due t before walk ≡ Some w
+    → IsVisited walk w t before new after
+    → Acted t before new after
+visited_acted t before new after walk w due is =
+    let may = visit_may t before walk w due in
+    let act : Act = acts.Visit walk w.dev w.kind in
+    let p : Thread = record t { part = untaken (visit_change t before walk w).part; held = new.held; outbox = new.outbox } in
+    let q : Links = record before { entries = longer t.me before.entries act } in
+    let queues = queues_of before.queues.items in
+    let stepped = visit_steps t.setup.now t.me t.part (here_in t.held.items) (here_in new.held.items) before.registry.state before.shut (length before.entries) queues walk w may.passes is.held in
+    let ends : local_at t.me p.part (here_in new.held.items) before.registry.state before.shut (length before.entries + 1) queues ≡ local p q =
+    ap (λ (n : ℕ). local_at t.me p.part (here_in new.held.items) before.registry.state before.shut n queues) (sym (length-longer t.me before.entries act)) in
+    subst (λ (n : Thread). Acted t before n after) (sym is.thread)
+    (subst (λ (l : Links). Acted t before p l) (sym is.links)
+    (acted_step t before p q act refl refl refl refl refl (subst (Steps t.setup.now t.me (local t before) act) ends stepped)))
+
+-- its open requests and their tickets stay
+pub visited_tickets : (t : Thread) (before : Links) (new : Thread) (after : Links) (walk : WalkId) (w : OpenWalk) → IsVisited walk w t before new after → KeepsTickets t → KeepsTickets new
+visited_tickets t before new after walk w is keeps =
+    let rest = (visit_grows t.setup.now t.me (view_of t before) walk w.dev w.kind).rest in
+    same_tickets t new (ap (λ (n : Thread). n.purse.ids) is.thread)
+    (ap (λ (n : Thread). n.part.requests) is.thread ∙ ap (λ (c : Core). c.requests) rest)
+    (ap (λ (n : Thread). n.part.next_request) is.thread ∙ ap (λ (c : Core). c.next_request) rest) keeps

@@ -1,0 +1,104 @@
+//! Walks over the threads: those that begin here, and those that visit this thread.
+ghost use Rattle.std.specs.Prelude.{◌≡◌, ◌++◌, IfOk, OnOk};
+ghost use Rattle.bd_thread.specs.Acted.{Acted};
+ghost use Rattle.bd_thread.specs.Requests.{KeepsTickets};
+ghost use Rattle.bd_thread.specs.Walking.{bound_for, goes_on, visit_due, Begins, Visits};
+
+use crate::links::Links;
+use crate::thread::Thread;
+use bd_base::{Act, OutOfMemory, Token, WalkId};
+use bd_blocks::{first_of, is_nobody};
+use bd_changes::walk_on;
+use bd_links::{hold_begun, hold_walk};
+use bd_machine::OpenWalk;
+use bd_rules::walk_here;
+use bd_view::Sees;
+use bd_walks::{mark, refused_visit, visited};
+use std::collections::VecDeque;
+
+// A walk is to be put to the least thread left, or back to the one that began it.
+fn send_off(
+    outbox: &mut VecDeque<(u32, Token)>,
+    id: WalkId,
+    walk: OpenWalk,
+) -> Result<(), OutOfMemory>
+    ensures { OnOk result (outbox.new.items ≡ outbox.old.items ++ bound_for id walk) }
+{
+    let to = match first_of(walk.left) {
+        Some(first) => first,
+        None => id.thread,
+    };
+    outbox.push_back((to, Token::Walk(id)))?;
+    Ok(())
+}
+
+// A walk that goes on is to be put; one that ends isn't.
+fn send_on(
+    outbox: &mut VecDeque<(u32, Token)>,
+    me: u32,
+    id: WalkId,
+    walk: OpenWalk,
+) -> Result<(), OutOfMemory>
+    ensures { OnOk result (outbox.new.items ≡ outbox.old.items ++ goes_on me id walk) }
+{
+    if is_nobody(walk.left) && id.thread == me {
+        Ok(())
+    } else {
+        send_off(outbox, id, walk)
+    }
+}
+
+impl<'a> Thread<'a> {
+    /// A walk that begins is here, and to be put to the first thread that it visits.
+    pub(crate) fn begin(&mut self, walk: Option<(WalkId, OpenWalk)>) -> Result<(), OutOfMemory>
+        ensures { OnOk result (Begins walk self.old self.new) }
+    {
+        hold_begun(&mut self.held, walk)?;
+        match walk {
+            Some((id, walk)) => send_off(&mut self.outbox, id, walk),
+            None => Ok(()),
+        }
+    }
+
+    // The walk, where it is here and the rules let it visit this thread.
+    fn visit_due(&self, links: &Links, id: WalkId) -> Option<OpenWalk>
+        ensures { result ≡ visit_due self.now links.now id }
+    {
+        let seen = self.seen(links);
+        let walk = walk_here(&seen, id)?;
+        match refused_visit(&seen, self.setup, self.me, id, walk.dev, walk.kind) {
+            None => Some(walk),
+            Some(_) => None,
+        }
+    }
+
+    /// A walk that is here visits this thread, where that is the next one it visits and, for a drain, no
+    /// request stands against it: true, the marks of its device are set or taken, and it ends, or is to be
+    /// put to where it goes next. Else nothing changes.
+    pub(crate) fn visit(&mut self, links: &mut Links, id: WalkId) -> Result<bool, OutOfMemory>
+        ensures acted { OnOk result (Acted self.old links.old self.new links.new) }
+        ensures tickets { OnOk result (KeepsTickets self.old → KeepsTickets self.new) }
+        ensures visits { IfOk result (Visits id self.old links.old self.new links.new) }
+    {
+        let Some(walk) = self.visit_due(links, id) else {
+            return Ok(false);
+        };
+        let OpenWalk { dev, kind, .. } = walk;
+        let channel = self.seen(links).channels(dev);
+        let after = visited(self.me, walk);
+        mark(&mut self.part, self.setup, self.me, channel, dev, kind)?;
+        let next = walk_on(&mut self.part, self.me, id, after)?;
+        hold_walk(&mut self.held, self.me, id, after)?;
+        self.begin(next)?;
+        send_on(&mut self.outbox, self.me, id, after)?;
+        self.note(
+            links,
+            Act::Visit {
+                walk: id,
+                dev,
+                kind,
+            },
+        )?;
+        Ok(true)
+    }
+}
