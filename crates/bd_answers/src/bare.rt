@@ -1,13 +1,11 @@
 //! What stands against a destruction: open handles and channels.
 ghost use Rattle.std.specs.Prelude.{◌≡◌, ◌==◌, filter, length, not, IfOk};
-ghost use Rattle.std.specs.List.{list_all};
-ghost use Rattle.bd_machine.specs.Registry.{freed_by_close, handles_on, if_so, is_bare, is_free, is_out_of_use, is_own, is_removing_standing, other_threads_of, standing_of, threads_of};
-ghost use Rattle.bd_machine.specs.Users.{is_base_handle};
+ghost use Rattle.bd_machine.specs.Registry.{freed_by_close, handles_on, if_so, is_bare, is_free, is_own, is_removing_standing, other_threads_of, standing_of, threads_of};
 ghost use Rattle.bd_machine.specs.Threads.{is_nobody};
 
 use crate::standing::standing_of;
 use bd_base::{DevId, HandleId, OutOfMemory, Setup, ThreadSet};
-use bd_blocks::{is_base_handle, with_thread};
+use bd_blocks::with_thread;
 use bd_machine::Standing;
 use bd_view::Records;
 
@@ -111,28 +109,6 @@ pub fn is_free<R: Records>(setup: &Setup, registry: &R, dev: DevId) -> bool
 {
     is_removing(registry, dev)
         && has_no_handle(registry, dev)
-        && has_no_channel(setup, registry, dev)
-}
-
-// Whether no handle of the device is open but base handles.
-fn has_base_handles_alone<R: Records>(setup: &Setup, registry: &R, dev: DevId) -> bool
-    ensures { result ≡ list_all (λ h. is_base_handle setup.now h.id) (handles_on (R.registry_of registry.now) dev) }
-{
-    for h in registry.handles_of(dev) {
-        if h.dev.0 == dev.0 && !is_base_handle(setup, h.id) {
-            return false;
-        }
-    }
-    true
-}
-
-/// Whether the device is out of use: it has neither a channel nor a handle but base handles, and no
-/// thread is between an open and its channel, or between a put and its close.
-pub fn is_out_of_use<R: Records>(setup: &Setup, registry: &R, dev: DevId) -> bool
-    ensures { result ≡ is_out_of_use setup.now (R.registry_of registry.now) dev }
-{
-    registry.between().is_none()
-        && has_base_handles_alone(setup, registry, dev)
         && has_no_channel(setup, registry, dev)
 }
 

@@ -9,6 +9,6 @@ mod handles;
 mod standing;
 
 pub use answer::{answer_by, answer_to};
-pub use bare::{is_free, is_out_of_use, threads_of};
+pub use bare::{is_free, threads_of};
 pub use channels::made;
 pub use standing::is_live;

@@ -15,7 +15,7 @@ use bd_base::{DevId, HandleId, Name, RegEvent, ReqId, Setup};
 use bd_blocks::{device_named, is_base_handle};
 use bd_machine::{Between, Open, Owed, Part, Stage};
 use bd_rules::{asks_injection, is_gone, is_reset, reset_of};
-use bd_view::{AS_YET, Sees, same_owed, same_request, same_stage};
+use bd_view::{Sees, same_owed, same_request, same_stage};
 
 /// Whether the thread still has to do this once.
 pub fn owes_it(part: &Part, owed: Owed) -> bool
@@ -33,7 +33,7 @@ fn is_closable<S: Sees>(seen: &S, setup: &Setup, id: HandleId) -> bool
 }
 
 /// Whether a thread may close a script's handle: it has no open requests, and the next line closes it
-/// or its remove event was taken; as yet also after the Shutdown.
+/// or its remove event was taken.
 pub fn may_close<S: Sees>(seen: &S, setup: &Setup, thread: u32, shut: bool, id: HandleId) -> bool
     ensures { result ≡ may_close setup.now thread (S.view_of seen.now) (came_shut shut) id }
 {
@@ -41,7 +41,7 @@ pub fn may_close<S: Sees>(seen: &S, setup: &Setup, thread: u32, shut: bool, id: 
         return false;
     }
     let part = seen.part();
-    is_gone(part, id) || (AS_YET && shut) || closes(part, id, job_now(seen, setup, thread, shut))
+    is_gone(part, id) || closes(part, id, job_now(seen, setup, thread, shut))
 }
 
 // Whether a thread may close some handle of the device so.

@@ -26,4 +26,4 @@ pub use notices::take_notice;
 pub use registry::{between_after, change_handles, register};
 pub use requests::{accepted, completed, remove_open};
 pub use resets::{advance, freeze, stage};
-pub use walks::{Plan, begin_walk, end_walk, walk_on};
+pub use walks::{Plan, begin_walk, end_walk, is_at_end, walk_on};

@@ -2,7 +2,7 @@
 ghost use Rattle.std.specs.Prelude.{◌≡◌, ◌++◌, IfOk, OnOk};
 ghost use Rattle.bd_base.specs.declared.request.WalkKind.TheVariants.{Freeze};
 ghost use Rattle.bd_machine.specs.Events.{alone};
-ghost use Rattle.bd_machine.specs.Walks.{after_walk, begin_walk, drain_threads, numbered, over_nobody, walked};
+ghost use Rattle.bd_machine.specs.Walks.{after_walk, begin_walk, drain_threads, is_at_end, numbered, over_nobody, walked};
 ghost use Rattle.bd_changes.specs.Begun.{begun, walk_moved, with_walk};
 
 use crate::resets::stage;
@@ -137,6 +137,13 @@ pub fn end_walk(
     Ok(None)
 }
 
+/// Whether a walk that is on the thread ends there: no thread is left, and this one began it.
+pub fn is_at_end(thread: u32, id: WalkId, walk: OpenWalk) -> bool
+    ensures { result ≡ is_at_end thread id walk }
+{
+    is_nobody(walk.left) && id.thread == thread
+}
+
 /// A walk is on the thread: it ends where no thread is left and this one began it, and may be followed
 /// by another; else it stays. Out of memory leaves the part unspecified.
 pub fn walk_on(
@@ -148,7 +155,7 @@ pub fn walk_on(
     ensures part { OnOk result (part.new ≡ (walked thread id walk part.old).part) }
     ensures moves { IfOk result (λ next. (walked thread id walk part.old).moves ≡ walk_moved thread id walk ++ begun next) }
 {
-    if is_nobody(walk.left) && id.thread == thread {
+    if is_at_end(thread, id, walk) {
         end_walk(part, thread, walk)
     } else {
         Ok(None)

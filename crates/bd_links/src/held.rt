@@ -6,8 +6,7 @@ ghost use Rattle.bd_machine.specs.Same.{same_id};
 ghost use Rattle.bd_links.specs.Tokens.{here_in, left_of, Sets};
 
 use bd_base::{OutOfMemory, Token, WalkId};
-use bd_blocks::is_nobody;
-use bd_changes::{stays, taken};
+use bd_changes::{is_at_end, stays, taken};
 use bd_machine::{Id, Kept, OpenWalk};
 use bd_view::same_id;
 
@@ -79,7 +78,7 @@ pub fn hold_begun(
     }
 }
 
-/// A walk that is on the thread is held on, or ends: where no thread is left, and this one began it.
+/// A walk that is on the thread is held on, or ends.
 pub fn hold_walk(
     tokens: &mut Vec<(Id, Kept)>,
     thread: u32,
@@ -88,7 +87,7 @@ pub fn hold_walk(
 ) -> Result<(), OutOfMemory>
     ensures { OnOk result (here_in tokens.new.items ≡ held_after (walk_moved thread id walk) (here_in tokens.old.items)) }
 {
-    if is_nobody(walk.left) && id.thread == thread {
+    if is_at_end(thread, id, walk) {
         let_go(tokens, Id::Walk(id));
         Ok(())
     } else {

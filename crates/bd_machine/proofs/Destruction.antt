@@ -20,7 +20,6 @@ use Rattle.bd_machine.specs.declared.state.ResetState.TheVariants as resets
 use Rattle.bd_machine.specs.declared.state.Standing.TheVariants as standings
 use Rattle.bd_machine.specs.declared.state.State.{State}
 use Rattle.bd_machine.specs.Aborts.{is_below}
-use Rattle.bd_machine.specs.AsYet.{as_yet}
 use Rattle.bd_machine.specs.Admission.{refusal_on, is_gone, is_on_removed, is_removed_handle}
 use Rattle.bd_machine.specs.Asked.{asks_submission}
 use Rattle.bd_machine.specs.Marks.{is_removed, is_removed_below}
@@ -31,7 +30,7 @@ use Rattle.bd_machine.specs.Claims.{open_refusal}
 use Rattle.bd_machine.specs.Destruction.{is_removing_of, is_accept_over, AcceptedWhereUnmarked, reaches, DestructedAtMostOnce, DestructedWhereFree, RemovedIsOutOfReach}
 use Rattle.bd_machine.specs.Homes.{is_home, has_destructed, is_called_for, is_told}
 use Rattle.bd_machine.specs.Laws.{is_destruct_of, count_of, one_if}
-use Rattle.bd_machine.specs.Registry.{Question, is_live, is_live_standing, standing_if_any, is_free, is_out_of_use, are_live, open_answer, device_named, refused_or, holders_on, references, is_born_frozen, made, handle_of}
+use Rattle.bd_machine.specs.Registry.{Question, is_live, is_live_standing, standing_if_any, is_free, are_live, open_answer, device_named, refused_or, holders_on, references, is_born_frozen, made, handle_of}
 use Rattle.bd_machine.specs.Requests.{is_device_of}
 use Rattle.bd_machine.specs.Run.{IsRunFrom, after_all, state_after}
 use Rattle.bd_machine.specs.Same.{same_dev, same_answer}
@@ -59,22 +58,15 @@ destructed_at_most_once setup told es run dev =
     most : (c b a : ℕ) → c + b ≡ a → a ≤ 1 → c ≤ 1
     most c b a p q = omega arith
 
--- ---- where free, or out of use after a Shutdown
+-- ---- where free
 
-free_or : (told free yet shut unused : Bool) → ((told && free) || (yet && shut && unused)) ≡ true → (free || (shut && unused)) ≡ true
-free_or told true yet shut unused h = refl
-free_or true false true shut unused h = h
-free_or true false false shut unused h = cc
-free_or false false true shut unused h = h
-free_or false false false shut unused h = cc
-
-called_by : (setup : Setup) (s : State) (t : ℕ) (act : Act) (dev : DevId) → Passes (guards_in setup s t act) → is_destruct_of dev act ≡ true → (is_free setup s.registry dev || (s.shut && is_out_of_use setup s.registry dev)) ≡ true
+called_by : (setup : Setup) (s : State) (t : ℕ) (act : Act) (dev : DevId) → Passes (guards_in setup s t act) → is_destruct_of dev act ≡ true → is_free setup s.registry dev ≡ true
 called_by setup s t (acts.Destruct d digest) dev h e =
     let ok = passed (guards_in setup s t (acts.Destruct d digest)) h in
     let v : View = view s t in
     let came : Came = came_for setup s t (acts.Destruct d digest) in
     let called = (and_parts (is_home setup t d) (is_called_for v came d) (and_parts (is_home setup t d && is_called_for v came d) (not (has_destructed v d)) ok.0).0).1 in
-    subst (λ (x : DevId). (is_free setup s.registry x || (s.shut && is_out_of_use setup s.registry x)) ≡ true) (sym (dev_exact dev d e)) (free_or (is_told v d) (is_free setup s.registry d) as_yet s.shut (is_out_of_use setup s.registry d) called)
+    subst (λ (x : DevId). is_free setup s.registry x ≡ true) (sym (dev_exact dev d e)) (and_parts (is_told v d) (is_free setup s.registry d) called).1
 called_by setup s t _ dev h e = cc
 
 pub destructed_where_free : DestructedWhereFree

@@ -1,5 +1,5 @@
--- A trace of the first path with channels and removals, computed: no entry breaks a rule, and it ends complete.
-use Rattle.std.proofs.Common.{◌≡◌, true, List, [], ◌∷◌, Some, None, refl, codes}
+-- A trace of the first path with channels and removals, computed: it is a complete run from its start; and entries that are refused first of all, since they aren't built or out of order.
+use Rattle.std.proofs.Common.{◌≡◌, ℕ, true, List, [], ◌∷◌, take, Option, Some, None, refl, codes}
 use Rattle.bd_base.specs.declared.act.Act.TheVariants as acts
 use Rattle.bd_base.specs.declared.act.ApplyEnd.TheVariants as ends
 use Rattle.bd_base.specs.declared.act.Entry.{Entry}
@@ -15,10 +15,12 @@ use Rattle.bd_base.specs.declared.request.Op.TheVariants as ops
 use Rattle.bd_base.specs.declared.request.Status.TheVariants as statuses
 use Rattle.bd_base.specs.declared.setup.Setup.{Setup}
 use Rattle.sha2.specs.Sha256.{sha256, digest_bytes, hash_after, compress, rounds, schedule, first_words}
-use Rattle.bd_machine.specs.Run.{after_all, is_finished}
+use Rattle.bd_machine.specs.declared.state.State.{State}
+use Rattle.bd_machine.specs.Laws.{SomeRunIsComplete}
+use Rattle.bd_machine.specs.Run.{IsRunFrom, after_all, is_finished, refused_in, refused_or}
 use Rattle.bd_machine.specs.Start.{start}
-use Rattle.bd_machine.specs.Step.{after}
-use Rattle.bd_machine.proofs.Words.{at, line, script, dev, handle, threads, req, write, refusal_in}
+use Rattle.bd_machine.specs.Step.{after, refusal}
+use Rattle.bd_machine.proofs.Words.{at, line, script, dev, handle, threads, req, write}
 
 -- ---- one thread writes a block and reads it back
 
@@ -85,10 +87,45 @@ first_path =
     at 35 0 (acts.Reg (events.Destructed (dev 0)) (answers.Freed None)) ∷
     []
 
-pub first_path_runs : refusal_in first_path_setup (start first_path_setup []) 0 first_path ≡ None
+first_path_runs : refused_in first_path_setup (start first_path_setup []) first_path ≡ None
 unfolding after sha256 digest_bytes hash_after compress rounds schedule first_words
 first_path_runs = refl
 
 first_path_is_complete : is_finished first_path_setup (after_all first_path_setup (start first_path_setup []) first_path) ≡ true
 unfolding after
 first_path_is_complete = refl
+
+run_if : (setup : Setup) (s : State) (es : List Entry) → refused_in setup s es ≡ None → IsRunFrom setup s es
+run_if setup s [] h = tt
+run_if setup s (e ∷ es) h = go (refusal setup s e) refl h (run_if setup (after setup s e) es)
+  where
+    go : (o : Option ℕ) → refusal setup s e ≡ o → refused_or o (refused_in setup (after setup s e) es) ≡ None → (refused_in setup (after setup s e) es ≡ None → IsRunFrom setup (after setup s e) es) → IsRunFrom setup s (e ∷ es)
+    go None q h rest = (q, rest h)
+    go (Some n) q h rest = cc
+
+pub some_run_is_complete : SomeRunIsComplete
+some_run_is_complete = (first_path_setup, ([], (first_path, (req 0 0, ((run_if first_path_setup (start first_path_setup []) first_path first_path_runs, first_path_is_complete), refl)))))
+
+-- ---- refused first of all
+
+abbrev after_first : ℕ → State
+after_first n = after_all first_path_setup (start first_path_setup []) (take n first_path)
+
+-- not built as yet: a request that is kept without an answer, a reset
+not_built : (refusal first_path_setup (after_first 0) (at 100 0 (acts.Pend (req 0 0))) ≡ Some 0)
+    × (refusal first_path_setup (after_first 3) (at 100 0 (acts.Accept (req 0 0) (dev 0) (handle 0) ops.Reset 0 0)) ≡ Some 0)
+unfolding after
+not_built = (refl, refl)
+
+-- an unknown thread, no stamp, a stamp that doesn't rise
+out_of_order : (refusal first_path_setup (after_first 0) (at 1 1 acts.Shutdown) ≡ Some 1)
+    × (refusal first_path_setup (after_first 0) (at 0 0 acts.Shutdown) ≡ Some 1)
+    × (refusal first_path_setup (after_first 2) (at 2 0 acts.Shutdown) ≡ Some 1)
+unfolding after
+out_of_order = (refl, refl, refl)
+
+-- after the Shutdown: no open handle is closed without its remove event, and no device is destructed that nobody named
+too_early : (refusal first_path_setup (after_first 30) (at 100 0 (acts.Destruct (dev 0) None)) ≡ Some 31)
+    × (refusal first_path_setup (after_first 31) (at 100 0 (acts.Destruct (dev 0) None)) ≡ Some 31)
+unfolding after
+too_early = (refl, refl)

@@ -34,7 +34,6 @@ use Rattle.bd_machine.specs.declared.state.Stage.{Stage}
 use Rattle.bd_machine.specs.declared.state.Stage.TheVariants as stages
 use Rattle.bd_machine.specs.declared.state.Submitted.{Submitted}
 use Rattle.bd_machine.specs.Admission.{is_gone}
-use Rattle.bd_machine.specs.AsYet.{as_yet}
 use Rattle.bd_machine.specs.Claims.{same_kind}
 use Rattle.bd_machine.specs.Injections.{asks_injection}
 use Rattle.bd_machine.specs.Kept.{request_here}
@@ -145,11 +144,11 @@ job_now setup t v came = cond came.shut None (undecided_job setup t v.part)
 abbrev pub owes_it : Part → Owed → Bool
 owes_it part owed = list_any (same_owed owed) part.owed
 
--- a script's handle without open requests is closed by the next line, or where its remove event was taken; as yet also after the Shutdown
+-- a script's handle without open requests is closed by the next line, or where its remove event was taken
 abbrev pub may_close : Setup → ℕ → View → Came → HandleId → Bool
 may_close setup t v came id =
     not (is_base_handle setup id) && is_some (handle_of v.handles id) && (open_on v.part id == 0)
-    && (is_gone v.part id || (as_yet && came.shut) || is_job_close v.part id (job_now setup t v came))
+    && (is_gone v.part id || is_job_close v.part id (job_now setup t v came))
 
 -- some handle of the device is closed so
 abbrev pub may_close_on : Setup → ℕ → View → Came → DevId → Bool

@@ -1,5 +1,5 @@
 -- What holds of a device that is being removed, and of one that is destructed.
-use Rattle.std.specs.Prelude.{◌≡◌, ◌<◌, ◌≤◌, Bool, true, false, ◌&&◌, ◌||◌, List, [], ◌∷◌, ◌++◌, Option, None}
+use Rattle.std.specs.Prelude.{◌≡◌, ◌<◌, ◌≤◌, Bool, true, false, List, [], ◌∷◌, ◌++◌, Option, None}
 use Rattle.std.specs.List.{AllByRecursion}
 use Rattle.bd_base.specs.declared.act.Act.{Act}
 use Rattle.bd_base.specs.declared.act.Act.TheVariants as acts
@@ -13,7 +13,7 @@ use Rattle.bd_machine.specs.Aborts.{is_below}
 use Rattle.bd_machine.specs.Content.{Told}
 use Rattle.bd_machine.specs.Laws.{is_destruct_of, count_of}
 use Rattle.bd_machine.specs.Marks.{is_removed}
-use Rattle.bd_machine.specs.Registry.{is_free, is_out_of_use, is_unused}
+use Rattle.bd_machine.specs.Registry.{is_free}
 use Rattle.bd_machine.specs.Run.{IsRun, state_after}
 use Rattle.bd_machine.specs.Same.{same_dev, is_the}
 use Rattle.bd_machine.specs.Step.{IsAllowed, after}
@@ -53,10 +53,10 @@ is_accept_over setup dev _ = false
 abbrev pub DestructedAtMostOnce : Type 0
 DestructedAtMostOnce = (setup : Setup) (told : Told) (es : List Entry) → IsRun setup told es → (dev : DevId) → count_of (is_destruct_of dev) es ≤ 1
 
--- what is destructed is being removed, with neither handle nor channel; or, as yet, Shutdown came, and it has neither a channel nor a handle but base handles, and no thread is about to get one
+-- what is destructed is being removed, with neither handle nor channel
 abbrev pub DestructedWhereFree : Type 0
 DestructedWhereFree = (setup : Setup) (s : State) (e : Entry)
-    → IsAllowed setup s e → (dev : DevId) → is_destruct_of dev e.act ≡ true → (is_free setup s.registry dev || (s.shut && is_out_of_use setup s.registry dev)) ≡ true
+    → IsAllowed setup s e → (dev : DevId) → is_destruct_of dev e.act ≡ true → is_free setup s.registry dev ≡ true
 
 -- once its removal began, no open and no get over the device is answered but by a refusal
 abbrev pub RemovedIsOutOfReach : Type 0
@@ -78,9 +78,9 @@ abbrev pub AcceptedWhereUnmarked : Type 0
 AcceptedWhereUnmarked = (setup : Setup) (s : State) (e : Entry)
     → IsAllowed setup s e → (dev : DevId) → is_accept_over setup dev e.act ≡ true → is_removed (part_of s e.thread) dev ≡ false
 
--- at a destruct the device has neither a channel nor a handle but base handles; afterwards no open and no get over the device is answered but by a refusal
+-- at a destruct no handle of the device is open, and no thread has a channel of it; afterwards no open and no get over the device is answered but by a refusal
 pub record IsAfterLastClose (setup : Setup) (told : Told) (dev : DevId) (before later : List Entry) : Type 0 where
-  pub unused : is_unused setup (state_after setup told before).registry dev ≡ true
+  pub free : is_free setup (state_after setup told before).registry dev ≡ true
   pub out_of_reach : AllByRecursion (λ e. reaches setup dev e.act ≡ false) later
 
 -- a device is destructed after its last close and put

@@ -31,7 +31,7 @@ use Rattle.bd_machine.specs.Injecting.{decision_for}
 use Rattle.bd_machine.specs.Same.{same_handle, same_dev, same_channel}
 use Rattle.bd_machine.specs.Table.{look_up}
 use Rattle.bd_machine.specs.Threads.{is_nobody, those}
-use Rattle.bd_machine.specs.Users.{base_handle, users, is_base_handle}
+use Rattle.bd_machine.specs.Users.{base_handle, users}
 
 -- an event with its answer
 pub record Question : Type 0 where
@@ -115,14 +115,6 @@ is_bare registry dev handles threads = is_removing_standing (standing_of registr
 -- the device may be destructed
 abbrev pub is_free : Setup → Registry → DevId → Bool
 is_free setup registry dev = is_bare registry dev (handles_on registry dev) (threads_of setup registry dev)
-
--- no handle of it is open but base handles, and no thread has a channel of it
-abbrev pub is_unused : Setup → Registry → DevId → Bool
-is_unused setup registry dev = list_all (λ h. is_base_handle setup h.id) (handles_on registry dev) && is_nobody (threads_of setup registry dev)
-
--- it is unused, and no thread is between an open and its channel
-abbrev pub is_out_of_use : Setup → Registry → DevId → Bool
-is_out_of_use setup registry dev = is_none registry.between && is_unused setup registry dev
 
 abbrev pub if_so : Bool → DevId → Option DevId
 if_so b dev = cond b (Some dev) None

@@ -17,7 +17,7 @@ use Rattle.bd_machine.specs.declared.state.Between.{Between}
 use Rattle.bd_machine.specs.declared.state.Handle.{Handle}
 use Rattle.bd_machine.specs.declared.state.Part.{Part}
 use Rattle.bd_machine.specs.declared.state.State.{State}
-use Rattle.bd_machine.specs.Registry.{Question, answer_to, is_free, is_out_of_use, references}
+use Rattle.bd_machine.specs.Registry.{Question, answer_to, is_free, references}
 use Rattle.bd_machine.specs.Same.{same_id}
 use Rattle.bd_machine.specs.Table.{look_up}
 
@@ -31,14 +31,13 @@ pub record View : Type 0 where
 
 -- message: what is kept of the token of the message taken
 -- answer: the registry's to the event; between: where the act asks the registry, what has to follow there
--- free: the device that the act destructs is being removed, with neither handle nor channel; unused: it has neither a channel nor a handle but base handles, and no thread is about to get one
+-- free: the device that the act destructs is being removed, with neither handle nor channel
 -- shut: Shutdown came
 pub record Came : Type 0 where
   pub message : Option Kept
   pub answer : Option Answer
   pub between : Option Between
   pub free : Bool
-  pub unused : Bool
   pub shut : Bool
 
 -- where a token goes: it stays or comes here, it goes to a thread as the message of this number, or it is closed
@@ -152,10 +151,6 @@ abbrev pub is_free_if_any : Setup → State → Option DevId → Bool
 is_free_if_any setup s None = false
 is_free_if_any setup s (Some dev) = is_free setup s.registry dev
 
-abbrev pub is_unused_if_any : Setup → State → Option DevId → Bool
-is_unused_if_any setup s None = false
-is_unused_if_any setup s (Some dev) = is_out_of_use setup s.registry dev
-
 abbrev pub answer_for : Setup → State → ℕ → Question → Answer
 answer_for setup s t q = answer_to setup s.registry t q.event
 
@@ -165,6 +160,5 @@ came_for setup s t act = record {
   answer = option_map (answer_for setup s t) (asked act);
   between = option_and_then (λ q. s.registry.between) (asked act);
   free = is_free_if_any setup s (destructed_by act);
-  unused = is_unused_if_any setup s (destructed_by act);
   shut = s.shut;
 }

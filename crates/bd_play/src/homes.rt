@@ -6,14 +6,14 @@ ghost use Rattle.bd_machine.specs.Table.{change_first};
 ghost use Rattle.bd_play.specs.Words.{changed, made_by, refused, seen};
 
 use crate::side::Side;
-use bd_answers::{is_free, is_out_of_use};
+use bd_answers::is_free;
 use bd_base::{ApplyEnd, DevId, OutOfMemory, Rows};
 use bd_blocks::{base_place, copy_of_piece, serve, size_of};
 use bd_changes::destructed;
 use bd_copies::Duplicate;
 use bd_machine::guard::{CONTENT_DIGEST, END_ALLOWED, HEAD_OF_QUEUE, MAY_DESTRUCT, QUEUE_FULL};
 use bd_machine::{Base, Id, Kept, Place, Progress, State, Tracked};
-use bd_rules::{Release, is_digest_due, may_apply, may_destruct, may_end, may_refuse, piece_here};
+use bd_rules::{is_digest_due, may_apply, may_destruct, may_end, may_refuse, piece_here};
 use bd_state::put_in;
 use bd_view::PieceId;
 use std::alloc::Global;
@@ -128,12 +128,8 @@ pub fn refused_destruct(side: &Side, dev: DevId, digest: &Option<[u8; 32]>) -> O
     ensures { result ≡ refused side.now (acts.Destruct dev digest.now) }
 {
     let registry = &side.state.registry;
-    let came = Release {
-        free: is_free(side.setup, registry, dev),
-        unused: is_out_of_use(side.setup, registry, dev),
-        shut: side.state.shut,
-    };
-    if !may_destruct(side, side.setup, side.thread, came, dev) {
+    let free = is_free(side.setup, registry, dev);
+    if !may_destruct(side, side.setup, side.thread, free, dev) {
         return Some(MAY_DESTRUCT);
     }
     if is_digest_due(side, side.setup, dev, digest) {

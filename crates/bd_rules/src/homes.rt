@@ -14,16 +14,6 @@ use bd_blocks::{depth_of, find_base, home, is_aio, is_home};
 use bd_machine::{Base, OpenPiece, Owed};
 use bd_view::{AS_YET, PieceId, Sees, same_owed, same_request};
 
-/// What a destruct goes by that its thread doesn't see: `free`, the device is being removed, with
-/// neither handle nor channel; `unused`, it has neither a channel nor a handle but base handles, and no
-/// thread is about to get one; `shut`, it is after the Shutdown.
-#[derive(Clone, Copy, Debug, PartialEq, Eq)]
-pub struct Release {
-    pub free: bool,
-    pub unused: bool,
-    pub shut: bool,
-}
-
 /// A base device whose home the thread is.
 pub fn base_here<S: Sees>(seen: &S, dev: DevId) -> Option<&Base>
     ensures { option_copied result ≡ base_here (S.view_of seen.now) dev }
@@ -152,22 +142,21 @@ pub fn is_told<S: Sees>(seen: &S, dev: DevId) -> bool
         .any(|owed| same_owed(due, *owed))
 }
 
-/// Whether the thread may destruct a device: it is the device's home, it wasn't destructed, and the
-/// thread was told to and the device is free; or, as yet, it is after the Shutdown and the device out
-/// of use.
+/// Whether the thread may destruct a device: it is the device's home, it was told to and didn't yet,
+/// and the device is free (it is being removed, with neither handle nor channel), which the thread
+/// doesn't see.
 pub fn may_destruct<S: Sees>(
     seen: &S,
     setup: &Setup,
     thread: u32,
-    came: Release,
+    free: bool,
     dev: DevId,
 ) -> bool
-    ensures { result ≡ may_destruct setup.now thread (S.view_of seen.now) (came_free came.free came.unused came.shut) dev }
+    ensures { result ≡ may_destruct setup.now thread (S.view_of seen.now) (came_free free) dev }
 {
-    let is_free = is_told(seen, dev) && came.free;
-    let is_left = AS_YET && came.shut && came.unused;
+    let is_called_for = is_told(seen, dev) && free;
     let is_new = !has_destructed(seen.part().destructed.as_slice(), dev);
-    is_home(setup, thread, dev) && (is_free || is_left) && is_new
+    is_home(setup, thread, dev) && is_called_for && is_new
 }
 
 /// Whether this digest is due at the end of a device: that of its blocks for malloc, else none.

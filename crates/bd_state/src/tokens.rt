@@ -8,7 +8,7 @@ ghost use Rattle.bd_machine.specs.Walks.{is_at_end};
 ghost use Rattle.bd_machine.specs.Table.{write};
 
 use bd_base::{OutOfMemory, Rows, WalkId};
-use bd_blocks::is_nobody;
+use bd_changes::is_at_end;
 use bd_machine::{Id, Kept, OpenWalk, Place, Tracked};
 use bd_view::same_id;
 
@@ -55,7 +55,7 @@ pub fn begin(
 pub fn place_of_walk(thread: u32, id: WalkId, walk: OpenWalk) -> Place
     ensures { result ≡ place_after thread (cond (is_at_end thread id walk) Closed Here) }
 {
-    if is_nobody(walk.left) && id.thread == thread {
+    if is_at_end(thread, id, walk) {
         Place::Nowhere
     } else {
         Place::At(thread)

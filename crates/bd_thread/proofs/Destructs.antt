@@ -18,7 +18,6 @@ use Rattle.bd_machine.specs.declared.state.Part.{Part}
 use Rattle.bd_machine.specs.declared.state.Registry.{Registry}
 use Rattle.bd_machine.specs.BlockMap.{is_malloc}
 use Rattle.bd_machine.specs.Homes.{change_destruct, is_base, is_digest_at, may_destruct}
-use Rattle.bd_machine.specs.Registry.{is_out_of_use}
 use Rattle.bd_view.specs.Came.{came_free}
 use Rattle.bd_turns.specs.Local.{Local}
 use Rattle.bd_turns.specs.declared.queue.Message.{Message}
@@ -49,7 +48,7 @@ due_passes false o digest h = ap (λ (d : Option (List ℕ)). is_none d) (sym (s
 
 -- **Destruct**
 pub destruct_steps : (setup : Setup) (t : ℕ) (part new : Part) (here : Id → Option Kept) (registry : Registry) (shut : Bool) (stamp : ℕ) (queues : ℕ → List Message) (dev : DevId) (digest : Option (List ℕ))
-    → may_destruct setup t (local_at t part here registry shut stamp queues).view (came_free true (is_out_of_use setup registry dev) shut) dev ≡ true
+    → may_destruct setup t (local_at t part here registry shut stamp queues).view (came_free true) dev ≡ true
     → digest_due (is_malloc setup dev) (find (is_base dev) part.bases) ≡ Some digest
     → new ≡ (change_destruct (local_at t part here registry shut stamp queues).view dev).part
     → Steps setup t (local_at t part here registry shut stamp queues) (acts.Destruct dev digest) (local_at t (untaken new) here registry shut (stamp + 1) queues)

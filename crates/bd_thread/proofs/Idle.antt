@@ -29,13 +29,13 @@ use Rattle.bd_thread.specs.Completions.{ending_of, Completes, CompletesBy}
 use Rattle.bd_blocks.specs.Digests.{digest_due}
 use Rattle.bd_thread.specs.Destructs.{may_device_go, DestructAdded, Destructs}
 use Rattle.bd_thread.specs.Duties.{duty_asked, Discharges, NoDuty}
-use Rattle.bd_thread.specs.Endings.{left_on, ClosesLeft}
+use Rattle.bd_thread.specs.Endings.{left_on, removal_due, ClosesLeft, RemovesLeft}
 use Rattle.bd_thread.specs.Lines.{claim_asked, close_asked, close_due, get_due, open_asked, outcome_now, remove_asked, AsksBy, Claims, Closes, ClosesBy, EndsBy, EndsLine, Follows, IsFollowed, Opens, OpensBy, Removes}
 use Rattle.bd_thread.specs.Moves.{Comes, CompletesOwn}
 use Rattle.bd_thread.specs.Seen.{view_of}
 use Rattle.bd_thread.specs.Sent.{first_brought, may_put, Puts, PutsBy, Takes, TakesBy}
 use Rattle.bd_thread.specs.Walking.{visit_due, Visits, VisitsBy}
-use Rattle.bd_thread.specs.Waits.{Idles, IsIdle, NoDestructOn, NoHandleOn, NoLine, NoMessage, NoSubmission}
+use Rattle.bd_thread.specs.Waits.{Idles, IsIdle, NoDestructOn, NoHandleOn, NoLine, NoMessage, NoRemovalOn, NoSubmission}
 use Rattle.bd_links.proofs.Longer.{length-longer}
 use Rattle.bd_thread.proofs.Going.{acted_then}
 
@@ -154,6 +154,9 @@ claims_idle old before new after claimed h = asks_idle old before new after clai
 
 pub removes_idle : (old : Thread) (before : Links) (new : Thread) (after : Links) (removed : Bool) → Removes old before new after removed → Idles (λ t links. remove_asked t links ≡ None) old before new after
 removes_idle old before new after removed h = asks_idle old before new after removed (remove_asked old before) (λ e. e) h
+
+pub removes_left_idle : (old : Thread) (before : Links) (new : Thread) (after : Links) (dev : DevId) (removed : Bool) → RemovesLeft old before new after dev removed → Idles (NoRemovalOn dev) old before new after
+removes_left_idle old before new after dev removed h = asks_idle old before new after removed (removal_due dev old before) (λ e. e) h
 
 pub discharges_idle : (old : Thread) (before : Links) (new : Thread) (after : Links) (asked : Bool) → Discharges old before new after asked → Idles NoDuty old before new after
 discharges_idle old before new after asked h = asks_idle old before new after asked (duty_asked old before) (λ e. e) h

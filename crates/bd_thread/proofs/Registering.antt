@@ -129,7 +129,7 @@ answer_self (answers.Refused e) = eq-eqb (number_of e) (number_of e) refl
 module _ (setup : Setup) (me : ℕ) where
   -- an event is asked by what has to follow and by the Shutdown alone
   asked_between : (v : View) (registry : Registry) (shut : Bool) (answer : Option Answer) (event : RegEvent) (b : Option Between)
-      → asks_between setup me v (came_between registry.between shut) event b ≡ asks_between setup me v (record { message = None; answer = answer; between = registry.between; free = false; unused = false; shut = shut }) event b
+      → asks_between setup me v (came_between registry.between shut) event b ≡ asks_between setup me v (record { message = None; answer = answer; between = registry.between; free = false; shut = shut }) event b
   asked_between v registry shut answer event (Some (Opening u dev)) = refl
   asked_between v registry shut answer (events.PutChannel dev true) None = refl
   asked_between v registry shut answer (events.PutChannel dev false) None = refl

@@ -29,7 +29,6 @@ use Rattle.bd_machine.specs.declared.state.News.{News}
 use Rattle.bd_machine.specs.declared.state.News.TheVariants as news
 use Rattle.bd_machine.specs.declared.state.Owed.{Owed}
 use Rattle.bd_machine.specs.Admission.{has_range, is_gone}
-use Rattle.bd_machine.specs.AsYet.{as_yet}
 use Rattle.bd_machine.specs.Asked.{may_close as closes}
 use Rattle.bd_machine.specs.Asked.{bound_to, busy_outcome, claim_outcome, close_outcome, is_handle_on, is_job_claim, is_job_close, is_job_open, is_job_remove, owes_removal, is_open_handle, is_script_blocked, is_waiting_job, is_waiting_line, job_of, most_requests, next_line, open_on, outcome_by, outcome_due, undecided_job, undecided_outcome}
 use Rattle.bd_machine.specs.Claims.{same_kind}
@@ -211,8 +210,8 @@ module _ (t : Thread) (links : Links) where
       let exact : h.id ≡ id = ap (λ (n : ℕ). let i : HandleId = record { 0 = n } in i) (eqb-true h.id.0 id.0 (found_is (λ x. same_handle x.id id) seen.handles h own)) in
       let may : HandleId → Bool = λ i. closes t.setup.now t.me seen (came_between None false) i in
       let closable : may id ≡ true =
-      four (not (is_base_handle t.setup.now id)) (is_some (handle_of seen.handles id)) (open_on t.part id == 0) (is_gone t.part id || (as_yet && false) || is_job_close t.part id asked)
-      (ap not unbased) (ap is_some own) idle (or_right (is_gone t.part id || (as_yet && false)) (is_job_close t.part id asked) (ap (is_job_close t.part id) is ∙ ap (is_the same_handle id) bound ∙ eq-eqb id.0 id.0 refl)) in
+      four (not (is_base_handle t.setup.now id)) (is_some (handle_of seen.handles id)) (open_on t.part id == 0) (is_gone t.part id || is_job_close t.part id asked)
+      (ap not unbased) (ap is_some own) idle (or_right (is_gone t.part id) (is_job_close t.part id asked) (ap (is_job_close t.part id) is ∙ ap (is_the same_handle id) bound ∙ eq-eqb id.0 id.0 refl)) in
       let so : may h.id ≡ true = ap may exact ∙ closable in
       let on : is_handle_on h.dev (handle_of seen.handles h.id) ≡ true = ap (λ (i : HandleId). is_handle_on h.dev (handle_of seen.handles i)) exact ∙ ap (is_handle_on h.dev) own ∙ eq-eqb h.dev.0 h.dev.0 refl in
       and_from (may_ask t free (events.PutChannel h.dev true)) (may_ask_after t free (Some (Closing t.me h.dev)) (events.Close h.id))

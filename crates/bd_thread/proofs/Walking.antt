@@ -1,5 +1,5 @@
 -- A visit of a walk, by the local rules.
-use Rattle.std.proofs.Common.{◌≡◌, ℕ, ◌+◌, Bool, true, false, cond, List, [], ◌∷◌, ◌++◌, length, Option, Some, None, is_none, refl, sym, ◌∙◌, ap, subst}
+use Rattle.std.proofs.Common.{◌≡◌, ℕ, ◌+◌, Bool, true, false, cond, not, List, [], ◌∷◌, length, Option, Some, None, is_none, is_some, refl, sym, ◌∙◌, ap, subst}
 use Rattle.bd_base.specs.declared.act.Act.{Act}
 use Rattle.bd_base.specs.declared.act.Act.TheVariants as acts
 use Rattle.bd_base.specs.declared.id.DevId.{DevId}
@@ -37,15 +37,21 @@ use Rattle.bd_thread.proofs.Tickets.{same_tickets}
 -- where no guard fails, each holds
 hold_all : (gs : List (ℕ × Bool)) → first_failing gs ≡ None → Hold gs
 hold_all [] h = tt
-hold_all (g ∷ gs) h = go g.1 refl h
+hold_all (g ∷ gs) h = go g.1 refl h (hold_all gs)
   where
-    go : (b : Bool) → g.1 ≡ b → cond b (first_failing gs) (Some g.0) ≡ None → Hold (g ∷ gs)
-    go true e k = (e, hold_all gs k)
-    go false e k = cc
+    go : (b : Bool) → g.1 ≡ b → cond b (first_failing gs) (Some g.0) ≡ None → (first_failing gs ≡ None → Hold gs) → Hold (g ∷ gs)
+    go true e k rest = (e, rest k)
+    go false e k rest = cc
 
 none_is : {X : Type 0} (o : Option X) → is_none o ≡ true → o ≡ None
 none_is None h = refl
 none_is (Some x) h = cc
+
+pub none_by : {X : Type 0} (r : Bool) (o : Option X) → not r ≡ is_some o → r ≡ is_none o
+none_by true None h = refl
+none_by true (Some x) h = cc
+none_by false None h = cc
+none_by false (Some x) h = refl
 
 -- ---- the walk that may visit
 

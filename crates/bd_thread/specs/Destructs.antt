@@ -5,7 +5,6 @@ use Rattle.bd_base.specs.declared.id.DevId.{DevId}
 use Rattle.bd_blocks.specs.Digests.{digest_due}
 use Rattle.bd_machine.specs.BlockMap.{is_malloc}
 use Rattle.bd_machine.specs.Homes.{is_base, may_destruct}
-use Rattle.bd_machine.specs.Registry.{is_out_of_use}
 use Rattle.bd_view.specs.Came.{came_free}
 use Rattle.bd_links.specs.Entries.{longer}
 use Rattle.bd_thread.specs.declared.links.Links.{Links}
@@ -14,7 +13,7 @@ use Rattle.bd_thread.specs.Seen.{view_of}
 
 -- the rules let the thread destruct the device: one that it was told to destruct is free, whatever the others do
 abbrev pub may_device_go : Thread → Links → DevId → Bool
-may_device_go t links dev = may_destruct t.setup.now t.me (view_of t links) (came_free true (is_out_of_use t.setup.now links.registry.state dev) links.shut) dev
+may_device_go t links dev = may_destruct t.setup.now t.me (view_of t links) (came_free true) dev
 
 -- one Destruct entry where the device may go and what it shows is here, else nothing changes
 abbrev pub DestructAdded : Thread → Links → Thread → Links → DevId → Bool → Bool → Option (Option (List ℕ)) → Type 0

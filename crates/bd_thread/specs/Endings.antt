@@ -1,25 +1,41 @@
--- What a thread does by itself: it closes handles whose remove event it took, and after Shutdown all that are left to it, device by device.
-use Rattle.std.specs.Prelude.{Bool, not, ◌&&◌, ◌||◌, ◌==◌, length, filter, find, Option}
+-- What a thread does by itself: after Shutdown thread 0 removes the devices that are left, and each thread closes the handles whose remove event it took, device by device.
+use Rattle.std.specs.Prelude.{Bool, cond, ◌&&◌, ◌==◌, length, filter, find, Option, None}
+use Rattle.bd_base.specs.declared.event.RegEvent.{RegEvent}
 use Rattle.bd_base.specs.declared.id.DevId.{DevId}
 use Rattle.bd_machine.specs.declared.state.Handle.{Handle}
 use Rattle.bd_machine.specs.Admission.{is_gone}
-use Rattle.bd_machine.specs.Registry.{is_on}
+use Rattle.bd_machine.specs.BlockMap.{row_of}
+use Rattle.bd_machine.specs.Registry.{is_live, is_on}
 use Rattle.bd_thread.specs.declared.links.Links.{Links}
 use Rattle.bd_thread.specs.declared.thread.Thread.{Thread}
-use Rattle.bd_thread.specs.Lines.{may_close, ClosesBy}
+use Rattle.bd_thread.specs.Duties.{removal_of}
+use Rattle.bd_thread.specs.Lines.{if_asked, may_close, AsksBy, ClosesBy}
 use Rattle.bd_thread.specs.Seen.{view_of}
 
--- the remove event of the handle was taken, or it is after the Shutdown; and the handle may be closed
+-- the remove event of the handle was taken, and it may be closed
 abbrev pub is_left : Thread → Links → Handle → Bool
-is_left t links h = (links.shut || is_gone t.part h.id) && may_close t links h
+is_left t links h = is_gone t.part h.id && may_close t links h
 
 -- the first of the thread's handles on the device that it closes by itself
 abbrev pub left_on : DevId → Thread → Links → Option Handle
 left_on dev t links = find (is_left t links) (filter (is_on dev) (view_of t links).handles)
 
--- no Shutdown came, the thread owes nothing, and it took no remove event
-abbrev pub owes_nothing : Thread → Links → Bool
-owes_nothing t links = not links.shut && (length t.part.owed == 0) && (length t.part.gone == 0)
+-- the thread owes nothing, and it took no remove event
+abbrev pub owes_nothing : Thread → Bool
+owes_nothing t = (length t.part.owed == 0) && (length t.part.gone == 0)
+
+-- ---- after Shutdown
+
+-- the removal of a device that is left, after Shutdown on thread 0
+abbrev pub removal_left : Thread → Links → DevId → Option RegEvent
+removal_left t links dev = cond (links.shut && (t.me == 0) && is_live links.registry.state dev) (removal_of (row_of t.setup.now dev)) None
+
+-- the same, where the thread may ask it
+abbrev pub removal_due : DevId → Thread → Links → Option RegEvent
+removal_due dev t links = if_asked t links (removal_left t links dev)
+
+abbrev pub RemovesLeft : Thread → Links → Thread → Links → DevId → Bool → Type 0
+RemovesLeft old before new after dev removed = AsksBy old before new after removed (removal_due dev old before)
 
 -- the channel of one handle on the device was put, and where that was granted it was closed, where one is left; else nothing changes
 abbrev pub ClosesLeft : Thread → Links → Thread → Links → DevId → Bool → Type 0

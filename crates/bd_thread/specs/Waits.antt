@@ -26,7 +26,7 @@ use Rattle.bd_thread.specs.declared.turn.Turned.{Turned}
 use Rattle.bd_thread.specs.declared.turn.Turned.TheVariants.{Moved, Quiet}
 use Rattle.bd_thread.specs.Destructs.{may_device_go}
 use Rattle.bd_thread.specs.Duties.{NoDuty}
-use Rattle.bd_thread.specs.Endings.{left_on}
+use Rattle.bd_thread.specs.Endings.{left_on, removal_due}
 use Rattle.bd_thread.specs.Lines.{claim_asked, close_asked, job_now, open_asked, outcome_now, remove_asked}
 use Rattle.bd_thread.specs.Seen.{local, view_of}
 use Rattle.bd_thread.specs.Sent.{first_brought}
@@ -95,7 +95,7 @@ is_line_waiting t links =
 
 -- ---- handles and devices that go
 
--- no handle that is left to the thread on a device may be closed: one whose remove event was taken, or after Shutdown any
+-- no handle on a device whose remove event was taken may be closed
 abbrev pub NoHandleOn : DevId → Thread → Links → Type 0
 NoHandleOn dev t links = left_on dev t links ≡ None
 
@@ -122,9 +122,26 @@ abbrev pub NoDestruct : Thread → Links → Type 0
 NoDestruct = NoDestructBelow (2 ^ 32)
 
 -- no handle can be closed, and no device destructed
-pub record NothingLeft (t : Thread) (links : Links) : Type 0 where
+pub record NothingOwn (t : Thread) (links : Links) : Type 0 where
   pub handle : NoHandle t links
   pub device : NoDestruct t links
+
+-- a device that is left can't be removed, or it isn't after the Shutdown, or not thread 0
+abbrev pub NoRemovalOn : DevId → Thread → Links → Type 0
+NoRemovalOn dev t links = removal_due dev t links ≡ None
+
+-- nor any with a number from this one on
+abbrev pub NoRemovalFrom : ℕ → Thread → Links → Type 0
+NoRemovalFrom n t links = (dev : DevId) → n ≤ dev.0 → NoRemovalOn dev t links
+
+-- nor any
+abbrev pub NoRemoval : Thread → Links → Type 0
+NoRemoval = NoRemovalFrom 0
+
+-- nothing of this can be done
+pub record NothingLeft (t : Thread) (links : Links) : Type 0 where
+  pub removal : NoRemoval t links
+  pub own : NothingOwn t links
 
 -- ---- what is still to be put
 
@@ -172,7 +189,7 @@ pub record IsIdle (Waits : Thread → Links → Type 0) (old : Thread) (before :
 abbrev pub Idles : (Thread → Links → Type 0) → Thread → Links → Thread → Links → Type 0
 Idles Waits old before new after = length after.entries ≤ length before.entries → IsIdle Waits old before new after
 
--- all that a thread waits for: a message that it can take, something that it owes and can do, a piece that it can serve on a device whose home it is, a line that can go on, a handle that it can close by itself or a device that it can destruct, and room for the first of its outbox, if that may go there, and for the first message that is due
+-- all that a thread waits for: a message that it can take, something that it owes and can do, a piece that it can serve on a device whose home it is, a line that can go on, after Shutdown on thread 0 a device that it can remove, a handle that it can close by itself or a device that it can destruct, and room for the first of its outbox, if that may go there, and for the first message that is due
 pub record IsWaiting (t : Thread) (links : Links) : Type 0 where
   pub message : NoMessage t links
   pub duty : NoDuty t links

@@ -3,14 +3,15 @@
 //! tells the registry what it destructed.
 ghost use Rattle.std.specs.Prelude.{◌≡◌, find, IfOk, OnOk};
 ghost use Rattle.bd_thread.specs.Acted.{Acted};
-ghost use Rattle.bd_thread.specs.Duties.{duty_of, event_of, is_duty, Discharges, NoDuty};
+ghost use Rattle.bd_machine.specs.BlockMap.{row_of};
+ghost use Rattle.bd_thread.specs.Duties.{duty_of, event_of, is_duty, removal_of, Discharges, NoDuty};
 ghost use Rattle.bd_thread.specs.Requests.{KeepsTickets};
 ghost use Rattle.bd_thread.specs.Waits.{Idles};
 ghost use Rattle.bd_registry.specs.State.{rows_of};
 
 use crate::links::Links;
 use crate::thread::Thread;
-use bd_base::{OutOfMemory, RegEvent, Setup};
+use bd_base::{DevId, OutOfMemory, RegEvent, Setup};
 use bd_blocks::row_of;
 use bd_machine::Owed;
 
@@ -27,6 +28,18 @@ fn first_duty(owed: &[Owed]) -> Option<Owed>
     owed.iter().copied().find(|o| is_duty(o))
 }
 
+/// The event that removes a device; none where the setup doesn't have it.
+pub(crate) fn removal_of(setup: &Setup, dev: DevId) -> Result<Option<RegEvent>, OutOfMemory>
+    ensures { IfOk result (λ event. event ≡ removal_of (row_of setup.now dev)) }
+{
+    match row_of(setup, dev) {
+        Some(row) => Ok(Some(RegEvent::BeginRemove {
+            name: row.name.copy()?,
+        })),
+        None => Ok(None),
+    }
+}
+
 // The event by which a thread does what it owes. None for the end of a device, and for the removal of one
 // that isn't in the setup.
 fn event_of(setup: &Setup, owed: Owed) -> Result<Option<RegEvent>, OutOfMemory>
@@ -39,12 +52,7 @@ fn event_of(setup: &Setup, owed: Owed) -> Result<Option<RegEvent>, OutOfMemory>
             closing: false,
         })),
         Owed::Close(handle) => Ok(Some(RegEvent::Close { handle })),
-        Owed::Remove(dev) => match row_of(setup, dev) {
-            Some(row) => Ok(Some(RegEvent::BeginRemove {
-                name: row.name.copy()?,
-            })),
-            None => Ok(None),
-        },
+        Owed::Remove(dev) => removal_of(setup, dev),
         Owed::Report(dev) => Ok(Some(RegEvent::Destructed { dev })),
         Owed::Destruct(_) => Ok(None),
     }

@@ -1,25 +1,27 @@
-//! What a thread does by itself: it closes handles whose device is being removed, and after Shutdown all
-//! that are left to it, and destructs its devices.
+//! What a thread does by itself: after Shutdown thread 0 removes the devices that are left; a thread closes
+//! handles whose device is being removed, and destructs its devices.
 ghost use Rattle.std.specs.Prelude.{◌≡◌, ◌<◌, vec_len, IfOk, OnOk};
 ghost use Rattle.bd_thread.specs.Acted.{Acted};
-ghost use Rattle.bd_thread.specs.Endings.{is_left, left_on, owes_nothing, ClosesLeft};
+ghost use Rattle.bd_thread.specs.Endings.{is_left, left_on, owes_nothing, removal_left, ClosesLeft, RemovesLeft};
 ghost use Rattle.bd_thread.specs.Requests.{KeepsTickets};
-ghost use Rattle.bd_thread.specs.Waits.{Idles, NoDestruct, NoHandle, NoHandleOn, NothingLeft};
+ghost use Rattle.bd_thread.specs.Waits.{Idles, NoDestruct, NoHandle, NoHandleOn, NoRemoval, NothingLeft, NothingOwn};
 ghost use Rattle.bd_registry.specs.State.{rows_of};
 
+use crate::duties::removal_of;
 use crate::links::Links;
 use crate::thread::Thread;
-use bd_base::{DevId, OutOfMemory};
+use bd_answers::is_live;
+use bd_base::{DevId, OutOfMemory, RegEvent};
 use bd_machine::Handle;
 use bd_rules::is_gone;
 
 impl<'a> Thread<'a> {
-    // Whether the thread closes the handle by itself: its remove event was taken, or it is after the
-    // Shutdown, and it may be closed (no base handle, and without open requests).
+    // Whether the thread closes the handle by itself: its remove event was taken, and it may be closed (no
+    // base handle, and without open requests).
     fn is_left(&self, links: &Links, handle: Handle) -> bool
         ensures { result ≡ is_left self.now links.now handle }
     {
-        (links.shut || is_gone(&self.part, handle.id)) && self.may_close(links, handle)
+        is_gone(&self.part, handle.id) && self.may_close(links, handle)
     }
 
     // The first of the thread's handles on the device that it closes by itself.
@@ -96,16 +98,79 @@ impl<'a> Thread<'a> {
         Ok(())
     }
 
-    // Whether no Shutdown came, the thread owes nothing, and it took no remove event.
-    fn owes_nothing(&self, links: &Links) -> bool
-        ensures { result ≡ owes_nothing self.now links.now }
+    // Whether the thread owes nothing, and it took no remove event.
+    fn owes_nothing(&self) -> bool
+        ensures { result ≡ owes_nothing self.now }
     {
-        !links.shut && self.part.owed.len() == 0 && self.part.gone.len() == 0
+        self.part.owed.len() == 0 && self.part.gone.len() == 0
     }
 
-    /// Puts the channels of the thread's handles whose remove event it took, or after Shutdown of all, and
-    /// closes them, device by device; and then destructs the devices whose home it is, where the thread was
-    /// told to, or after Shutdown, as far as may be.
+    // The removal of a device that is left, after Shutdown on thread 0.
+    fn removal_left(&self, links: &Links, dev: DevId) -> Result<Option<RegEvent>, OutOfMemory>
+        ensures { IfOk result (λ event. event ≡ removal_left self.now links.now dev) }
+    {
+        if !(links.shut && self.me == 0 && is_live(&links.registry, dev)) {
+            return Ok(None);
+        }
+        removal_of(self.setup, dev)
+    }
+
+    // Removes a device that is left, where the rules let the thread ask it.
+    fn remove_left(&mut self, links: &mut Links, dev: DevId) -> Result<bool, OutOfMemory>
+        requires rows { links.old.registry.setup ≡ rows_of self.old.setup.now }
+        ensures acted { OnOk result (Acted self.old links.old self.new links.new) }
+        ensures tickets { OnOk result (KeepsTickets self.old → KeepsTickets self.new) }
+        ensures removes { IfOk result (RemovesLeft self.old links.old self.new links.new dev) }
+    {
+        let Some(event) = self.removal_left(links, dev)? else {
+            return Ok(false);
+        };
+        if !self.may_ask(links, &event) {
+            return Ok(false);
+        }
+        self.ask(links, event)?;
+        Ok(true)
+    }
+
+    // After Shutdown, on thread 0, removes the devices that are left, the last registered first.
+    fn remove_all_left(&mut self, links: &mut Links) -> Result<(), OutOfMemory>
+        requires rows { links.old.registry.setup ≡ rows_of self.old.setup.now }
+        ensures acted { OnOk result (Acted self.old links.old self.new links.new) }
+        ensures tickets { OnOk result (KeepsTickets self.old → KeepsTickets self.new) }
+        ensures quiet { OnOk result (Idles NoRemoval self.old links.old self.new links.new) }
+    {
+        if !(links.shut && self.me == 0) {
+            return Ok(());
+        }
+        let count = self.setup.devices.len();
+        for round in 0..count {
+            let Ok(dev) = u32::try_from(count - 1 - round) else {
+                return Err(OutOfMemory);
+            };
+            self.remove_left(links, DevId(dev))?;
+        }
+        Ok(())
+    }
+
+    // Closes the handles whose remove event the thread took, and destructs what it was told to.
+    fn end_own(&mut self, links: &mut Links) -> Result<(), OutOfMemory>
+        requires me { self.old.me < vec_len links.old.queues }
+        requires rows { links.old.registry.setup ≡ rows_of self.old.setup.now }
+        ensures acted { OnOk result (Acted self.old links.old self.new links.new) }
+        ensures tickets { OnOk result (KeepsTickets self.old → KeepsTickets self.new) }
+        ensures quiet { OnOk result (Idles NothingOwn self.old links.old self.new links.new) }
+    {
+        if self.owes_nothing() {
+            return Ok(());
+        }
+        self.close_all_left(links)?;
+        self.destruct_all(links)
+    }
+
+    /// After Shutdown removes the devices that are left, on thread 0; then puts the channels of the
+    /// thread's handles whose remove event it took and closes them, device by device; and then destructs
+    /// the devices whose home it is and that it was told to destruct, as far as may be. More devices than
+    /// 32 bits count answer out of memory.
     pub(crate) fn end_all(&mut self, links: &mut Links) -> Result<(), OutOfMemory>
         requires me { self.old.me < vec_len links.old.queues }
         requires rows { links.old.registry.setup ≡ rows_of self.old.setup.now }
@@ -113,10 +178,7 @@ impl<'a> Thread<'a> {
         ensures tickets { OnOk result (KeepsTickets self.old → KeepsTickets self.new) }
         ensures quiet { OnOk result (Idles NothingLeft self.old links.old self.new links.new) }
     {
-        if self.owes_nothing(links) {
-            return Ok(());
-        }
-        self.close_all_left(links)?;
-        self.destruct_all(links)
+        self.remove_all_left(links)?;
+        self.end_own(links)
     }
 }

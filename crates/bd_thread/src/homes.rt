@@ -13,14 +13,13 @@ ghost use Rattle.bd_thread.specs.Served.{next_due, next_in, Applies};
 
 use crate::links::Links;
 use crate::thread::Thread;
-use bd_answers::is_out_of_use;
 use bd_base::{Act, ApplyEnd, DevId, OutOfMemory, ReqId};
 use bd_blocks::{digest_due, find_base, is_home, size_of};
 use bd_changes::destructed;
 use bd_home::{can_serve, first_waiting, serve};
 use bd_links::hold;
 use bd_machine::{Base, Id, Kept, OpenPiece};
-use bd_rules::{Release, may_destruct, may_hold};
+use bd_rules::{may_destruct, may_hold};
 use bd_view::{as_piece, look_up};
 
 // The piece that a thread serves next, by its name, as it is kept here.
@@ -84,10 +83,9 @@ impl<'a> Thread<'a> {
         Ok(Some(Id::Piece(req, k)))
     }
 
-    /// Destructs a device whose home this is, once: where the thread was told to, or, as yet, after
-    /// Shutdown, when it has neither a channel nor a handle but base handles, and no thread is about
-    /// to get one. The entry shows for malloc the digest of its blocks, and for another device none. False, and nothing changes, where the device may
-    /// not go, or it is malloc and its blocks aren't here.
+    /// Destructs a device whose home this is, once, where the thread was told to. The entry shows for
+    /// malloc the digest of its blocks, and for another device none. False, and nothing changes, where
+    /// the device may not go, or it is malloc and its blocks aren't here.
     pub(crate) fn destruct(&mut self, links: &mut Links, dev: DevId) -> Result<bool, OutOfMemory>
         requires { self.old.me < vec_len links.old.queues }
         ensures acted { OnOk result (Acted self.old links.old self.new links.new) }
@@ -96,12 +94,7 @@ impl<'a> Thread<'a> {
         ensures destructed { IfOk result (Destructs self.old links.old self.new links.new dev) }
     {
         let setup = self.setup;
-        let came = Release {
-            free: true,
-            unused: is_out_of_use(setup, &links.registry, dev),
-            shut: links.shut,
-        };
-        if !may_destruct(&self.seen(links), setup, self.me, came, dev) {
+        if !may_destruct(&self.seen(links), setup, self.me, true, dev) {
             return Ok(false);
         }
         let Some(digest) = digest_due(setup, self.part.bases.as_slice(), dev) else {

@@ -40,16 +40,14 @@ impl<'a> Thread<'a> {
     }
 
     // Whether each handle whose remove event was taken is closed, but for base handles.
-    #[tactic(auto, using(crate::proofs::Left::left_from))]
     fn closed_all_gone(&self, links: &Links) -> bool
         ensures { result ≡ list_all (is_settled self.now links.now) self.now.part.gone }
     {
-        for id in self.part.gone.as_slice() {
-            if !self.is_settled(links, *id) {
-                return false;
-            }
-        }
-        true
+        self.part
+            .gone
+            .as_slice()
+            .iter()
+            .all(|id| self.is_settled(links, *id))
     }
 
     /// Whether no token is on the thread, nothing is still to be put or done, each handle whose remove

@@ -2,13 +2,13 @@
 ghost use Rattle.std.specs.Prelude.{◌≡◌, ◌++◌, IfOk, OnOk};
 ghost use Rattle.bd_thread.specs.Acted.{Acted};
 ghost use Rattle.bd_thread.specs.Requests.{KeepsTickets};
-ghost use Rattle.bd_thread.specs.Walking.{bound_for, goes_on, visit_due, Begins, Visits};
+ghost use Rattle.bd_thread.specs.Walking.{bound_for, goes_on, if_visited, may_visit, visit_due, Begins, Visits};
 
 use crate::links::Links;
 use crate::thread::Thread;
 use bd_base::{Act, OutOfMemory, Token, WalkId};
-use bd_blocks::{first_of, is_nobody};
-use bd_changes::walk_on;
+use bd_blocks::first_of;
+use bd_changes::{is_at_end, walk_on};
 use bd_links::{hold_begun, hold_walk};
 use bd_machine::OpenWalk;
 use bd_rules::walk_here;
@@ -41,7 +41,7 @@ fn send_on(
 ) -> Result<(), OutOfMemory>
     ensures { OnOk result (outbox.new.items ≡ outbox.old.items ++ goes_on me id walk) }
 {
-    if is_nobody(walk.left) && id.thread == me {
+    if is_at_end(me, id, walk) {
         Ok(())
     } else {
         send_off(outbox, id, walk)
@@ -60,16 +60,34 @@ impl<'a> Thread<'a> {
         }
     }
 
+    // Whether the rules let the walk visit this thread.
+    fn may_visit(&self, links: &Links, id: WalkId, walk: OpenWalk) -> bool
+        ensures { result ≡ may_visit self.now links.now id walk }
+    {
+        let OpenWalk { dev, kind, .. } = walk;
+        refused_visit(&self.seen(links), self.setup, self.me, id, dev, kind).is_none()
+    }
+
+    fn if_visited(&self, links: &Links, id: WalkId, walk: Option<OpenWalk>) -> Option<OpenWalk>
+        ensures { result ≡ if_visited self.now links.now id walk }
+    {
+        match walk {
+            Some(walk) => {
+                if self.may_visit(links, id, walk) {
+                    Some(walk)
+                } else {
+                    None
+                }
+            }
+            None => None,
+        }
+    }
+
     // The walk, where it is here and the rules let it visit this thread.
     fn visit_due(&self, links: &Links, id: WalkId) -> Option<OpenWalk>
         ensures { result ≡ visit_due self.now links.now id }
     {
-        let seen = self.seen(links);
-        let walk = walk_here(&seen, id)?;
-        match refused_visit(&seen, self.setup, self.me, id, walk.dev, walk.kind) {
-            None => Some(walk),
-            Some(_) => None,
-        }
+        self.if_visited(links, id, walk_here(&self.seen(links), id))
     }
 
     /// A walk that is here visits this thread, where that is the next one it visits and, for a drain, no

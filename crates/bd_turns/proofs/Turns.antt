@@ -11,12 +11,11 @@ use Rattle.bd_base.specs.declared.setup.Setup.{Setup}
 use Rattle.bd_machine.specs.declared.guard.TheConstants.{UNBUILT, IN_ORDER, MAY_DESTRUCT, CONTENT_DIGEST}
 use Rattle.bd_machine.specs.declared.state.State.{State}
 use Rattle.bd_machine.specs.Alone.{view_by}
-use Rattle.bd_machine.specs.AsYet.{as_yet}
 use Rattle.bd_machine.specs.Guards.{guards, change, is_built}
 use Rattle.bd_machine.specs.BlockMap.{home, row_of}
 use Rattle.bd_machine.specs.Homes.{is_home, is_told, is_called_for, is_digest_due, has_destructed}
 use Rattle.bd_machine.specs.Messages.{count_at, brings}
-use Rattle.bd_machine.specs.Registry.{is_free, is_out_of_use}
+use Rattle.bd_machine.specs.Registry.{is_free}
 use Rattle.bd_machine.specs.Run.{after_all}
 use Rattle.bd_machine.specs.Step.{IsAllowed, first_failing, guards_in, guards_shutdown, is_in_order, is_shutdown, change_in, after}
 use Rattle.bd_machine.specs.View.{View, Came, Change, Taking, view, part_of, came_for, asked}
@@ -91,18 +90,16 @@ module _ (setup : Setup) (s : State) (t : ℕ) (queues : ℕ → List Message) w
           let l = and_parts (is_some (row_of setup dev)) (home setup dev == t) k.0 in
           destruct_is_free setup s t dev told (eqb-true (home setup dev) t l.1) is g.1
 
-      go : (b : Bool) → is_told v dev ≡ b → ((is_told v dev && is_free setup s.registry dev) || (as_yet && s.shut && is_out_of_use setup s.registry dev)) ≡ ((is_told v dev && true) || (as_yet && s.shut && is_out_of_use setup s.registry dev))
-      go true is = ap (λ f. (is_told v dev && f) || (as_yet && s.shut && is_out_of_use setup s.registry dev)) (free_if is)
-      go false is =
-          ap (λ b. (b && is_free setup s.registry dev) || (as_yet && s.shut && is_out_of_use setup s.registry dev)) is
-          ∙ sym (ap (λ b. (b && true) || (as_yet && s.shut && is_out_of_use setup s.registry dev)) is)
+      go : (b : Bool) → is_told v dev ≡ b → (is_told v dev && is_free setup s.registry dev) ≡ (is_told v dev && true)
+      go true is = ap (λ f. is_told v dev && f) (free_if is)
+      go false is = ap (λ b. b && is_free setup s.registry dev) is ∙ sym (ap (λ b. b && true) is)
 
   pub alike : (act : Act) → IsTold setup s → Stand s.tokens t (part_of s t).taken (queues t) → LocallyPasses act → IsAlike act
   alike (acts.Took source number what) told st h =
       let taking : Taking = record { source = source; number = number; what = what } in
       let first = first_took source number what h in
       let same = taken_first s.tokens t (part_of s t).taken (queues t) taking first (eqb-true number (count_at (part_of s t).taken source) (took_parts source number what h).0) st ∙ sym first.came in
-      alike_of (acts.Took source number what) (λ i. record { message = same i; answer = None; between = None; free = false; unused = false; shut = s.shut })
+      alike_of (acts.Took source number what) (λ i. record { message = same i; answer = None; between = None; free = false; shut = s.shut })
   alike (acts.Destruct dev digest) told st h = record {
     guards_are = ap (λ b. (MAY_DESTRUCT, is_home setup t dev && b && not (has_destructed (view s t) dev)) ∷ (CONTENT_DIGEST, is_digest_due setup (view s t) dev digest) ∷ []) (called_same dev digest told h);
     change_is = refl;

@@ -13,7 +13,7 @@ use Rattle.bd_machine.specs.declared.state.Registry.{Registry}
 use Rattle.bd_machine.specs.Alone.{view_by}
 use Rattle.bd_machine.specs.Changes.{registry_after}
 use Rattle.bd_machine.specs.Guards.{guards, change, is_built}
-use Rattle.bd_machine.specs.Registry.{Question, answer_to, is_out_of_use}
+use Rattle.bd_machine.specs.Registry.{Question, answer_to}
 use Rattle.bd_machine.specs.Same.{same_id}
 use Rattle.bd_machine.specs.Step.{first_failing, is_shutdown}
 use Rattle.bd_machine.specs.View.{View, Came, Change, Move, Taking, took, asked, destructed_by, id_of}
@@ -45,11 +45,6 @@ first_of t (m ∷ ms) taking = cond (is_named t taking m) (Some m.kept) None
 abbrev pub answer_by : Setup → Registry → ℕ → Question → Answer
 answer_by setup registry t q = answer_to setup registry t q.event
 
--- the device that is destructed has neither a channel nor a handle but base handles, and no thread is about to get one
-abbrev pub is_unused_by : Setup → Registry → Option DevId → Bool
-is_unused_by setup registry None = false
-is_unused_by setup registry (Some dev) = is_out_of_use setup registry dev
-
 -- what came to the thread; a device that it was told to destruct is free, whatever the others do
 abbrev pub came_local : Setup → ℕ → Local → Act → Came
 came_local setup t l act = record {
@@ -57,7 +52,6 @@ came_local setup t l act = record {
   answer = option_map (answer_by setup l.shared.registry t) (asked act);
   between = option_and_then (λ q. l.shared.registry.between) (asked act);
   free = is_some (destructed_by act);
-  unused = is_unused_by setup l.shared.registry (destructed_by act);
   shut = l.shared.shut;
 }
 

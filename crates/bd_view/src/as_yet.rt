@@ -4,9 +4,8 @@ ghost use Rattle.bd_machine.specs.Guards.{is_built_event, is_built_token};
 
 use bd_base::{RegEvent, Token};
 
-/// Whether threads still close what is open after the Shutdown, destruct a device by the Shutdown alone
-/// once it is out of use, and take any number of pieces into a queue. With false the rules are those
-/// that stand in the end.
+/// Whether a base's queue takes any number of pieces, and only some acts are built. With false the
+/// rules are those that stand in the end.
 pub const AS_YET: bool = true;
 
 /// Whether threads put and take such a token: any but a request that goes to a limited device's home,

@@ -1,4 +1,4 @@
-use Rattle.std.proofs.Common.{◌≡◌, Bool, true, List, Some, length, refl, sym, ◌∙◌, ap, ap₂, subst}
+use Rattle.std.proofs.Common.{◌≡◌, Bool, true, List, Some, length, refl, sym, ◌∙◌, ap, subst}
 use Rattle.std.specs.List.{find}
 use Rattle.bd_base.specs.declared.act.Act.TheVariants as acts
 use Rattle.bd_blocks.specs.Digests.{digest_due}
@@ -32,8 +32,8 @@ returns-clause-acted c =
     let act = acts.Destruct dev digest in
     let new : Thread = record t { part = untaken c.destructed.new.part } in
     let after : Links = record links { entries = longer t.me links.entries act } in
-    let rule : View → Bool → Bool = λ v unused. may_destruct setup t.me v (came_free true unused links.shut) dev in
-    let may : may_device_go t links dev ≡ true = sym (ap₂ rule c.seen.ensures c.is_out_of_use.ensures) ∙ sym c.may_destruct.ensures ∙ c.if-not-may_destruct.false in
+    let rule : View → Bool = λ v. may_destruct setup t.me v (came_free true) dev in
+    let may : may_device_go t links dev ≡ true = sym (ap rule c.seen.ensures) ∙ sym c.may_destruct.ensures ∙ c.if-not-may_destruct.false in
     let due : digest_due (is_malloc setup dev) (find (is_base dev) t.part.bases) ≡ Some digest =
     ap (λ (bs : List Base). digest_due (is_malloc setup dev) (find (is_base dev) bs)) (sym c.as_slice.ensures) ∙ sym c.digest_due.ensures ∙ c.in-Some.is in
     let stepped = destruct_steps setup t.me t.part c.destructed.new.part (here_in t.held.items) links.registry.state links.shut (length links.entries) (queues_of links.queues.items) dev digest may due c.in_ok-destructed.ensures in

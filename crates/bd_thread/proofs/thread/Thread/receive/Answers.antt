@@ -1,14 +1,34 @@
-use Rattle.std.proofs.Common.{refl}
+use Rattle.std.proofs.Common.{None, Some, refl, subst}
+use Rattle.bd_thread.specs.Sent.{Takes}
 use Rattle.bd_thread.proofs.Going.{acted_then}
 use Rattle.bd_thread.proofs.Idle.{comes_idle, idle_then, takes_idle}
 use Rattle.bd_thread.proofs.thread.Thread.receive.Goals as goal
 
-pub returns-in_ok-came : goal.returns-in_ok-came
-returns-in_ok-came c = record {
-  acted = acted_then _ _ _ _ _ _ c.in_ok-take.ensures.acted c.in_ok-came.ensures.acted;
-  tickets = λ keeps. c.in_ok-came.ensures.tickets (c.in_ok-take.ensures.tickets keeps);
-  quiet = idle_then {Q = λ t links. Unit {0}} _ _ _ _ _ _ c.in_ok-take.ensures.acted c.in_ok-came.ensures.acted (λ none here. none)
-      (takes_idle _ _ _ _ _ c.in_ok-take.ensures.takes)
-      (comes_idle _ _ _ _ _ tt c.in_ok-came.ensures.came);
-  receives = record { id = _; middle = _; shared = _; takes = c.in_ok-take.ensures.takes; came = c.in_ok-came.ensures.came; taken_is = refl };
+pub returns-clause-acted : goal.returns-clause-acted
+returns-clause-acted c = acted_then _ _ _ _ _ _ c.in_ok-id.ensures.acted c.in_ok-came.ensures.acted
+
+pub returns-clause-quiet : goal.returns-clause-quiet
+returns-clause-quiet c =
+    idle_then {Q = λ t links. Unit {0}} _ _ _ _ _ _ c.in_ok-id.ensures.acted c.in_ok-came.ensures.acted (λ none here. none)
+    (takes_idle _ _ _ _ _ c.in_ok-id.ensures.takes)
+    (comes_idle _ _ _ _ _ tt c.in_ok-came.ensures.came)
+
+pub returns-clause-receives : goal.returns-clause-receives
+returns-clause-receives c = record {
+  id = Some c.in-Some.id;
+  middle = c.take.new.self;
+  shared = c.take.new.links;
+  takes = subst (Takes c.args.self.now c.args.links.now c.take.new.self c.take.new.links) c.in-Some.is c.in_ok-id.ensures.takes;
+  came = c.in_ok-came.ensures.came;
+  taken_is = refl;
+}
+
+pub returns-in_default-clause-receives : goal.returns-in_default-clause-receives
+returns-in_default-clause-receives c = record {
+  id = None;
+  middle = c.take.new.self;
+  shared = c.take.new.links;
+  takes = subst (Takes c.args.self.now c.args.links.now c.take.new.self c.take.new.links) c.in_default.is c.in_ok-id.ensures.takes;
+  came = (refl, refl);
+  taken_is = refl;
 }

@@ -40,14 +40,14 @@ returns-clause-acted c =
     let next : number ≡ count_at t.part.taken m.sender = c.count_at-number.ensures ∙ ap (λ (counts : List (ℕ × ℕ)). count_at counts m.sender) c.as_slice-2.ensures in
     let counted : Part = record t.part { taken = write ◌==◌ t.part.taken m.sender (number + 1) } in
     let part : c.arrived.new.part ≡ (taken_by setup t.me m.what counted (Some m.kept) id).part =
-    c.in_ok-arrived.ensures.part id ∙ ap (λ (p : Part). (taken_by setup t.me m.what p (Some m.kept) id).part) c.in_ok-took.ensures in
-    let moves : (taken_by setup t.me m.what counted (Some m.kept) id).moves ≡ token_moved t.me m.what (Some m.kept) id ++ begun c.in_ok-arrived.begun =
-    ap (λ (p : Part). (taken_by setup t.me m.what p (Some m.kept) id).moves) (sym c.in_ok-took.ensures) ∙ c.in_ok-arrived.ensures.moves id in
+    c.in_ok-begun.ensures.part id ∙ ap (λ (p : Part). (taken_by setup t.me m.what p (Some m.kept) id).part) c.in_ok-took.ensures in
+    let moves : (taken_by setup t.me m.what counted (Some m.kept) id).moves ≡ token_moved t.me m.what (Some m.kept) id ++ begun c.in_ok-begun.begun =
+    ap (λ (p : Part). (taken_by setup t.me m.what p (Some m.kept) id).moves) (sym c.in_ok-took.ensures) ∙ c.in_ok-begun.ensures.moves id in
     let held : here_in c.hold_begun.new.tokens.items ≡ held_after (taken_by setup t.me m.what counted (Some m.kept) id).moves here =
     c.in_ok-hold_begun.ensures
-    ∙ ap (held_after (begun c.in_ok-arrived.begun)) c.in_ok-land.ensures
-    ∙ ap (λ (i : Id). held_after (begun c.in_ok-arrived.begun) (λ j. cond (same_id i j) (left_of t.me m.what m.kept) (here j))) c.id_of-id.ensures
-    ∙ landed_moves t.me m.sender number m.what m.kept c.in_ok-arrived.begun (taken_by setup t.me m.what counted (Some m.kept) id).moves here
+    ∙ ap (held_after (begun c.in_ok-begun.begun)) c.in_ok-land.ensures
+    ∙ ap (λ (i : Id). held_after (begun c.in_ok-begun.begun) (λ j. cond (same_id i j) (left_of t.me m.what m.kept) (here j))) c.id_of-id.ensures
+    ∙ landed_moves t.me m.sender number m.what m.kept c.in_ok-begun.begun (taken_by setup t.me m.what counted (Some m.kept) id).moves here
     (and_parts (is_built_token m.what) (brings m.what (Some m.kept)) brought).1 moves in
     let new : Thread = record t { part = untaken c.arrived.new.part; held = c.hold_begun.new.tokens } in
     let after : Links = record links { queues = c.pop.new.queues; entries = longer t.me links.entries (acts.Took m.sender number m.what) } in
@@ -61,7 +61,7 @@ returns-clause-tickets c = λ keeps.
     let t = c.args.self.now in
     let m = c.in-Some.message in
     let new : Thread = record t { part = untaken c.arrived.new.part; held = c.hold_begun.new.tokens } in
-    let part = c.in_ok-arrived.ensures.part c.id_of-id.result in
+    let part = c.in_ok-begun.ensures.part c.id_of-id.result in
     let kept = took_open t.setup.now t.me m.what c.took.new.part (Some m.kept) c.id_of-id.result in
     let requests = ap (λ (p : Part). p.requests) part ∙ kept.0 ∙ ap (λ (p : Part). p.requests) c.in_ok-took.ensures in
     let next = ap (λ (p : Part). p.next_request) part ∙ kept.1 ∙ ap (λ (p : Part). p.next_request) c.in_ok-took.ensures in
@@ -77,7 +77,7 @@ returns-clause-keeps c =
     let brought : is_built_token m.what && brings m.what (Some m.kept) ≡ true = brought_first (queues_of links.queues.items t.me) m (rest t.me) (search rules) first in
     let new : Thread = record t { part = untaken c.arrived.new.part; held = c.hold_begun.new.tokens } in
     let after : Links = record links { queues = c.pop.new.queues; entries = longer t.me links.entries (acts.Took m.sender c.count_at-number.result m.what) } in
-    let part = c.in_ok-arrived.ensures.part c.id_of-id.result in
+    let part = c.in_ok-begun.ensures.part c.id_of-id.result in
     let kept = took_open t.setup.now t.me m.what c.took.new.part (Some m.kept) c.id_of-id.result in
     let keeps : KeepsRequests t links new after = record {
       thread = refl;

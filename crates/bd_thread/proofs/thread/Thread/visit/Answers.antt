@@ -1,10 +1,12 @@
-use Rattle.std.proofs.Common.{◌≡◌, true, List, ◌++◌, Some, refl, sym, ◌∙◌, ap, subst}
+use Rattle.std.proofs.Common.{◌≡◌, ℕ, true, List, ◌++◌, Option, Some, refl, sym, ◌∙◌, ap, subst}
 use Rattle.bd_base.specs.declared.act.Act.TheVariants as acts
+use Rattle.bd_machine.specs.declared.state.OpenWalk.{OpenWalk}
 use Rattle.bd_machine.specs.declared.state.Part.{Part}
 use Rattle.bd_machine.specs.Alone.{held_after}
-use Rattle.bd_machine.specs.View.{Change, Move}
-use Rattle.bd_machine.specs.Walks.{marked_by, visited, walked}
+use Rattle.bd_machine.specs.View.{Change, Move, View}
+use Rattle.bd_machine.specs.Walks.{marked_by, walked}
 use Rattle.bd_changes.specs.Begun.{begun, walk_moved}
+use Rattle.bd_walks.specs.Walking.{with_channel}
 use Rattle.bd_links.specs.Entries.{longer}
 use Rattle.bd_links.specs.Tokens.{here_in}
 use Rattle.bd_thread.specs.declared.links.Links.{Links}
@@ -28,10 +30,13 @@ returns c =
     let setup = t.setup.now in
     let due : visit_due t links id ≡ Some w = sym c.visit_due.ensures ∙ c.in-Some.is in
     let may = visit_may t links id w due in
-    let after = visited me w in
+    let after = c.visited-after.result in
     let marks : Part = marked_by setup me (view_of t links) w.dev w.kind in
-    let changed : visit_change t links id w ≡ walked me id after marks = change_is t links id w may.here in
-    let marked : c.mark.new.part ≡ marks = c.in_ok-mark.ensures ∙ marked_as setup me (view_of t links) w.dev w.kind in
+    let changed : visit_change t links id w ≡ walked me id after marks =
+    change_is t links id w may.here ∙ ap (λ (x : OpenWalk). walked me id x marks) (sym c.visited-after.ensures) in
+    let marked : c.mark.new.part ≡ marks = c.in_ok-mark.ensures
+    ∙ ap (λ (channel : Option ℕ). marked_by setup me (with_channel t.part channel) w.dev w.kind) (c.channels-channel.ensures ∙ ap (λ (v : View). v.channels w.dev) c.seen.ensures)
+    ∙ marked_as setup me (view_of t links) w.dev w.kind in
     let part : c.walk_on.new.part ≡ (visit_change t links id w).part =
     c.in_ok-next.ensures.part ∙ ap (λ (p : Part). (walked me id after p).part) marked ∙ sym (ap (λ (x : Change). x.part) changed) in
     let moves : walk_moved me id after ++ begun c.in_ok-next.next ≡ (visit_change t links id w).moves =
@@ -52,7 +57,10 @@ returns c =
       next = c.in_ok-next.next;
       thread = refl;
       held = held;
-      outbox = c.in_ok-send_on.ensures ∙ ap (λ xs. xs ++ goes_on me id after) began.outbox;
+      outbox = c.in_ok-send_on.ensures
+          ∙ ap (λ (n : Thread). c.begin.new.self.outbox.items ++ goes_on n.me id after) left
+          ∙ ap (λ xs. xs ++ goes_on me id after) began.outbox
+          ∙ ap (λ (x : OpenWalk). (t.outbox.items ++ sent_off c.in_ok-next.next) ++ goes_on me id x) c.visited-after.ensures;
       links = refl;
     } in
     record {
