@@ -20,7 +20,7 @@ pub(crate) struct OpenedHandle<'a> {
     pub(crate) device: &'a Name,
 }
 
-// How many lines each thread has done; a thread that is missing has done none.
+// How many lines each thread has done, by thread; a thread that is missing has done none.
 type LinesDone = HashMap<u32, usize>;
 
 /// The handles of scripts whose remove event was taken while they were open, by thread, then by
@@ -49,8 +49,7 @@ fn removed_handles<'a>(
     let mut handles = Vec::new(alloc);
     let mut done = HashMap::new(alloc);
     for entry in index.trace() {
-        let opened = opened_in(scripts, done_at(&done, entry.thread), entry);
-        note_handle(&mut handles, index, opened)?;
+        note_handle(&mut handles, index, opened_in(scripts, &done, entry))?;
         note_line(&mut done, entry)?;
     }
     Ok(handles)
@@ -86,21 +85,27 @@ fn push_removed<'a>(
 
 // ---- what an entry opens
 
-// The handle that an entry opens for the next line of its thread, which has done so many lines.
-fn opened_in<'a>(scripts: &'a [Script], done: usize, entry: &'a Entry) -> Option<OpenedHandle<'a>>
-    ensures { option_map as_handle result ≡ opened_in scripts.now done entry.now }
+// The handle that an entry opens for the next line of its thread, by how many lines each has done.
+fn opened_in<'a>(
+    scripts: &'a [Script],
+    done: &LinesDone,
+    entry: &'a Entry,
+) -> Option<OpenedHandle<'a>>
+    ensures { option_map as_handle result ≡ opened_in scripts.now (done_at done.now entry.now.thread) entry.now }
 {
     match opened_in_act(&entry.act) {
         None => None,
-        Some((number, device)) => match next_name(scripts, entry.thread, done) {
-            None => None,
-            Some(name) => Some(OpenedHandle {
-                thread: entry.thread,
-                number,
-                name,
-                device,
-            }),
-        },
+        Some((number, device)) => {
+            match next_name(scripts, entry.thread, done_at(done, entry.thread)) {
+                None => None,
+                Some(name) => Some(OpenedHandle {
+                    thread: entry.thread,
+                    number,
+                    name,
+                    device,
+                }),
+            }
+        }
     }
 }
 

@@ -22,8 +22,8 @@ loop-entry-preserved c =
     record {
       handles =
           c.in_ok-note_handle.ensures ∙
-          ap (λ o. before ++ filter (was_removed trace) (cons_option o [])) c.opened_in-opened.ensures ∙
-          ap (λ n. before ++ filter (was_removed trace) (cons_option (opened_in scripts n x) [])) (c.done_at.ensures ∙ c.loop-entry.invariant.done x.thread) ∙
+          ap (λ o. before ++ filter (was_removed trace) (cons_option o [])) c.opened_in.ensures ∙
+          ap (λ n. before ++ filter (was_removed trace) (cons_option (opened_in scripts n x) [])) (c.loop-entry.invariant.done x.thread) ∙
           ap (λ l. l ++ filter (was_removed trace) (cons_option (opened_in scripts (lines_done (take i trace) x.thread) x) [])) c.loop-entry.invariant.handles ∙
           sym (opened_more (was_removed trace) scripts trace i x low at);
       done = λ thread.
