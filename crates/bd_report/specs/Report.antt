@@ -159,7 +159,7 @@ abbrev pub name_in : Job → Option (List ℕ)
 name_in (jobs.Open handle dev write) = Some handle
 name_in _ = None
 
--- the name that a thread's next line gives to the handle that it opens, where the thread has done so many lines
+-- the name that a thread's next line gives to the handle that it opens, by how many lines the thread has done
 abbrev pub next_name : List Script → ℕ → ℕ → Option (List ℕ)
 next_name scripts thread done = option_and_then (λ line. name_in line.job) (slice_get (lines_of scripts thread) done)
 
@@ -172,7 +172,7 @@ opened_in_act _ = None
 abbrev pub handle_named : ℕ → Option (List ℕ) → ℕ × List ℕ → Option Handle
 handle_named thread name opened = option_map (λ n. record { thread = thread; number = opened.0; name = n; device = opened.1 }) name
 
--- the handle that an entry opens for the next line of its thread, which has done so many lines
+-- the handle that an entry opens for the next line of its thread, by how many lines the thread has done
 abbrev pub opened_in : List Script → ℕ → Entry → Option Handle
 opened_in scripts done entry = option_and_then (handle_named entry.thread (next_name scripts entry.thread done)) (opened_in_act entry.act)
 

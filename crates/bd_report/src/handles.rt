@@ -61,7 +61,8 @@ fn note_handle<'a>(
     index: &TraceIndex,
     opened: Option<OpenedHandle<'a>>,
 ) -> Result<(), OutOfMemory>
-    ensures { OnOk result (map as_handle handles.new.items ≡ map as_handle handles.old.items ++ filter (was_removed index.now) (cons_option (option_map as_handle opened.entry) [])) }
+    ensures { OnOk result
+        (map as_handle handles.new.items ≡ map as_handle handles.old.items ++ filter (was_removed index.now) (cons_option (option_map as_handle opened.entry) [])) }
 {
     if let Some(handle) = opened {
         push_removed(handles, index, handle)?;
@@ -75,7 +76,8 @@ fn push_removed<'a>(
     index: &TraceIndex,
     handle: OpenedHandle<'a>,
 ) -> Result<(), OutOfMemory>
-    ensures { OnOk result (map as_handle handles.new.items ≡ map as_handle handles.old.items ++ (if was_removed index.now (as_handle handle.entry) then as_handle handle.entry ∷ [] else [])) }
+    ensures { let row = as_handle handle.entry in
+        OnOk result (map as_handle handles.new.items ≡ map as_handle handles.old.items ++ (if was_removed index.now row then row ∷ [] else [])) }
 {
     if index.was_told(handle.thread, handle.number) {
         handles.push(handle)?;
@@ -122,8 +124,8 @@ fn opened_in_act(act: &Act) -> Option<(u128, &Name)>
     }
 }
 
-// The name that a thread's next line gives to the handle that it opens, where the thread has done so
-// many lines.
+// The name that a thread's next line gives to the handle that it opens, by how many lines the thread
+// has done.
 fn next_name(scripts: &[Script], thread: u32, done: usize) -> Option<&Name>
     ensures { option_copied result ≡ next_name scripts.now thread done }
 {
@@ -160,7 +162,8 @@ fn name_in(job: &Job) -> Option<&Name>
 // Counts the line that an entry says done.
 fn note_line(done: &mut LinesDone, entry: &Entry) -> Result<(), OutOfMemory>
     requires { done_at done.old entry.now.thread < 2 ^ 64 - 1 }
-    ensures { OnOk result ((thread : ℕ) → done_at done.new thread ≡ (if (entry.now.thread == thread) && is_script entry.now.act then done_at done.old thread + 1 else done_at done.old thread)) }
+    ensures { let counts = λ (thread : ℕ). (entry.now.thread == thread) && is_script entry.now.act in
+        OnOk result ((thread : ℕ) → done_at done.new thread ≡ (if counts thread then done_at done.old thread + 1 else done_at done.old thread)) }
 {
     if is_script(&entry.act) {
         let count = done_at(done, entry.thread);

@@ -34,7 +34,8 @@ fn note_told(
     closed: &ClosedHandles,
     entry: &Entry,
 ) -> Result<(), OutOfMemory>
-    ensures { OnOk result ((thread number : ℕ) → contains same_pair told.new (thread, number) ≡ (contains same_pair told.old (thread, number) || (not (contains nat_eq closed.now number) && is_told thread number entry.now))) }
+    ensures { OnOk result ((thread number : ℕ) → contains same_pair told.new (thread, number) ≡
+        (contains same_pair told.old (thread, number) || (not (contains nat_eq closed.now number) && is_told thread number entry.now))) }
 {
     if let Some(number) = gone_in(&entry.act) {
         put_told(told, closed, entry.thread, number)?;
@@ -49,7 +50,8 @@ fn put_told(
     at: u32,
     gone: u128,
 ) -> Result<(), OutOfMemory>
-    ensures { OnOk result ((thread number : ℕ) → contains same_pair told.new (thread, number) ≡ (contains same_pair told.old (thread, number) || (not (contains nat_eq closed.now gone) && same_pair (at, gone) (thread, number)))) }
+    ensures { OnOk result ((thread number : ℕ) → contains same_pair told.new (thread, number) ≡
+        (contains same_pair told.old (thread, number) || (not (contains nat_eq closed.now gone) && same_pair (at, gone) (thread, number)))) }
 {
     if !closed.contains(&gone) {
         told.insert((at, gone))?;
