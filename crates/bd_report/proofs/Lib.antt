@@ -1,3 +1,4 @@
+pub mod HandleLemmas
 pub mod IndexLemmas
 pub mod MovedLemmas
 pub mod OrderLemmas

@@ -25,7 +25,7 @@ filter_yes p x xs h = cond-true (p x) (x ∷ filter p xs) (filter p xs) h
 filter_no : {X : Type 0} (p : X → Bool) (x : X) (xs : List X) → p x ≡ false → filter p (x ∷ xs) ≡ filter p xs
 filter_no p x xs h = cond-false (p x) (x ∷ filter p xs) (filter p xs) h
 
-flat_map_agree : {X : Type 0} (f g : X → List ℕ) → ((x : X) → f x ≡ g x) → (xs : List X) → flat_map f xs ≡ flat_map g xs
+pub flat_map_agree : {X : Type 0} (f g : X → List ℕ) → ((x : X) → f x ≡ g x) → (xs : List X) → flat_map f xs ≡ flat_map g xs
 flat_map_agree f g same [] = refl
 flat_map_agree f g same (x ∷ xs) = ap (λ l. l ++ flat_map f xs) (same x) ∙ ap (λ l. g x ++ l) (flat_map_agree f g same xs)
 
@@ -162,12 +162,12 @@ start_greatest : {X : Type 0} (f : X → ℕ) (a : ℕ) (xs : List X) → a ≤ 
 start_greatest f a [] = omega arith
 start_greatest f a (x ∷ xs) = omega (arith, start_greatest f (max a (f x)) xs)
 
-each_greatest : {X : Type 0} (f : X → ℕ) (a : ℕ) (xs : List X) → All (λ x. f x ≤ fold (λ b y. max b (f y)) a xs) xs
+pub each_greatest : {X : Type 0} (f : X → ℕ) (a : ℕ) (xs : List X) → All (λ x. f x ≤ fold (λ b y. max b (f y)) a xs) xs
 each_greatest f a [] = All-nil (λ x. f x ≤ a)
 each_greatest f a (x ∷ xs) =
     All-cons (λ y. f y ≤ fold (λ b z. max b (f z)) (max a (f x)) xs) x xs (omega (arith, start_greatest f (max a (f x)) xs)) (each_greatest f (max a (f x)) xs)
 
-all_before_map : {X Y : Type 0} (P : Y → Type 0) (f : X → Y) (xs : List X) → All P (map f xs) → All (λ x. P (f x)) xs
+pub all_before_map : {X Y : Type 0} (P : Y → Type 0) (f : X → Y) (xs : List X) → All P (map f xs) → All (λ x. P (f x)) xs
 all_before_map P f [] h = All-nil (λ x. P (f x))
 all_before_map P f (x ∷ xs) h =
     All-cons (λ y. P (f y)) x xs (All-head P (f x) (map f xs) h) (all_before_map P f xs (All-tail P (f x) (map f xs) h))

@@ -1,5 +1,6 @@
 -- What the index of a trace says: at each key, what the trace says first.
 use Rattle.std.specs.Prelude.{◌≡◌, ℕ, Bool, ◌&&◌, nat_eq, List, Option}
+use Rattle.std.specs.List.{list_any}
 use Rattle.std.specs.HashMap.{HashMap, get}
 use Rattle.std.specs.HashSet.{HashSet, contains}
 use Rattle.bd_base.specs.declared.act.Entry.{Entry}
@@ -7,7 +8,7 @@ use Rattle.bd_base.specs.declared.act.Outcome.{Outcome}
 use Rattle.bd_base.specs.declared.id.ReqId.{ReqId}
 use Rattle.bd_base.specs.declared.request.Shown.{Shown}
 use Rattle.bd_base.specs.declared.request.Status.{Status}
-use Rattle.bd_report.specs.Report.{first_found, outcome_in, completion_in, has_succeeded, digest_in}
+use Rattle.bd_report.specs.Report.{first_found, outcome_in, completion_in, has_succeeded, digest_in, is_closed, was_told}
 
 -- the same two numbers, as of a thread and a line there or a request there
 abbrev pub same_pair : ℕ × ℕ → ℕ × ℕ → Bool
@@ -33,3 +34,11 @@ module _ {S : Type 0} where
   -- at each device, the first digest
   abbrev pub TellsDigests : HashMap ℕ (List ℕ) S → List Entry → Type 0
   TellsDigests m trace = (device : ℕ) → get nat_eq m device ≡ first_found (digest_in device) trace
+
+  -- for each thread and handle, whether the thread took the handle's remove event before the handle was closed
+  abbrev pub TellsTold : HashSet (ℕ × ℕ) S → List Entry → Type 0
+  TellsTold s trace = (thread number : ℕ) → contains same_pair s (thread, number) ≡ was_told trace thread number
+
+  -- whether each handle was closed
+  abbrev pub TellsClosed : HashSet ℕ S → List Entry → Type 0
+  TellsClosed s trace = (number : ℕ) → contains nat_eq s number ≡ list_any (is_closed number) trace

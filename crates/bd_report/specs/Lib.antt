@@ -1,4 +1,5 @@
 pub mod First
+pub mod Handles
 pub mod Index
 pub mod Moved
 pub mod Order

@@ -1,6 +1,7 @@
 -- The report of a run, as a function of its setup and its trace.
-use Rattle.std.specs.Prelude.{ℕ, ◌+◌, ◌-◌, ◌*◌, ◌^◌, Bool, true, false, not, ◌&&◌, ◌==◌, if◌then◌else◌, List, [], ◌∷◌, ◌++◌, length, max, min, codes, decimal, flat_map, filter_map, count_by, sum_by, fold, Option, Some, None}
-use Rattle.std.specs.List.{list_any, range_with_len, slice_get}
+use Rattle.std.specs.Prelude.{ℕ, ◌+◌, ◌-◌, ◌*◌, ◌^◌, Bool, true, false, not, ◌&&◌, ◌==◌, if◌then◌else◌, List, [], ◌∷◌, ◌++◌, take, length, max, min, codes, decimal, flat_map, filter_map, count_by, sum_by, fold, Option, Some, None}
+use Rattle.std.specs.List.{before_first, filter, find, list_any, range_with_len, slice_get}
+use Rattle.std.specs.Option.{option_and_then, option_map}
 use Rattle.hex.specs.Hex.{encode_lower}
 use Rattle.bd_base.specs.Errno.{number_of}
 use Rattle.bd_base.specs.Word.{job_word, status_word, kind_word}
@@ -9,10 +10,15 @@ use Rattle.bd_base.specs.declared.act.Act.TheVariants as acts
 use Rattle.bd_base.specs.declared.act.Entry.{Entry}
 use Rattle.bd_base.specs.declared.act.Outcome.{Outcome}
 use Rattle.bd_base.specs.declared.act.Outcome.TheVariants as outcomes
+use Rattle.bd_base.specs.declared.act.Token.TheVariants as tokens
 use Rattle.bd_base.specs.declared.device.DevRow.{DevRow}
 use Rattle.bd_base.specs.declared.device.Kind.{Kind}
 use Rattle.bd_base.specs.declared.device.Kind.TheVariants.{Malloc}
+use Rattle.bd_base.specs.declared.event.Answer.TheVariants as answers
+use Rattle.bd_base.specs.declared.event.RegEvent.TheVariants as events
 use Rattle.bd_base.specs.declared.id.ReqId.{ReqId}
+use Rattle.bd_base.specs.declared.job.Job.{Job}
+use Rattle.bd_base.specs.declared.job.Job.TheVariants as jobs
 use Rattle.bd_base.specs.declared.job.Line.{Line}
 use Rattle.bd_base.specs.declared.job.Script.{Script}
 use Rattle.bd_base.specs.declared.request.Op.{Op}
@@ -61,6 +67,15 @@ digest_in_act device _ = None
 -- the same of an entry
 abbrev pub digest_in : ℕ → Entry → Option (List ℕ)
 digest_in device entry = digest_in_act device entry.act
+
+-- whether a thread's entries are meant; with no thread those of all are
+abbrev pub is_meant : Option ℕ → ℕ → Bool
+is_meant None thread = true
+is_meant (Some meant) thread = thread == meant
+
+-- how many of a thread's acts, or of all, pass a test
+abbrev pub count_acts : (Act → Bool) → Option ℕ → List Entry → ℕ
+count_acts test thread trace = count_by (λ entry. is_meant thread entry.thread && test entry.act) trace
 
 -- ---- lines of commands
 
@@ -112,6 +127,128 @@ greatest_number scripts = fold (λ greatest script. max greatest (greatest_in sc
 abbrev pub job_lines : List Script → List Entry → List ℕ
 job_lines scripts trace = flat_map (lines_numbered scripts trace) (range_with_len 0 (greatest_number scripts + 1))
 
+-- ---- lines of removed handles
+
+-- a handle that a thread opened for a line of its script: its number, the name that the line gives it, and its device's name
+pub record Handle : Type 0 where
+  pub thread : ℕ
+  pub number : ℕ
+  pub name : List ℕ
+  pub device : List ℕ
+
+-- a script's line was done
+abbrev pub is_script : Act → Bool
+is_script (acts.Script line outcome) = true
+is_script _ = false
+
+-- how many lines a thread has done
+abbrev pub lines_done : List Entry → ℕ → ℕ
+lines_done entries thread = count_acts is_script (Some thread) entries
+
+-- the lines of a script, if there is one
+abbrev pub lines_in : Option Script → List Line
+lines_in None = []
+lines_in (Some script) = script.lines
+
+-- a thread's lines
+abbrev pub lines_of : List Script → ℕ → List Line
+lines_of scripts thread = lines_in (find (λ script. script.thread == thread) scripts)
+
+-- the name that a command gives to the handle that it opens
+abbrev pub name_in : Job → Option (List ℕ)
+name_in (jobs.Open handle dev write) = Some handle
+name_in _ = None
+
+-- the name that a thread's next line gives to the handle that it opens, by how many lines the thread has done
+abbrev pub next_name : List Script → ℕ → ℕ → Option (List ℕ)
+next_name scripts thread done = option_and_then (λ line. name_in line.job) (slice_get (lines_of scripts thread) done)
+
+-- the number and the device's name of the handle that the act opens
+abbrev pub opened_in_act : Act → Option (ℕ × List ℕ)
+opened_in_act (acts.Reg (events.Open device write) (answers.Opened handle dev)) = Some (handle.0, device)
+opened_in_act _ = None
+
+-- a thread's handle with this number and device, if it has a name
+abbrev pub handle_named : ℕ → Option (List ℕ) → ℕ × List ℕ → Option Handle
+handle_named thread name opened = option_map (λ n. record { thread = thread; number = opened.0; name = n; device = opened.1 }) name
+
+-- the handle that an entry opens for the next line of its thread, by how many lines the thread has done
+abbrev pub opened_in : List Script → ℕ → Entry → Option Handle
+opened_in scripts done entry = option_and_then (handle_named entry.thread (next_name scripts entry.thread done)) (opened_in_act entry.act)
+
+-- the handle that the entry at this place opens for its thread's next line
+abbrev pub opened_at : List Script → List Entry → ℕ → Option Handle
+opened_at scripts trace place =
+    option_and_then (λ entry. opened_in scripts (lines_done (take place trace) entry.thread) entry) (slice_get trace place)
+
+-- the handles that were opened for the lines of scripts
+abbrev pub opened_handles : List Script → List Entry → List Handle
+opened_handles scripts trace = filter_map (opened_at scripts trace) (range_with_len 0 (length trace))
+
+-- the number of the handle whose remove event the act takes
+abbrev pub gone_in : Act → Option ℕ
+gone_in (acts.Took source number (tokens.Gone handle)) = Some handle.0
+gone_in _ = None
+
+-- the number of the handle that the act closes
+abbrev pub closed_in : Act → Option ℕ
+closed_in (acts.Reg (events.Close handle) (answers.Closed destruct)) = Some handle.0
+closed_in _ = None
+
+-- whether this number was found
+abbrev pub is_number : ℕ → Option ℕ → Bool
+is_number number None = false
+is_number number (Some found) = found == number
+
+-- whether the thread takes the handle's remove event
+abbrev pub is_told : ℕ → ℕ → Entry → Bool
+is_told thread number entry = (entry.thread == thread) && is_number number (gone_in entry.act)
+
+-- whether the handle is closed
+abbrev pub is_closed : ℕ → Entry → Bool
+is_closed number entry = is_number number (closed_in entry.act)
+
+-- whether the thread took the handle's remove event before the handle was closed
+abbrev pub was_told : List Entry → ℕ → ℕ → Bool
+was_told trace thread number = list_any (is_told thread number) (before_first (is_closed number) trace)
+
+-- the same of a handle and its thread
+abbrev pub was_removed : List Entry → Handle → Bool
+was_removed trace handle = was_told trace handle.thread handle.number
+
+-- the handles of scripts whose remove event was taken while they were open
+abbrev pub removed_handles : List Script → List Entry → List Handle
+removed_handles scripts trace = filter (was_removed trace) (opened_handles scripts trace)
+
+-- a handle's thread, name and device
+abbrev pub gone_line : Handle → List ℕ
+gone_line handle = codes "gone " ++ decimal handle.thread ++ codes " " ++ handle.name ++ codes " " ++ handle.device ++ codes "\n"
+
+-- a handle's line, if the handle is this thread's
+abbrev pub gone_line_of : ℕ → Handle → List ℕ
+gone_line_of thread handle = if handle.thread == thread then gone_line handle else []
+
+-- the same, if the handle has this number
+abbrev pub gone_line_at : ℕ → ℕ → Handle → List ℕ
+gone_line_at thread number handle = if handle.number == number then gone_line_of thread handle else []
+
+-- the greatest thread or number of handles
+abbrev pub greatest_of : (Handle → ℕ) → List Handle → ℕ
+greatest_of part handles = fold (λ greatest handle. max greatest (part handle)) 0 handles
+
+-- the lines of a thread's handles in rising order of number
+abbrev pub thread_gone_lines : List Handle → ℕ → List ℕ
+thread_gone_lines handles thread =
+    flat_map (λ number. flat_map (gone_line_at thread number) handles) (range_with_len 0 (greatest_of (λ handle. handle.number) handles + 1))
+
+-- the lines of handles by thread, then by number
+abbrev pub ordered_lines : List Handle → List ℕ
+ordered_lines handles = flat_map (thread_gone_lines handles) (range_with_len 0 (greatest_of (λ handle. handle.thread) handles + 1))
+
+-- the handles of scripts whose remove event was taken while they were open
+abbrev pub gone_lines : List Script → List Entry → List ℕ
+gone_lines scripts trace = ordered_lines (removed_handles scripts trace)
+
 -- ---- lines of waiting commands
 
 -- a command whose base never came: its place among the commands, its method and that base
@@ -119,11 +256,6 @@ abbrev pub waiting_line : Waiting → List ℕ
 waiting_line waiting = codes "waiting " ++ decimal waiting.index ++ codes " " ++ waiting.method ++ codes " " ++ waiting.base ++ codes "\n"
 
 -- ---- lines of threads
-
--- whether a thread's entries are meant; with no thread those of all are
-abbrev pub is_meant : Option ℕ → ℕ → Bool
-is_meant None thread = true
-is_meant (Some meant) thread = thread == meant
 
 -- a request was accepted
 abbrev pub is_accept : Act → Bool
@@ -146,10 +278,6 @@ is_status _ _ = false
 abbrev pub is_end : Status → Act → Bool
 is_end status (acts.Complete req ended shown) = is_status status ended
 is_end status _ = false
-
--- how many of a thread's acts, or of all, pass a test
-abbrev pub count_acts : (Act → Bool) → Option ℕ → List Entry → ℕ
-count_acts test thread trace = count_by (λ entry. is_meant thread entry.thread && test entry.act) trace
 
 -- how many requests of a thread, or of all, were accepted, and how they ended
 abbrev pub tally_words : Option ℕ → List Entry → List ℕ
@@ -261,8 +389,8 @@ device_lines trace device (row ∷ rows) = device_line trace device row ++ devic
 abbrev pub end_line : List Entry → List ℕ
 end_line trace = codes "end" ++ tally_words None trace ++ codes "\n"
 
--- commands by line number, waiting commands, threads, devices, and the end
+-- commands by line number, removed handles, waiting commands, threads, devices, and the end
 abbrev pub report_of : Setup → List Entry → List ℕ
 report_of setup trace =
-    job_lines setup.scripts trace ++ flat_map waiting_line setup.waiting ++ thread_lines setup trace ++
+    job_lines setup.scripts trace ++ gone_lines setup.scripts trace ++ flat_map waiting_line setup.waiting ++ thread_lines setup trace ++
     device_lines trace 0 setup.devices ++ end_line trace

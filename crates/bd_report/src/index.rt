@@ -1,7 +1,7 @@
 //! What a trace says, found by key: of a line, a request, a thread or a device.
 ghost use Rattle.std.specs.Prelude.{◌≡◌, IfOk};
 ghost use Rattle.bd_report.specs.Moved.{moved_of};
-ghost use Rattle.bd_report.specs.Report.{first_found, outcome_in, completion_in, digest_in};
+ghost use Rattle.bd_report.specs.Report.{first_found, outcome_in, completion_in, digest_in, was_told};
 ghost use Rattle.bd_report.specs.Tally.{tally_of};
 
 use crate::digests::{Digests, first_digests};
@@ -9,6 +9,7 @@ use crate::ends::Ends;
 use crate::moved::{DeviceMoves, Moved, device_moves, moved_at};
 use crate::outcomes::{Outcomes, first_outcomes};
 use crate::tally::{Tallies, Tally, tally_at, thread_tallies, whole_tally};
+use crate::told::{ToldHandles, told_handles};
 use bd_base::{Entry, OutOfMemory, Outcome, ReqId, Shown, Status, Way};
 use std::alloc::Global;
 use std::marker::Model;
@@ -19,6 +20,7 @@ pub(crate) struct TraceIndex<'a> {
     ends: Ends<'a>,
     outcomes: Outcomes,
     digests: Digests,
+    told: ToldHandles,
     whole: Tally,
     tallies: Tallies,
     reads: DeviceMoves,
@@ -50,11 +52,19 @@ impl<'a> TraceIndex<'a> {
             ends,
             outcomes: first_outcomes(alloc, trace)?,
             digests: first_digests(alloc, trace)?,
+            told: told_handles(alloc, trace)?,
             whole: whole_tally(trace),
             tallies: thread_tallies(alloc, trace)?,
             reads,
             writes,
         })
+    }
+
+    /// The whole trace.
+    pub(crate) fn trace(&self) -> &'a [Entry]
+        ensures { result.now ≡ self.now }
+    {
+        self.ends.trace()
     }
 
     /// The first outcome of a thread's line.
@@ -76,6 +86,13 @@ impl<'a> TraceIndex<'a> {
         ensures { result ≡ first_found (digest_in device) self.now }
     {
         self.digests.get(&device).copied()
+    }
+
+    /// Whether a thread took a handle's remove event before the handle was closed.
+    pub(crate) fn was_told(&self, thread: u32, number: u128) -> bool
+        ensures { result ≡ was_told self.now thread number }
+    {
+        self.told.contains(&(thread, number))
     }
 
     /// The counts of a thread's acts, or of all.

@@ -4,9 +4,11 @@
 mod digests;
 mod ends;
 mod first;
+mod handles;
 mod index;
 mod moved;
 mod order;
 mod outcomes;
 pub mod report;
 mod tally;
+mod told;

@@ -1,11 +1,14 @@
-//! The report of a run: a line for each command, for each command that waits for its base, for each
-//! thread that has a command and for each device, and one for the whole run.
+//! The report of a run: a line for each command, for each handle of a script whose device was removed
+//! while it was open, for each command that waits for its base, for each thread that has a command and
+//! for each device, and one for the whole run.
 ghost use Rattle.std.specs.Prelude.{◌≡◌, ◌++◌, ◌*◌, ◌-◌, ◌^◌, ◌&&◌, ◌==◌, length, min, flat_map, IfOk, OnOk, codes};
 ghost use Rattle.std.specs.List.{list_any};
 ghost use Rattle.hex.specs.Hex.{encode_lower};
+ghost use Rattle.bd_report.specs.Handles.{line_of_opened};
 ghost use Rattle.bd_report.specs.Order.{command_line};
-ghost use Rattle.bd_report.specs.Report.{report_of, job_lines, job_line, outcome_words, completion_words, shown_words, waiting_line, tally_words, thread_line, thread_line_if, thread_lines, is_busy_script, is_malloc, contents_words, digest_words, device_size_words, moved_words, counts_words, device_line, device_lines, end_line};
+ghost use Rattle.bd_report.specs.Report.{report_of, job_lines, job_line, gone_lines, outcome_words, completion_words, shown_words, waiting_line, tally_words, thread_line, thread_line_if, thread_lines, is_busy_script, is_malloc, contents_words, digest_words, device_size_words, moved_words, counts_words, device_line, device_lines, end_line};
 
+use crate::handles::{OpenedHandle, removed_in_order};
 use crate::index::TraceIndex;
 use crate::order::{Command, in_order};
 use bd_base::{
@@ -29,6 +32,7 @@ fn write_report(alloc: Global, setup: &Setup, index: &TraceIndex) -> Result<Vec<
 {
     let mut out = Vec::new(alloc);
     write_jobs(alloc, &mut out, setup.scripts.as_slice(), index)?;
+    write_removed(alloc, &mut out, setup.scripts.as_slice(), index)?;
     write_waiting(alloc, &mut out, setup.waiting.as_slice())?;
     write_threads(alloc, &mut out, setup, index)?;
     write_devices(alloc, &mut out, index, setup.devices.as_slice())?;
@@ -157,6 +161,50 @@ fn write_hex(alloc: Global, out: &mut Vec<u8>, bytes: &[u8]) -> Result<(), OutOf
 {
     let text = hex::encode(alloc, bytes)?;
     out.extend_from_slice(text.as_bytes())?;
+    Ok(())
+}
+
+// ---- removed handles
+
+// Writes the handles of scripts whose remove event was taken while they were open.
+fn write_removed(
+    alloc: Global,
+    out: &mut Vec<u8>,
+    scripts: &[Script],
+    index: &TraceIndex,
+) -> Result<(), OutOfMemory>
+    ensures { OnOk result (out.new.items ≡ out.old.items ++ gone_lines scripts.now index.now) }
+{
+    let handles = removed_in_order(alloc, scripts, index)?;
+    write_handles(alloc, out, handles.as_slice())?;
+    Ok(())
+}
+
+// Writes handles in their order.
+fn write_handles(
+    alloc: Global,
+    out: &mut Vec<u8>,
+    handles: &[OpenedHandle],
+) -> Result<(), OutOfMemory>
+    ensures { OnOk result (out.new.items ≡ out.old.items ++ flat_map line_of_opened handles.now) }
+{
+    for handle in handles {
+        write_handle(alloc, out, *handle)?;
+    }
+    Ok(())
+}
+
+// Writes a handle's thread, name and device.
+fn write_handle(alloc: Global, out: &mut Vec<u8>, handle: OpenedHandle) -> Result<(), OutOfMemory>
+    ensures { OnOk result (out.new.items ≡ out.old.items ++ line_of_opened handle.entry) }
+{
+    let thread = handle.thread;
+    let start = format!(in alloc; "gone {thread} ")?;
+    out.extend_from_slice(start.as_bytes())?;
+    out.extend_from_slice(handle.name.as_slice())?;
+    out.extend_from_slice(b" ")?;
+    out.extend_from_slice(handle.device.as_slice())?;
+    out.extend_from_slice(b"\n")?;
     Ok(())
 }
 

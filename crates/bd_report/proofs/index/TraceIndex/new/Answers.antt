@@ -7,6 +7,7 @@ invariant_of-result-2 c =
     record {
       outcomes = rw whole c.in_ok-first_outcomes.ensures;
       digests = rw whole c.in_ok-first_digests.ensures;
+      told = rw whole c.in_ok-told_handles.ensures;
       whole = rw whole c.whole_tally.ensures;
       tallies = rw whole c.in_ok-thread_tallies.ensures;
       reads = rw c.ends.view_is c.in_ok-reads.ensures;
