@@ -313,22 +313,35 @@ class Maker:
 
     def full_threads(self):
         """Threads with as many open requests as a thread may have, and more lines than that."""
-        remover = self.remover()
-        # Two of these scripts fill 16 threads; the others fill up to 3 of them.
-        all_full = self.number % 100 == 17
-        if all_full:
+        # Two of these scripts fill 16 threads; the others fill up to 4 of them.
+        if self.number % 100 == 17:
             self.threads = 16
             self.shared = self.blocks // 17 * 16
             self.all = [Thread(self, number) for number in range(16)]
-            remover = self.remover()
+        most = 15 if self.number % 100 == 17 else 4
+        others = self.all[1:] if self.threads > 2 else self.all
+        remover = self.random.choice(others)
+        full = self.random.sample([thread for thread in self.all if thread is not remover] or self.all, min(most, max(1, self.threads - 1)))
+        # The walk comes to threads whose requests aren't all sent only where it needn't go behind them: where the device's
+        # home has no handle itself, and the remover no requests.
+        is_quick = self.threads > 2 and self.random.random() < 0.8
         for thread in self.all:
-            full = all_full or thread.number < 3
-            thread.opens(self.random.randrange(1, 4))
-            thread.burst(MOST_OPEN + self.random.choice([-1, 0, 1, 40]) if full else self.requests(60))
+            if is_quick and thread is remover:
+                thread.opens(self.random.randrange(3))
+                # Lines that take it some turns, while the others fill the queue of the home.
+                for _ in range(self.random.choice([600, 750, 900])):
+                    thread.say("close", "unbound")
+            elif not (is_quick and thread.number == 0):
+                thread.opens(self.random.randrange(1, 4))
+                if thread in full:
+                    thread.burst(self.random.choice([800, MOST_OPEN - 1, MOST_OPEN, MOST_OPEN + 40]))
+                else:
+                    thread.burst(self.random.randrange(10))
             if thread is remover:
                 thread.say("remove", DEVICE)
-            thread.burst(self.random.choice([0, 20]))
-            thread.after()
+            if thread.handles:
+                thread.burst(self.random.choice([0, 20]))
+                thread.after()
 
     def left(self):
         """Scripts that stop: a mark that nobody posts, a remove event that may not come, handles that nobody closes."""
