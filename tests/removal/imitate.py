@@ -1,0 +1,383 @@
+"""Plays a script by the rules of docs/MODEL.md in an order by chance, and gives the report.
+
+It serves to try the checker: whatever the order, the checker must find nothing wrong with what comes out. It shares no
+code with the program or the checker, and knows one malloc device. Each thread acts in single steps; which thread is next,
+and which of the things that it may do it does, is left to chance.
+"""
+
+import hashlib
+import random
+from collections import deque
+
+WRITERS = ("write", "zeroes", "unmap", "flush")
+REQUESTS = ("read",) + WRITERS
+# The pattern that begins with 0. Another one begins elsewhere in it: its first byte f stands at 183 * f, as 7 * 183 is 1
+# modulo 256.
+STEPS = bytes(7 * i % 256 for i in range(256))
+
+
+class Handle:
+    def __init__(self, thread, name, write):
+        self.thread, self.name, self.write, self.claim = thread, name, write, None
+        self.is_open = self.was_told_open = self.is_gone = False
+        self.requests = 0
+
+
+class Request:
+    def __init__(self, line, words, handle):
+        self.line, self.words, self.handle, self.data, self.status = line, words, handle, None, None
+
+
+class Thread:
+    def __init__(self):
+        self.lines, self.next, self.names, self.marks = [], 0, {}, set()
+        self.is_marked = False
+        self.unsent, self.ended = [], []  # open requests whose piece is here: not sent, or back
+        self.open = 0
+        self.due = []  # messages to be put: (receiver, message)
+        self.owed = []  # what is to be done once: "drop", "destruct", "report"
+        self.gone = []  # handles that it has to close
+        self.references, self.has_channel = 0, False
+        self.counts = dict(accepted=0, success=0, failed=0, aborted=0, refused=0)
+
+
+class Imitation:
+    def __init__(self, text, threads, name, blocks, size, seed, end_removes=False):
+        self.random = random.Random(seed)
+        self.name, self.blocks, self.size, self.end_removes = name, blocks, size, end_removes
+        self.threads = [Thread() for _ in range(threads)]
+        self.results, self.jobs = {}, []
+        for number, line in enumerate(text.split("\n"), 1):
+            words = line.replace("\t", " ").split()
+            if words and not line.startswith("#"):
+                self.threads[int(words[0])].lines.append((number, words[1:]))
+                self.jobs.append((number, words[0], words[1]))
+        self.rings = [[deque() for _ in range(threads)] for _ in range(threads)]
+        self.waiting = [0] * threads
+        self.standing = "live"
+        self.named = False
+        self.handles, self.queue, self.content = [], deque(), [bytes(size)] * blocks
+        self.moved = dict(read=[0, 0], write=[0, 0])
+        self.shut = False
+        self.digest = None
+        # How willing a thread is to do each kind of thing differs from run to run.
+        kinds = ("take", "put", "line", "send", "abort", "complete", "close", "owe", "serve")
+        self.weights = {kind: self.random.choice([0.02, 0.3, 1, 1, 5]) for kind in kinds}
+        self.weights["send"] *= self.random.choice([0.01, 1])
+
+    # ---- what a thread may do now, each kind with the call that does it
+
+    def choices(self, t):
+        thread = self.threads[t]
+        if self.waiting[t]:
+            yield "take", self.take
+        if thread.due:
+            yield "put", self.put
+        if not self.shut and thread.next < len(thread.lines) and self.outcome(t, try_only=True):
+            yield "line", self.outcome
+        if thread.unsent:
+            yield "send", self.send
+            if thread.is_marked:
+                yield "abort", self.abort
+        if thread.ended:
+            yield "complete", self.complete
+        if any(handle.requests == 0 for handle in thread.gone):
+            yield "close", self.close_gone
+        if thread.owed:
+            yield "owe", self.pay
+        if t == 0 and self.queue:
+            yield "serve", self.serve
+
+    def play(self):
+        while True:
+            some = list(range(len(self.threads)))
+            self.random.shuffle(some)
+            moved = False
+            for t in some:
+                choices = list(self.choices(t))
+                if choices:
+                    moved = True
+                    weights = [self.weights[kind] for kind, _ in choices]
+                    # Now and then a thread rests, so that some are much slower than others.
+                    if self.random.random() < 0.9:
+                        for _ in range(self.random.choice([1, 1, 2, 6])):
+                            kind, call = self.random.choices(choices, weights)[0]
+                            call(t)
+                            choices = list(self.choices(t))
+                            weights = [self.weights[kind] for kind, _ in choices]
+                            if not choices:
+                                break
+            if not moved:
+                if self.shut:
+                    return self.report()
+                self.shut = True
+                if self.standing == "live":
+                    if self.end_removes:
+                        self.begin_removal(0)
+                    else:
+                        self.digest = hashlib.sha256(b"".join(self.content)).hexdigest()
+
+    # ---- messages
+
+    def send_to(self, sender, receiver, message):
+        self.rings[sender][receiver].append(message)
+        self.waiting[receiver] += 1
+
+    def take(self, t):
+        source = self.random.choice([s for s in range(len(self.threads)) if self.rings[s][t]])
+        message = self.rings[source][t].popleft()
+        self.waiting[t] -= 1
+        kind, what = message
+        thread = self.threads[t]
+        if kind == "piece":
+            self.queue.append(what)
+        elif kind == "back":
+            thread.ended.append(what)
+        elif kind == "mark":
+            thread.marks.add(what)
+        elif kind == "gone":
+            what.is_gone = True
+            if what.is_open:
+                what.was_told_open = True
+                thread.gone.append(what)
+        elif kind == "walk":
+            begun_by, left = what
+            if left and left[0] == t:
+                thread.is_marked = True
+                left = left[1:]
+            if left or t != begun_by:
+                thread.due.append((left[0] if left else begun_by, ("walk", (begun_by, left))))
+        else:
+            thread.owed.append(kind)
+
+    def put(self, t):
+        due = self.threads[t].due
+        receiver, message = due.pop(self.random.randrange(len(due)))
+        self.send_to(t, receiver, message)
+
+    # ---- requests
+
+    def send(self, t):
+        unsent = self.threads[t].unsent
+        request = unsent.pop(self.random.choice([0, 0, self.random.randrange(len(unsent))]))
+        self.send_to(t, 0, ("piece", (t, request)))
+
+    def abort(self, t):
+        unsent = self.threads[t].unsent
+        request = unsent.pop(self.random.randrange(len(unsent)))
+        request.status = "aborted"
+        self.threads[t].ended.append(request)
+
+    def serve(self, _):
+        t, request = self.queue.popleft()
+        word, lba, count = request.words[0], int(request.words[2]), int(request.words[3])
+        for block in range(lba, lba + count):
+            if word == "write":
+                first = int(request.words[4]) + 31 * block
+                self.content[block] = (STEPS * 2)[first * 183 % 256:][:256] * (self.size // 256)
+            elif word in ("zeroes", "unmap"):
+                self.content[block] = bytes(self.size)
+        if word == "read":
+            request.data = b"".join(self.content[lba:lba + count])
+        request.status = "success"
+        self.threads[0].due.append((t, ("back", request)))
+
+    def complete(self, t):
+        thread = self.threads[t]
+        request = thread.ended.pop(self.random.randrange(len(thread.ended)))
+        thread.open -= 1
+        request.handle.requests -= 1
+        thread.counts[request.status] += 1
+        result = request.status
+        if result == "success" and request.words[0] in self.moved:
+            moved = self.moved[request.words[0]]
+            moved[0] += 1
+            moved[1] += int(request.words[3]) * self.size
+            if request.data is not None:
+                result += " first %s sha256 %s" % (request.data[:8].hex(), hashlib.sha256(request.data).hexdigest())
+        self.results[request.line] = result
+
+    # ---- handles, channels and the device
+
+    def free(self, t):
+        """Names the device for destruction once it is being removed and nothing keeps it."""
+        kept = any(handle.is_open for handle in self.handles) or any(thread.has_channel for thread in self.threads)
+        if self.standing == "removing" and not kept and not self.named:
+            self.named = True
+            self.threads[t].due.append((0, ("destruct", None)))
+
+    def close(self, t, handle):
+        thread = self.threads[t]
+        thread.references -= 1
+        if thread.references == 0:
+            thread.due.append((t, ("drop", None)))
+        handle.is_open, handle.claim = False, None
+        self.free(t)
+
+    def close_gone(self, t):
+        thread = self.threads[t]
+        handle = self.random.choice([handle for handle in thread.gone if handle.requests == 0])
+        thread.gone.remove(handle)
+        self.close(t, handle)
+
+    def pay(self, t):
+        thread = self.threads[t]
+        what = thread.owed.pop(self.random.randrange(len(thread.owed)))
+        if what == "drop":
+            if thread.references == 0 and thread.has_channel:
+                thread.has_channel = False
+                self.free(t)
+        elif what == "destruct":
+            self.digest = hashlib.sha256(b"".join(self.content)).hexdigest()
+            thread.owed.append("report")
+        else:
+            self.standing = "destructed"
+
+    def begin_removal(self, t):
+        thread = self.threads[t]
+        self.standing = "removing"
+        for handle in self.handles:
+            if handle.is_open:
+                thread.due.append((handle.thread, ("gone", handle)))
+        left = [u for u, other in enumerate(self.threads) if other.has_channel]
+        if left:
+            thread.due.append((left[0], ("walk", (t, left))))
+        self.free(t)
+
+    # ---- the script
+
+    def outcome(self, t, try_only=False):
+        """Whether the next line goes on; and does it, unless it is only tried."""
+        thread = self.threads[t]
+        number, words = thread.lines[thread.next]
+        word = words[0]
+        handle = thread.names.get(words[1]) if len(words) > 1 else None
+        if word == "wait" and thread.open > 0:
+            return False
+        if word == "await" and words[1] not in thread.marks:
+            return False
+        if word == "gone" and handle is not None and not handle.is_gone:
+            return False
+        if word in REQUESTS and thread.open >= 1024:
+            return False
+        if word == "close" and handle is not None and handle.is_open and handle.is_gone and handle.requests == 0:
+            return False
+        if not try_only:
+            result = getattr(self, "do_" + (word if word not in REQUESTS else "request"))(t, thread, words, handle)
+            thread.next += 1
+            if isinstance(result, Request):
+                result.line = number
+            else:
+                self.results[number] = "ok" if result is None else "errno %s" % result
+        return True
+
+    def do_wait(self, *_):
+        return None
+
+    do_await = do_wait
+
+    def do_gone(self, t, thread, words, handle):
+        return 9 if handle is None else None
+
+    def do_post(self, t, thread, words, handle):
+        for u in range(len(self.threads)):
+            thread.due.append((u, ("mark", words[1])))
+
+    def do_open(self, t, thread, words, handle):
+        if handle is not None and handle.is_open:
+            return 17
+        if words[2] != self.name or self.standing != "live":
+            return 19
+        if words[3] == "w" and any(other.is_open and other.claim for other in self.handles):
+            return 1
+        handle = Handle(t, words[1], words[3] == "w")
+        handle.is_open = True
+        self.handles.append(handle)
+        thread.names[words[1]] = handle
+        thread.references += 1
+        thread.has_channel = True
+        return None
+
+    def do_close(self, t, thread, words, handle):
+        if handle is None:
+            return 9
+        if not handle.is_open:
+            return 19
+        if handle.requests > 0:
+            return "16 open %d" % handle.requests
+        self.close(t, handle)
+        del thread.names[words[1]]
+        return None
+
+    def do_claim(self, t, thread, words, handle):
+        if handle is None:
+            return 9
+        if not handle.is_open or self.standing != "live":
+            return 19
+        kind = words[2:]
+        if kind == ["shared", "0"]:
+            return 22
+        everyone = [other for other in self.handles if other.is_open]
+        claims = [other.claim for other in everyone if other.claim]
+        writing = [other for other in everyone if other.write and other is not handle]
+        if handle.claim or [claim for claim in claims if claim != kind or kind[0] in ("exclusive", "one")]:
+            return 1
+        if kind[0] == "one" and writing or kind[0] == "none" and (writing or handle.write):
+            return 1
+        if kind[0] == "shared" and [other for other in writing if other.claim != kind]:
+            return 1
+        handle.claim = kind
+        handle.write |= kind[0] != "none"
+        return None
+
+    def do_remove(self, t, thread, words, handle):
+        if words[1] != self.name or self.standing == "destructed":
+            return 19
+        if self.standing == "removing":
+            return 16
+        self.begin_removal(t)
+        return None
+
+    def do_request(self, t, thread, words, handle):
+        errno = self.refusal(thread, words, handle)
+        if errno is not None:
+            thread.counts["refused"] += 1
+            return errno
+        request = Request(None, words, handle)
+        thread.counts["accepted"] += 1
+        thread.open += 1
+        handle.requests += 1
+        thread.unsent.append(request)
+        return request
+
+    def refusal(self, thread, words, handle):
+        if handle is None:
+            return 9
+        if handle.is_gone or (handle.is_open and thread.is_marked):
+            return 19
+        if words[0] in WRITERS and not handle.write:
+            return 9
+        lba, count = int(words[2]), int(words[3])
+        if count == 0 or count * self.size > 262144 or lba + count > self.blocks:
+            return 22
+        return None
+
+    # ---- the report
+
+    def report(self):
+        out = ["job %s %s %s %s" % (number, t, word, self.results.get(number, "skipped")) for number, t, word in self.jobs]
+        for t in range(len(self.threads)):
+            out += ["gone %d %s %s" % (t, handle.name, self.name) for handle in self.handles if handle.thread == t and handle.was_told_open]
+        words = ("accepted", "success", "failed", "aborted")
+        for t, thread in enumerate(self.threads):
+            if thread.lines:
+                out.append(" ".join(["thread %d" % t] + ["%s %d" % (word, thread.counts[word]) for word in words + ("refused",)]))
+        (reads, read_bytes), (writes, write_bytes) = self.moved["read"], self.moved["write"]
+        out.append("device %s malloc blocks %d size %d reads %d writes %d read_bytes %d write_bytes %d sha256 %s" % (
+            self.name, self.blocks, self.size, reads, writes, read_bytes, write_bytes, self.digest))
+        out.append("end " + " ".join("%s %d" % (word, sum(thread.counts[word] for thread in self.threads)) for word in words))
+        return "\n".join(out) + "\n"
+
+
+def report(text, threads, name, blocks, size, seed, end_removes=False):
+    return Imitation(text, threads, name, blocks, size, seed, end_removes).play()
