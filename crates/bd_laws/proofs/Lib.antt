@@ -1,4 +1,7 @@
+pub mod Sums
+pub mod Channels
 pub mod Fields
+pub mod Names
 pub mod Moves
 pub mod Ledger
 pub mod Threads

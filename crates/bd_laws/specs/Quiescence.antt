@@ -10,6 +10,7 @@ use Rattle.bd_base.specs.declared.id.DevId.{DevId}
 use Rattle.bd_base.specs.declared.id.ReqId.{ReqId}
 use Rattle.bd_base.specs.declared.setup.Setup.{Setup}
 use Rattle.bd_machine.specs.Aborts.{is_below}
+use Rattle.bd_machine.specs.BlockMap.{stands_on}
 use Rattle.bd_machine.specs.Content.{Told}
 use Rattle.bd_machine.specs.Laws.{is_complete_of, count_of}
 use Rattle.bd_machine.specs.Run.{IsRun}
@@ -45,3 +46,15 @@ WalksDrain = (setup : Setup) (told : Told) (reset : ReqId) (dev : DevId) (before
     → Completes setup told reset dev before accept between complete
     → (r : ReqId) → AllByRecursion (λ (e : Entry). names_thread reset r.thread e.act ≡ true) between
     → 0 < count_of (is_accept_above setup dev r) before → 0 < count_of (is_complete_of r) (before ++ accept ∷ between)
+
+-- ---- quiescence
+
+-- each device stands on one with a number below its own, as in every setup that a configuration makes: a device is made after its base
+abbrev pub StandsOnEarlier : Setup → Type 0
+StandsOnEarlier setup = (dev base : DevId) → stands_on setup dev ≡ Some base → base.0 < dev.0
+
+-- each request but resets that was accepted before a reset, over its device, is completed before the reset is
+abbrev pub Quiescence : Type 0
+Quiescence = (setup : Setup) (told : Told) (reset : ReqId) (dev : DevId) (before : List Entry) (accept : Entry) (between : List Entry) (complete : Entry)
+    → StandsOnEarlier setup → Completes setup told reset dev before accept between complete
+    → (r : ReqId) → 0 < count_of (is_accept_above setup dev r) before → 0 < count_of (is_complete_of r) (before ++ accept ∷ between)
