@@ -5,6 +5,7 @@ pub mod Names
 pub mod Moves
 pub mod Ledger
 pub mod Threads
+pub mod Carriers
 pub mod Rows
 pub mod Covered
 pub mod Held
