@@ -2,6 +2,7 @@ pub mod Sums
 pub mod Channels
 pub mod Fields
 pub mod Names
+pub mod Counted
 pub mod Moves
 pub mod Ledger
 pub mod Threads
