@@ -392,3 +392,108 @@ module _ (setup : Setup) (ordered : StandsOnEarlier setup) (s : State) (t : ℕ)
       go : (b : Bool) → is_dropped what ≡ b → Covered setup need (counts_by (cond b (base_put refs (stands_on setup dev) ++ record { dev = dev; count = None } ∷ []) []) refs) (λ d. 0)
       go true e = dropped_covered setup ordered need refs dev (zero_is e) c
       go false e = c
+
+  -- ---- a close that follows a put
+
+  abbrev pub the_view : View
+  the_view = view s t
+
+  not_true : (b : Bool) → not b ≡ true → b ≡ false
+  not_true true h = cc
+  not_true false h = refl
+
+  -- what may be closed is open, no base handle, and has no open request
+  pub may_close_is : (id : HandleId) → may_close setup t (view s t) came id ≡ true → (is_base_handle setup id ≡ false) × ((is_some (handle_of (filter (is_of t) s.registry.handles) id) ≡ true) × ((open_on (view s t).part id == 0) ≡ true))
+  may_close_is id h =
+      let a : Bool = not (is_base_handle setup id) in
+      let b : Bool = is_some (handle_of (filter (is_of t) s.registry.handles) id) in
+      let c : Bool = open_on (view s t).part id == 0 in
+      let d : Bool = is_gone (view s t).part id || (as_yet && came.shut) || is_job_close (view s t).part id (job_now setup t (view s t) came) in
+      let p = and_parts (a && b && c) d h in
+      let q = and_parts (a && b) c p.0 in
+      let r = and_parts a b q.0 in
+      (not_true (is_base_handle setup id) r.0, (r.1, q.1))
+
+  -- it is on the device
+  handle_on : (dev : DevId) (id : HandleId) → is_handle_on dev (handle_of (filter (is_of t) s.registry.handles) id) ≡ true → (h : Handle) × ((handle_of (filter (is_of t) s.registry.handles) id ≡ Some h) × (same_dev h.dev dev ≡ true))
+  handle_on dev id k = go (handle_of (filter (is_of t) s.registry.handles) id) refl k
+    where
+      go : (o : Option Handle) → handle_of (filter (is_of t) s.registry.handles) id ≡ o → is_handle_on dev o ≡ true → (h : Handle) × ((handle_of (filter (is_of t) s.registry.handles) id ≡ Some h) × (same_dev h.dev dev ≡ true))
+      go None e k = cc
+      go (Some h) e k = (h, (e, k))
+
+  closed_answer : (id : HandleId) (h : Handle) (a : Answer) → handle_of (filter (is_of t) s.registry.handles) id ≡ Some h → same_answer a (close_answer setup s.registry t id (handle_of s.registry.handles id)) ≡ true → (destruct : Option DevId) × (a ≡ answers.Closed destruct)
+  closed_answer id h a e k =
+      let p = own_handle t id 0 s.registry.next s.registry.handles order h e in
+      let k' : same_answer a (close_answer setup s.registry t id (Some h)) ≡ true = subst (λ (o : Option Handle). same_answer a (close_answer setup s.registry t id o) ≡ true) p.0 k in
+      by a (subst (λ (b : Bool). same_answer a (cond b (answers.Closed (freed_by_close setup s.registry t id h.dev)) (answers.Refused BadDesc)) ≡ true) (eq-eqb h.thread.0 t p.1) k')
+    where
+      by : (a : Answer) → same_answer a (answers.Closed (freed_by_close setup s.registry t id h.dev)) ≡ true → (destruct : Option DevId) × (a ≡ answers.Closed destruct)
+      by (answers.Closed x) k = (x, refl)
+      by _ k = cc
+
+  -- ---- the events
+
+  abbrev Asks : RegEvent → Option Between → Type 0
+  Asks event o = asks_between setup t (view s t) came event o ≡ true
+
+  abbrev Answers : RegEvent → Answer → Type 0
+  Answers event a = same_answer a (answer_to setup s.registry t event) ≡ true
+
+  abbrev Then : RegEvent → Answer → Type 0
+  Then event a = After (handles_after t (filter (is_of t) s.registry.handles) event a) (counts_by (counts_after setup (references s.registry t) event a) (references s.registry t)) (between_after t event a)
+
+  got_then : (dev : DevId) (a : Answer) (u : ℕ) → u ≡ t → are_live setup s.registry dev ≡ true → Answers (events.GetChannel dev) a → ((d : DevId) → less d ≤ more d) → Before (Some (Opening u dev)) → Then (events.GetChannel dev) a
+  got_then dev a u same live h l c = go (got_answer dev a live h)
+    where
+      go : (fresh : Bool) × ((frozen : List DevId) × (a ≡ answers.Got fresh frozen)) → Then (events.GetChannel dev) a
+      go (fresh, (frozen, is)) = subst (λ (x : Answer). Then (events.GetChannel dev) x) (sym is) (got u dev same l c)
+
+  closed_then : (dev : DevId) (id : HandleId) (a : Answer) (u : ℕ) → is_close_on setup t (view s t) came dev (events.Close id) ≡ true → Answers (events.Close id) a → ((d : DevId) → less d ≤ more d) → Before (Some (Closing u dev)) → Then (events.Close id) a
+  closed_then dev id a u k h l c =
+      let p = and_parts (is_handle_on dev (handle_of (filter (is_of t) s.registry.handles) id)) (may_close setup t (view s t) came id) k in
+      go (handle_on dev id p.0) (may_close_is id p.1).0
+    where
+      by : (x : Handle) → handle_of (filter (is_of t) s.registry.handles) id ≡ Some x → same_dev x.dev dev ≡ true → is_base_handle setup id ≡ false → (destruct : Option DevId) × (a ≡ answers.Closed destruct) → Then (events.Close id) a
+      by x e on base (destruct, is) = subst (λ (y : Answer). Then (events.Close id) y) (sym is) (closed_between u dev id x e on base l c)
+
+      go : (x : Handle) × ((handle_of (filter (is_of t) s.registry.handles) id ≡ Some x) × (same_dev x.dev dev ≡ true)) → is_base_handle setup id ≡ false → Then (events.Close id) a
+      go (x, (e, on)) base = by x e on base (closed_answer id x a e h)
+
+  pub covered_event : (event : RegEvent) (a : Answer) → Answers event a → Asks event s.registry.between → Spends event more less → Before s.registry.between → Then event a
+  covered_event event a h q sp c = go s.registry.between refl event a h q sp c
+    where
+      none : (o : Option Between) (event : RegEvent) → is_answered_between event ≡ false → Asks event o → Before o → Before None
+      none o event n q c = subst Before (freely setup t (view s t) came event o n q) c
+
+      plain : (o : Option Between) (event : RegEvent) → is_answered_between event ≡ false → Asks event o → ((d : DevId) → less d ≤ more d) → Before o → After (filter (is_of t) s.registry.handles) (references s.registry t) None
+      plain o event n q l c = stays l (none o event n q c)
+
+      go : (o : Option Between) → s.registry.between ≡ o → (event : RegEvent) (a : Answer) → Answers event a → Asks event o → Spends event more less → Before o → Then event a
+      go o e (events.Open name write) (answers.Opened id dev) h q sp c = opened id dev write sp (none o (events.Open name write) refl q c)
+      go o e (events.Open name write) _ h q sp c = plain o (events.Open name write) refl q sp c
+      go None e (events.GetChannel dev) a h q sp c = cc
+      go (Some (Opening u d)) e (events.GetChannel dev) a h q sp c =
+          let p = and_parts (u == t) (same_dev dev d) q in
+          let same : d ≡ dev = sym (dev_exact dev d p.1) in
+          let live : are_live setup s.registry d ≡ true = subst (LiveFine setup s.registry) e fine in
+          got_then dev a u (eqb-true u t p.0) (subst (λ (x : DevId). are_live setup s.registry x ≡ true) same live) h sp (subst (λ (x : DevId). Before (Some (Opening u x))) same c)
+      go (Some (Closing u d)) e (events.GetChannel dev) a h q sp c = absurd (no_and (u == t) q)
+      go o e (events.PutChannel dev true) (answers.PutDown left) h q sp c = put_closing dev left h sp (none o (events.PutChannel dev true) refl q c)
+      go o e (events.PutChannel dev false) (answers.PutDown left) h q sp c = put_by_home dev left h sp (none o (events.PutChannel dev false) refl q c)
+      go o e (events.PutChannel dev true) _ h q sp c = plain o (events.PutChannel dev true) refl q sp c
+      go o e (events.PutChannel dev false) _ h q sp c = plain o (events.PutChannel dev false) refl q (spends_less (events.PutChannel dev false) more less sp) c
+      go None e (events.Close id) (answers.Closed destruct) h q sp c = closed_freely id sp c
+      go None e (events.Close id) _ h q sp c = stays sp c
+      go (Some (Opening u d)) e (events.Close id) a h q sp c = absurd (no_and (u == t) q)
+      go (Some (Closing u d)) e (events.Close id) a h q sp c = closed_then d id a u (and_parts (u == t) (is_close_on setup t (view s t) came d (events.Close id)) q).1 h sp c
+      go o e (events.Claim id kind) answers.Claimed h q sp c = claimed id kind sp (none o (events.Claim id kind) refl q c)
+      go o e (events.Claim id kind) _ h q sp c = plain o (events.Claim id kind) refl q sp c
+      go o e (events.DropChannel dev) (answers.Dropped what base destruct) h q sp c = drops dev what (dropped_is dev what base destruct h) sp (none o (events.DropChannel dev) refl q c)
+      go o e (events.DropChannel dev) _ h q sp c = plain o (events.DropChannel dev) refl q sp c
+      go o e (events.BeginRemove name) a h q sp c = plain o (events.BeginRemove name) refl q sp c
+      go o e (events.BeginReset dev req) a h q sp c = plain o (events.BeginReset dev req) refl q sp c
+      go o e (events.EndReset dev) a h q sp c = plain o (events.EndReset dev) refl q sp c
+      go o e (events.FinishReset dev) a h q sp c = plain o (events.FinishReset dev) refl q sp c
+      go o e (events.TakeInjection dev req op) a h q sp c = plain o (events.TakeInjection dev req op) refl q sp c
+      go o e (events.Destructed dev) a h q sp c = plain o (events.Destructed dev) refl q sp c
