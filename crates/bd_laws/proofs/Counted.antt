@@ -56,7 +56,7 @@ lower_order lo less hi (x ∷ xs) k h = (both less lo x.id.0 k h.0, h.1)
     both : (a b c : ℕ) → a ≤ b → b ≤ c → a ≤ c
     both a b c h k = omega arith
 
-order_push : (lo hi : ℕ) (hs : List Handle) (x : Handle) → x.id.0 ≡ hi → InOrder lo hs hi → InOrder lo (hs ++ x ∷ []) (hi + 1)
+pub order_push : (lo hi : ℕ) (hs : List Handle) (x : Handle) → x.id.0 ≡ hi → InOrder lo hs hi → InOrder lo (hs ++ x ∷ []) (hi + 1)
 order_push lo hi [] x e h = (as_far lo hi x.id.0 e h, next x.id.0 hi e)
   where
     as_far : (a b c : ℕ) → c ≡ b → a ≤ b → a ≤ c
@@ -66,7 +66,7 @@ order_push lo hi [] x e h = (as_far lo hi x.id.0 e h, next x.id.0 hi e)
     next a b e = omega arith
 order_push lo hi (y ∷ ys) x e h = (h.0, order_push (suc y.id.0) hi ys x e h.1)
 
-order_filter : (keep : Handle → Bool) (lo hi : ℕ) (hs : List Handle) → InOrder lo hs hi → InOrder lo (filter keep hs) hi
+pub order_filter : (keep : Handle → Bool) (lo hi : ℕ) (hs : List Handle) → InOrder lo hs hi → InOrder lo (filter keep hs) hi
 order_filter keep lo hi [] h = h
 order_filter keep lo hi (x ∷ xs) h = go (keep x) (order_filter keep (suc x.id.0) hi xs h.1)
   where
@@ -77,14 +77,14 @@ order_filter keep lo hi (x ∷ xs) h = go (keep x) (order_filter keep (suc x.id.
     go true ih = (h.0, ih)
     go false ih = lower_order (suc x.id.0) lo hi (filter keep xs) (later lo x.id.0 h.0) ih
 
-order_map : (f : Handle → Handle) → ((x : Handle) → (f x).id ≡ x.id) → (lo hi : ℕ) (hs : List Handle) → InOrder lo hs hi → InOrder lo (map f hs) hi
+pub order_map : (f : Handle → Handle) → ((x : Handle) → (f x).id ≡ x.id) → (lo hi : ℕ) (hs : List Handle) → InOrder lo hs hi → InOrder lo (map f hs) hi
 order_map f same lo hi [] h = h
 order_map f same lo hi (x ∷ xs) h = (
   subst (λ (i : HandleId). lo ≤ i.0) (sym (same x)) h.0,
   subst (λ (i : HandleId). InOrder (suc i.0) (map f xs) hi) (sym (same x)) (order_map f same (suc x.id.0) hi xs h.1),
 )
 
-claim_id : (t : ℕ) (id : HandleId) (kind : ClaimKind) (x : Handle) → (cond (is_own t id x) (with_claim kind x) x).id ≡ x.id
+pub claim_id : (t : ℕ) (id : HandleId) (kind : ClaimKind) (x : Handle) → (cond (is_own t id x) (with_claim kind x) x).id ≡ x.id
 claim_id t id kind x = go (is_own t id x)
   where
     go : (b : Bool) → (cond b (with_claim kind x) x).id ≡ x.id
@@ -104,7 +104,7 @@ none_below lo hi id (x ∷ xs) k h =
     further a b c h k = omega arith
 
 -- the thread's handle of a number is the handle of that number
-own_handle : (t : ℕ) (id : HandleId) (lo hi : ℕ) (hs : List Handle) → InOrder lo hs hi → (h : Handle) → handle_of (filter (is_of t) hs) id ≡ Some h → (handle_of hs id ≡ Some h) × (h.thread.0 ≡ t)
+pub own_handle : (t : ℕ) (id : HandleId) (lo hi : ℕ) (hs : List Handle) → InOrder lo hs hi → (h : Handle) → handle_of (filter (is_of t) hs) id ≡ Some h → (handle_of hs id ≡ Some h) × (h.thread.0 ≡ t)
 own_handle t id lo hi [] o h e = cc
 own_handle t id lo hi (x ∷ xs) o h e = go (is_of t x) (same_handle x.id id) refl refl e (own_handle t id (suc x.id.0) hi xs o.1 h)
   where

@@ -3,6 +3,7 @@ pub mod Channels
 pub mod Fields
 pub mod Names
 pub mod Counted
+pub mod Facts
 pub mod Moves
 pub mod Ledger
 pub mod Threads

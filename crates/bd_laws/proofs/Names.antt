@@ -348,24 +348,33 @@ module _ (setup : Setup) (t : ℕ) where
   injection_tame v req (answers.Injected decision) = tame_same _ _ refl refl refl
   injection_tame v req _ = tame_same v.part v.part refl refl refl
 
-  reg_tame : (v : View) (came : Came) (event : RegEvent) (a : Answer) → AnswerFine a → FreesBase a → Tame v.part (change_reg setup t v came event a).part
-  reg_tame v came (events.Open name write) a h k = decided_tame came a v.part h
-  reg_tame v came (events.Claim id kind) a h k = decided_tame came a v.part h
-  reg_tame v came (events.Close id) a h k = tame_then v.part (closed_by setup came id a v.part) _ (closed_tame came id a v.part h) (tame_same _ _ refl refl refl)
-  reg_tame v came (events.GetChannel dev) a h k = got_tame v dev a
-  reg_tame v came (events.PutChannel dev closing) a h k = tame_then v.part (put_paid dev closing v.part) (put_down_by t dev a (put_paid dev closing v.part)) (put_tame dev closing v.part) (down_tame dev a (put_paid dev closing v.part))
-  reg_tame v came (events.DropChannel dev) a h k =
+  -- what is known of an event's answer
+  abbrev pub EventFine : RegEvent → Answer → Type 0
+  EventFine (events.Open name write) a = AnswerFine a
+  EventFine (events.Claim id kind) a = AnswerFine a
+  EventFine (events.Close id) a = AnswerFine a
+  EventFine (events.BeginRemove name) a = AnswerFine a
+  EventFine (events.Destructed dev) a = FreesBase a
+  EventFine _ a = Unit {0}
+
+  reg_tame : (v : View) (came : Came) (event : RegEvent) (a : Answer) → EventFine event a → Tame v.part (change_reg setup t v came event a).part
+  reg_tame v came (events.Open name write) a h = decided_tame came a v.part h
+  reg_tame v came (events.Claim id kind) a h = decided_tame came a v.part h
+  reg_tame v came (events.Close id) a h = tame_then v.part (closed_by setup came id a v.part) _ (closed_tame came id a v.part h) (tame_same _ _ refl refl refl)
+  reg_tame v came (events.GetChannel dev) a h = got_tame v dev a
+  reg_tame v came (events.PutChannel dev closing) a h = tame_then v.part (put_paid dev closing v.part) (put_down_by t dev a (put_paid dev closing v.part)) (put_tame dev closing v.part) (down_tame dev a (put_paid dev closing v.part))
+  reg_tame v came (events.DropChannel dev) a h =
       tame_then v.part (dropped_by t dev a (paid (owes.Drop dev) v.part)) _
       (tame_then v.part (paid (owes.Drop dev) v.part) _ (paid_tame (owes.Drop dev) v.part) (dropped_tame dev a (paid (owes.Drop dev) v.part)))
       (tame_same _ _ refl refl refl)
-  reg_tame v came (events.BeginRemove name) a h k =
+  reg_tame v came (events.BeginRemove name) a h =
       let p : Part = removal_paid came a (device_named setup name) v.part in
       tame_then v.part p (removing setup t a p).part (removal_tame came a (device_named setup name) v.part h) (removing_tame a p)
-  reg_tame v came (events.BeginReset dev req) a h k = begun_tame dev req a v.part
-  reg_tame v came (events.EndReset dev) a h k = thaws_tame dev a v.part
-  reg_tame v came (events.FinishReset dev) a h k = finishes_tame dev a v.part
-  reg_tame v came (events.TakeInjection dev req op) a h k = injection_tame v req a
-  reg_tame v came (events.Destructed dev) a h k = tame_then v.part (paid (owes.Report dev) v.part) _ (paid_tame (owes.Report dev) v.part) (freed_tame a (paid (owes.Report dev) v.part) k)
+  reg_tame v came (events.BeginReset dev req) a h = begun_tame dev req a v.part
+  reg_tame v came (events.EndReset dev) a h = thaws_tame dev a v.part
+  reg_tame v came (events.FinishReset dev) a h = finishes_tame dev a v.part
+  reg_tame v came (events.TakeInjection dev req op) a h = injection_tame v req a
+  reg_tame v came (events.Destructed dev) a h = tame_then v.part (paid (owes.Report dev) v.part) _ (paid_tame (owes.Report dev) v.part) (freed_tame a (paid (owes.Report dev) v.part) h)
 
   applied_tame : (v : View) (req : ReqId) (k : ℕ) (dev : DevId) (end : ApplyEnd) (size : ℕ) (x : Option OpenPiece) (b : Option Base) → Tame v.part (change_applied v req k dev end size x b).part
   applied_tame v req k dev end size (Some p) (Some b) = tame_same _ _ refl refl refl
@@ -419,7 +428,7 @@ module _ (setup : Setup) (t : ℕ) where
 
   -- the answer of an event
   abbrev pub ActFine : Act → Type 0
-  ActFine (acts.Reg event a) = AnswerFine a × FreesBase a
+  ActFine (acts.Reg event a) = EventFine event a
   ActFine _ = Unit {0}
 
   abbrev pub IsVisit : Act → Type 0
@@ -436,7 +445,7 @@ module _ (setup : Setup) (t : ℕ) where
   act_tame v (acts.Took source number what) came a n =
       tame_then v.part (taken_before v.part source number) _ (tame_same _ _ refl refl refl)
       (tame_then (taken_before v.part source number) (taken_by setup t what (taken_before v.part source number) came.message (id_of source t number what)).part _ (taken_tame t what (taken_before v.part source number) came.message (id_of source t number what)) (tame_same _ _ refl refl refl))
-  act_tame v (acts.Reg event x) came a n = tame_then v.part (change_reg setup t v came event x).part _ (reg_tame v came event x a.0 a.1) (tame_same _ _ refl refl refl)
+  act_tame v (acts.Reg event x) came a n = tame_then v.part (change_reg setup t v came event x).part _ (reg_tame v came event x a) (tame_same _ _ refl refl refl)
   act_tame v (acts.Accept req dev handle op lba count) came a n = record { fine = λ f. (f.0, tt, f.2); puts_less = λ d. le_refl (puts v.part d) }
   act_tame v (acts.Refuse handle op lba count errno) came a n = record { fine = λ f. (f.0, tt, f.2); puts_less = λ d. le_refl (puts v.part d) }
   act_tame v (acts.Apply req k dev end) came a n = tame_then v.part (change_applied v req k dev end (size_of setup dev) (piece_here v req k) (base_here v dev)).part _ (applied_tame v req k dev end (size_of setup dev) (piece_here v req k) (base_here v dev)) (tame_same _ _ refl refl refl)
