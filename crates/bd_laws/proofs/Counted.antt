@@ -159,7 +159,7 @@ abbrev pub Spends : RegEvent → (DevId → ℕ) → (DevId → ℕ) → Type 0
 Spends (events.PutChannel dev false) more less = (d : DevId) → less d + one_if (same_dev dev d) ≤ more d
 Spends _ more less = (d : DevId) → less d ≤ more d
 
-no_and : (b : Bool) → (b && false) ≡ true → ⊥
+pub no_and : (b : Bool) → (b && false) ≡ true → ⊥
 no_and true e = cc
 no_and false e = cc
 
@@ -187,6 +187,22 @@ spends_less (events.PutChannel dev false) more less h d = go (less d) (one_if (s
     go a b c h = omega arith
 spends_less (events.PutChannel dev true) more less h d = h d
 spends_less _ more less h d = h d
+
+not_true : (b : Bool) → not b ≡ true → b ≡ false
+not_true true h = cc
+not_true false h = refl
+
+-- what may be closed is open, no base handle, and has no open request
+pub may_close_is : (setup : Setup) (t : ℕ) (v : View) (came : Came) (id : HandleId) → may_close setup t v came id ≡ true → (is_base_handle setup id ≡ false) × ((is_some (handle_of v.handles id) ≡ true) × ((open_on v.part id == 0) ≡ true))
+may_close_is setup t v came id h =
+    let a : Bool = not (is_base_handle setup id) in
+    let b : Bool = is_some (handle_of v.handles id) in
+    let c : Bool = open_on v.part id == 0 in
+    let d : Bool = is_gone v.part id || (as_yet && came.shut) || is_job_close v.part id (job_now setup t v came) in
+    let p = and_parts (a && b && c) d h in
+    let q = and_parts (a && b) c p.0 in
+    let r = and_parts a b q.0 in
+    (not_true (is_base_handle setup id) r.0, (r.1, q.1))
 
 module _ (setup : Setup) (ordered : StandsOnEarlier setup) (s : State) (t : ℕ) (came : Came) (more less : DevId → ℕ)
     (fine : LiveFine setup s.registry s.registry.between) (order : InOrder 0 s.registry.handles s.registry.next) where
@@ -395,25 +411,6 @@ module _ (setup : Setup) (ordered : StandsOnEarlier setup) (s : State) (t : ℕ)
 
   -- ---- a close that follows a put
 
-  abbrev pub the_view : View
-  the_view = view s t
-
-  not_true : (b : Bool) → not b ≡ true → b ≡ false
-  not_true true h = cc
-  not_true false h = refl
-
-  -- what may be closed is open, no base handle, and has no open request
-  pub may_close_is : (id : HandleId) → may_close setup t (view s t) came id ≡ true → (is_base_handle setup id ≡ false) × ((is_some (handle_of (filter (is_of t) s.registry.handles) id) ≡ true) × ((open_on (view s t).part id == 0) ≡ true))
-  may_close_is id h =
-      let a : Bool = not (is_base_handle setup id) in
-      let b : Bool = is_some (handle_of (filter (is_of t) s.registry.handles) id) in
-      let c : Bool = open_on (view s t).part id == 0 in
-      let d : Bool = is_gone (view s t).part id || (as_yet && came.shut) || is_job_close (view s t).part id (job_now setup t (view s t) came) in
-      let p = and_parts (a && b && c) d h in
-      let q = and_parts (a && b) c p.0 in
-      let r = and_parts a b q.0 in
-      (not_true (is_base_handle setup id) r.0, (r.1, q.1))
-
   -- it is on the device
   handle_on : (dev : DevId) (id : HandleId) → is_handle_on dev (handle_of (filter (is_of t) s.registry.handles) id) ≡ true → (h : Handle) × ((handle_of (filter (is_of t) s.registry.handles) id ≡ Some h) × (same_dev h.dev dev ≡ true))
   handle_on dev id k = go (handle_of (filter (is_of t) s.registry.handles) id) refl k
@@ -452,7 +449,7 @@ module _ (setup : Setup) (ordered : StandsOnEarlier setup) (s : State) (t : ℕ)
   closed_then : (dev : DevId) (id : HandleId) (a : Answer) (u : ℕ) → is_close_on setup t (view s t) came dev (events.Close id) ≡ true → Answers (events.Close id) a → ((d : DevId) → less d ≤ more d) → Before (Some (Closing u dev)) → Then (events.Close id) a
   closed_then dev id a u k h l c =
       let p = and_parts (is_handle_on dev (handle_of (filter (is_of t) s.registry.handles) id)) (may_close setup t (view s t) came id) k in
-      go (handle_on dev id p.0) (may_close_is id p.1).0
+      go (handle_on dev id p.0) (may_close_is setup t (view s t) came id p.1).0
     where
       by : (x : Handle) → handle_of (filter (is_of t) s.registry.handles) id ≡ Some x → same_dev x.dev dev ≡ true → is_base_handle setup id ≡ false → (destruct : Option DevId) × (a ≡ answers.Closed destruct) → Then (events.Close id) a
       by x e on base (destruct, is) = subst (λ (y : Answer). Then (events.Close id) y) (sym is) (closed_between u dev id x e on base l c)

@@ -4,10 +4,12 @@ pub mod Fields
 pub mod Names
 pub mod Counted
 pub mod Facts
+pub mod Opened
 pub mod Moves
 pub mod Ledger
 pub mod Threads
 pub mod Carriers
+pub mod Credits
 pub mod Rows
 pub mod Covered
 pub mod Held
