@@ -333,3 +333,119 @@ module _ (setup : Setup) (t : ℕ) (d : DevId) (s : State) (e : Entry) (fresh : 
       go : (x : Option OpenWalk) → walk_here (view s e.thread) walk ≡ x → is_next_visit e.thread dev Removal x ≡ true → Credit setup t d (after setup s e) extra
       go None f h = cc
       go (Some w) f h = with_walk w f h c.walk refl
+
+  -- ---- the home puts
+
+  owes_put : (dev : DevId) (a : Answer) → e.act ≡ acts.Reg (events.PutChannel dev false) a → list_any (same_owed (owes.Put dev)) (part_of s e.thread).owed ≡ true
+  owes_put dev a is =
+      let act : Act = acts.Reg (events.PutChannel dev false) a in
+      let ok = passed (guards_in setup s e.thread (acts.Reg (events.PutChannel dev false) a)) (subst (λ (x : Act). Passes (guards_in setup s e.thread x)) is (allowed_passes setup s e allowed)) in
+      let none : s.registry.between ≡ None = freely setup e.thread (view s e.thread) (came_for setup s e.thread (acts.Reg (events.PutChannel dev false) a)) (events.PutChannel dev false) s.registry.between refl ok.1.0 in
+      subst (λ (o : Option Between). asks_between setup e.thread (view s e.thread) (came_for setup s e.thread (acts.Reg (events.PutChannel dev false) a)) (events.PutChannel dev false) o ≡ true) none ok.1.0
+
+  one_put : (dev : DevId) (a : Answer) → e.act ≡ acts.Reg (events.PutChannel dev false) a → e.thread ≡ t → same_dev dev d ≡ true → puts (part_of (after setup s e) t) d + 1 ≤ puts (part_of s t) d
+  one_put dev a is same on =
+      subst (λ (u : ℕ). puts (part_of (after setup s e) u) d + 1 ≤ puts (part_of s u) d) same
+      (subst (λ (p : Part). puts p d + 1 ≤ puts (part_of s e.thread) d) (sym (part_is setup s e fresh allowed ∙ ap (λ (x : Act). (change_in setup s e.thread x).part) is))
+      (subst (λ (x : DevId). puts (change_in setup s e.thread (acts.Reg (events.PutChannel dev false) a)).part x + 1 ≤ puts (part_of s e.thread) x) (dev_exact dev d on)
+      (put_paid_once setup e.thread (view s e.thread) dev a (came_for setup s e.thread (acts.Reg (events.PutChannel dev false) a)) (owes_put dev a is))))
+
+  puts_by_home : (extra : ℕ) (c : Credit setup t d s extra) (dev : DevId) (a : Answer) → e.act ≡ acts.Reg (events.PutChannel dev false) a → e.thread ≡ t → same_dev dev d ≡ true → Credit setup t d (after setup s e) (extra - 1)
+  puts_by_home extra c dev a is same on = record {
+    walk = c.walk;
+    only = only_after (IsWalk c.walk) c.only (subst (λ (x : Act). BeginsOld setup t d e.thread (IsWalk c.walk) x (view s e.thread) (came_for setup s e.thread x)) (sym is) tt);
+    total = sums (puts (part_of (after setup s e) t) d) (puts (part_of s t) d) (one_if (is_some c.walk)) (one_if (is_putter setup t d && is_live (after setup s e).registry d)) (one_if (is_putter setup t d && is_live s.registry d)) extra (one_put dev a is same on) live_less c.total;
+    most = less extra c.most;
+  }
+    where
+      sums : (a b w x y z : ℕ) → a + 1 ≤ b → x ≤ y → b + w + y ≤ z → a + w + x ≤ z - 1
+      sums a b w x y z h k l = omega arith
+
+      less : (x : ℕ) → x ≤ 1 → x - 1 ≤ 1
+      less x h = omega arith
+
+  -- the home puts only while there is something to put
+  pub credit_pays : (extra : ℕ) (c : Credit setup t d s extra) (dev : DevId) (a : Answer) → e.act ≡ acts.Reg (events.PutChannel dev false) a → e.thread ≡ t → same_dev dev d ≡ true → 1 ≤ extra
+  credit_pays extra c dev a is same on =
+      enough (puts (part_of (after setup s e) t) d) (puts (part_of s t) d) (one_if (is_some c.walk)) (one_if (is_putter setup t d && is_live s.registry d)) extra (one_put dev a is same on) c.total
+    where
+      enough : (a b w y z : ℕ) → a + 1 ≤ b → b + w + y ≤ z → 1 ≤ z
+      enough a b w y z h k = omega arith
+
+  -- ---- every act
+
+  -- a visit of another device, or of no limited device's home
+  visits_other : (extra : ℕ) (c : Credit setup t d s extra) (walk : WalkId) (dev : DevId) → e.act ≡ acts.Visit walk dev Removal → e.thread ≡ t → (is_putter setup t dev && same_dev d dev) ≡ false → Credit setup t d (after setup s e) extra
+  visits_other extra c walk dev is same k = record {
+    walk = c.walk;
+    only = only_after (IsWalk c.walk) c.only (subst (λ (x : Act). BeginsOld setup t d e.thread (IsWalk c.walk) x (view s e.thread) (came_for setup s e.thread x)) (sym is) tt);
+    total = sums (puts (part_of (after setup s e) t) d) (puts (part_of s t) d) (one_if (is_some c.walk)) (one_if (is_putter setup t d && is_live (after setup s e).registry d)) (one_if (is_putter setup t d && is_live s.registry d)) extra none_more live_less c.total;
+    most = c.most;
+  }
+    where
+      sums : (a b w x y z : ℕ) → a ≤ b + 0 → x ≤ y → b + w + y ≤ z → a + w + x ≤ z
+      sums a b w x y z h k l = omega arith
+
+      none_more : puts (part_of (after setup s e) t) d ≤ puts (part_of s t) d + 0
+      none_more =
+          subst (λ (b : Bool). puts (part_of (after setup s e) t) d ≤ puts (part_of s t) d + one_if b) k
+          (subst (λ (u : ℕ). puts (part_of (after setup s e) u) d ≤ puts (part_of s u) d + one_if (is_putter setup u dev && same_dev d dev)) same
+          (subst (λ (p : Part). puts p d ≤ puts (part_of s e.thread) d + one_if (is_putter setup e.thread dev && same_dev d dev)) (sym (part_is setup s e fresh allowed ∙ ap (λ (x : Act). (change_in setup s e.thread x).part) is))
+          (visit_puts setup e.thread (view s e.thread) walk dev (came_for setup s e.thread (acts.Visit walk dev Removal)) d)))
+
+  visits : (extra : ℕ) (c : Credit setup t d s extra) (walk : WalkId) (dev : DevId) → e.act ≡ acts.Visit walk dev Removal → (e.thread ≡ t) ⊎ (e.thread ≡ t → ⊥) → Credit setup t d (after setup s e) extra
+  visits extra c walk dev is (inr ne) = plain extra c (λ same v. ne same) (subst (λ (x : Act). BeginsOld setup t d e.thread (IsWalk c.walk) x (view s e.thread) (came_for setup s e.thread x)) (sym is) tt)
+  visits extra c walk dev is (inl same) = go (is_putter setup t dev) (same_dev d dev) refl refl
+    where
+      go : (p q : Bool) → is_putter setup t dev ≡ p → same_dev d dev ≡ q → Credit setup t d (after setup s e) extra
+      go true true f g = visits_home extra c walk dev is same (subst (λ (x : DevId). is_putter setup t x ≡ true) (sym (dev_exact d dev g)) f) g
+      go true false f g = visits_other extra c walk dev is same (ap (λ b. is_putter setup t dev && b) g ∙ none (is_putter setup t dev))
+        where
+          none : (b : Bool) → (b && false) ≡ false
+          none true = refl
+          none false = refl
+      go false q f g = visits_other extra c walk dev is same (ap (λ b. b && same_dev d dev) f)
+
+  removals : (extra : ℕ) (c : Credit setup t d s extra) (name : List ℕ) (a : Answer) → e.act ≡ acts.Reg (events.BeginRemove name) a → Credit setup t d (after setup s e) extra
+  removals extra c name a is = go (is_putter setup t d) (is_removing_of d (acts.Reg (events.BeginRemove name) a)) refl refl
+    where
+      not_visit : e.thread ≡ t → IsVisit setup t e.act → ⊥
+      not_visit same v = subst (IsVisit setup t) is v
+
+      other : ((is_putter setup t d && is_removing_of d (acts.Reg (events.BeginRemove name) a)) ≡ true → ⊥) → Credit setup t d (after setup s e) extra
+      other no_it = plain extra c not_visit (subst (λ (x : Act). BeginsOld setup t d e.thread (IsWalk c.walk) x (view s e.thread) (came_for setup s e.thread x)) (sym is) (by a no_it))
+        where
+          by : (a : Answer) → ((is_putter setup t d && is_removing_of d (acts.Reg (events.BeginRemove name) a)) ≡ true → ⊥) → BeginsOld setup t d e.thread (IsWalk c.walk) (acts.Reg (events.BeginRemove name) a) (view s e.thread) (came_for setup s e.thread (acts.Reg (events.BeginRemove name) a))
+          by (answers.Removing dev threads handles destruct) n = λ h. absurd (n h)
+          by _ n = tt
+
+      go : (p q : Bool) → is_putter setup t d ≡ p → is_removing_of d (acts.Reg (events.BeginRemove name) a) ≡ q → Credit setup t d (after setup s e) extra
+      go true true f g = begins_removal extra c name a is g f
+      go true false f g = other (λ h. differ (and_parts (is_putter setup t d) (is_removing_of d (acts.Reg (events.BeginRemove name) a)) h).1 g)
+      go false q f g = other (λ h. differ (and_parts (is_putter setup t d) (is_removing_of d (acts.Reg (events.BeginRemove name) a)) h).0 f)
+
+  pub credit_after : (extra : ℕ) → Credit setup t d s extra → Credit setup t d (after setup s e) (extra - one_if ((e.thread == t) && is_put_by_home d e.act))
+  credit_after extra c = go e.act refl
+    where
+      same_extra : (b : Bool) → extra - one_if (b && false) ≡ extra
+      same_extra true = omega arith
+      same_extra false = omega arith
+
+      kept : Credit setup t d (after setup s e) extra → Credit setup t d (after setup s e) (extra - one_if ((e.thread == t) && false))
+      kept k = subst (λ (n : ℕ). Credit setup t d (after setup s e) n) (sym (same_extra (e.thread == t))) k
+
+      easy : (act : Act) → e.act ≡ act → (IsVisit setup t act → ⊥) → BeginsOld setup t d e.thread (IsWalk c.walk) act (view s e.thread) (came_for setup s e.thread act) → Credit setup t d (after setup s e) extra
+      easy act is n b =
+          plain extra c (λ same v. n (subst (IsVisit setup t) is v))
+          (subst (λ (x : Act). BeginsOld setup t d e.thread (IsWalk c.walk) x (view s e.thread) (came_for setup s e.thread x)) (sym is) b)
+
+      puts_or : (dev : DevId) (a : Answer) → e.act ≡ acts.Reg (events.PutChannel dev false) a → (p q : Bool) → (e.thread == t) ≡ p → same_dev dev d ≡ q → Credit setup t d (after setup s e) (extra - one_if (p && q))
+      puts_or dev a is true true f g = puts_by_home extra c dev a is (eqb-true e.thread t f) g
+      puts_or dev a is true false f g = subst (λ (n : ℕ). Credit setup t d (after setup s e) n) (sym (same_extra true)) (easy (acts.Reg (events.PutChannel dev false) a) is (λ v. v) tt)
+      puts_or dev a is false q f g = subst (λ (n : ℕ). Credit setup t d (after setup s e) n) (sym (same_extra false)) (easy (acts.Reg (events.PutChannel dev false) a) is (λ v. v) tt)
+
+      go : (act : Act) → e.act ≡ act → Credit setup t d (after setup s e) (extra - one_if ((e.thread == t) && is_put_by_home d act))
+      go (acts.Visit walk dev Removal) is = kept (visits extra c walk dev is (cases_eq e.thread t))
+      go (acts.Reg (events.BeginRemove name) a) is = kept (removals extra c name a is)
+      go (acts.Reg (events.PutChannel dev false) a) is = puts_or dev a is (e.thread == t) (same_dev dev d) refl refl
+      go act is = kept (easy act is (λ v. v) tt)
