@@ -10,6 +10,7 @@ pub mod Ledger
 pub mod Threads
 pub mod Carriers
 pub mod Credits
+pub mod Fit
 pub mod Rows
 pub mod Covered
 pub mod Held
