@@ -17,4 +17,5 @@ pub mod Held
 pub mod HeldOn
 pub mod Bare
 pub mod Quiet
+pub mod Begins
 pub mod Drains

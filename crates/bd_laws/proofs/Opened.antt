@@ -57,7 +57,7 @@ any_more is (y ∷ ys) x h = go (is y) h (any_more is ys x)
     go true h ih = refl
     go false h ih = ih h
 
-any_kept : {X : Type 0} (is keep : X → Bool) → ((x : X) → is x ≡ true → keep x ≡ true) → (xs : List X) → list_any is xs ≡ true → list_any is (filter keep xs) ≡ true
+pub any_kept : {X : Type 0} (is keep : X → Bool) → ((x : X) → is x ≡ true → keep x ≡ true) → (xs : List X) → list_any is xs ≡ true → list_any is (filter keep xs) ≡ true
 any_kept is keep k [] h = h
 any_kept is keep k (x ∷ xs) h = go (is x) (keep x) refl refl h (any_kept is keep k xs)
   where
