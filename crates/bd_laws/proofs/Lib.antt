@@ -19,3 +19,4 @@ pub mod Bare
 pub mod Quiet
 pub mod Begins
 pub mod Drains
+pub mod Quiesce
