@@ -1,7 +1,7 @@
 //! Laws of runs. Each function says one of them: its body is empty, and its clause is the law, which
 //! the machine's definitions alone prove.
 ghost use Rattle.bd_laws.specs.Ledger.{BudgetIsKept};
-ghost use Rattle.bd_laws.specs.Quiescence.{WalksDrain};
+ghost use Rattle.bd_laws.specs.Quiescence.{Quiescence, WalksDrain};
 
 /// In every run, what is done to a device's limits keeps its budget: some start of its first timeslice
 /// fits each of its Ticks, and at each Let more than 0 is left of each limit that counts the request,
@@ -14,4 +14,11 @@ pub fn budget_is_kept()
 /// has its device below is completed, on every thread over which the reset's walks go.
 pub fn walks_drain()
     ensures { WalksDrain }
+{}
+
+/// In every run of a setup whose devices stand on devices with smaller numbers, as each configuration
+/// makes them: before a reset completes, each request but resets that was accepted before it and has
+/// its device below is completed, on every thread.
+pub fn quiescence()
+    ensures { Quiescence }
 {}
