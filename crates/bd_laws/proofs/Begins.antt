@@ -26,7 +26,7 @@ use Rattle.bd_machine.specs.Users.{all_devices, dev_of, firsts}
 use Rattle.bd_machine.specs.View.{blank_part, is_of, part_of}
 use Rattle.bd_machine.proofs.Laws.{counts-own, channels-other}
 use Rattle.bd_machine.proofs.Tables.{dev_exact}
-use Rattle.bd_laws.specs.Quiescence.{StandsOnEarlier}
+use Rattle.bd_laws.specs.Standing.{StandsOnEarlier}
 use Rattle.bd_laws.proofs.Channels.{Covered, above, val, is_on_top, is_base_at, got_covered, deep_at}
 use Rattle.bd_laws.proofs.Counted.{InOrder, LiveFine, pending, is_user, users_on, weaker}
 use Rattle.bd_laws.proofs.Fit.{Fit, Counts}
@@ -207,7 +207,7 @@ module _ (setup : Setup) (ordered : StandsOnEarlier setup) (t : ℕ) where
       plus : (n : ℕ) → 0 + n ≡ n
       plus n = omega arith
 
-  first_counts : (told : Told) → Counts setup t (start setup told)
+  pub first_counts : (told : Told) → Counts setup t (start setup told)
   first_counts told = record {
     extra = first_extra;
     covered = subst (λ (hs : List Handle). Covered setup (λ d. users_on setup (filter (is_of t) hs) d + first_extra d) (references (registry_at_start setup) t) (pending (registry_at_start setup).between t)) (sym (handles_kept setup (filter (is_limited setup) (all_devices setup)) (bare_registry setup)))
@@ -251,15 +251,14 @@ module _ (setup : Setup) (ordered : StandsOnEarlier setup) (t : ℕ) where
           least : (n : ℕ) → 0 ≤ n
           least n = omega arith
 
-pub first_fit : (setup : Setup) → StandsOnEarlier setup → (told : Told) → Fit setup (start setup told)
-first_fit setup ordered told = record {
+pub first_fit : (setup : Setup) (told : Told) → Fit setup (start setup told)
+first_fit setup told = record {
   order = subst (λ (hs : List Handle). InOrder 0 hs (registry_at_start setup).next) (sym (handles_kept setup (filter (is_limited setup) (all_devices setup)) (bare_registry setup)))
       (subst (λ (n : ℕ). InOrder 0 (handles_from setup 0 (firsts setup)) n) (sym (next_kept setup (filter (is_limited setup) (all_devices setup)) (bare_registry setup))) (first_order setup 0 (length (firsts setup)) (firsts setup) (plus (length (firsts setup)))));
   next = subst (λ (n : ℕ). length (firsts setup) ≤ n) (sym (next_kept setup (filter (is_limited setup) (all_devices setup)) (bare_registry setup))) (le_refl (length (firsts setup)));
   live = subst (LiveFine setup (registry_at_start setup)) (sym (between_kept setup (filter (is_limited setup) (all_devices setup)) (bare_registry setup))) tt;
   names = λ u. names (range_with_len 0 setup.threads) u u;
   rows = λ u. rows (range_with_len 0 setup.threads) u (filter (is_of u) (registry_at_start setup).handles);
-  counts = λ u. first_counts setup ordered u told;
 }
   where
     plus : (n : ℕ) → 0 + n ≡ n

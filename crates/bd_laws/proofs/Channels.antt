@@ -13,7 +13,7 @@ use Rattle.bd_machine.specs.Laws.{one_if}
 use Rattle.bd_machine.specs.Same.{same_dev}
 use Rattle.bd_machine.specs.Users.{dev_of}
 use Rattle.bd_machine.proofs.Tables.{dev_exact}
-use Rattle.bd_laws.specs.Quiescence.{StandsOnEarlier}
+use Rattle.bd_laws.specs.Standing.{StandsOnEarlier}
 use Rattle.bd_laws.proofs.Sums.{count_to, count_more, count_without, count_with, count_some}
 
 -- the references that there are; none where there is no channel

@@ -32,7 +32,7 @@ use Rattle.bd_machine.specs.Threads.{is_nobody}
 use Rattle.bd_machine.specs.Users.{is_base_handle}
 use Rattle.bd_machine.specs.View.{View, Came, view, is_of}
 use Rattle.bd_machine.proofs.Tables.{dev_exact}
-use Rattle.bd_laws.specs.Quiescence.{StandsOnEarlier}
+use Rattle.bd_laws.specs.Standing.{StandsOnEarlier}
 use Rattle.bd_laws.proofs.Channels.{Covered, above, val, with_one, got_covered, deep_at, put_covered, dropped_covered, same_here}
 use Rattle.bd_laws.proofs.Sums.{count_in, in_push, in_filter, in_filter_less, in_map}
 

@@ -32,7 +32,7 @@ use Rattle.bd_machine.specs.Users.{firsts}
 use Rattle.bd_machine.specs.View.{View, Came, view, came_for, part_of, asked, is_of}
 use Rattle.bd_machine.proofs.Acts.{Passes, passed, IsFresh}
 use Rattle.bd_machine.proofs.Steps.{allowed_passes, part_is, part_stays, own, frame}
-use Rattle.bd_laws.specs.Quiescence.{StandsOnEarlier}
+use Rattle.bd_laws.specs.Standing.{StandsOnEarlier}
 use Rattle.bd_laws.proofs.Channels.{Covered, above, val}
 use Rattle.bd_laws.proofs.Counted.{InOrder, LiveFine, Spends, pending, users_on, weaker, covered_event}
 use Rattle.bd_laws.proofs.Credits.{Credit, credit_after, credit_pays, is_put_by_home, registry_is}
@@ -41,21 +41,21 @@ use Rattle.bd_laws.proofs.Fields.{requests_after, requests_are}
 use Rattle.bd_laws.proofs.Names.{FineNames, ActFine, IsVisit, act_tame, visit_fine}
 use Rattle.bd_laws.proofs.Opened.{RowsOpen, rows_act}
 
--- a thread's references: one for each handle, each channel above, and the put of a limited device's home
-pub record Counts (setup : Setup) (t : ℕ) (s : State) : Type 0 where
-  pub extra : DevId → ℕ
-  pub covered : Covered setup (λ d. users_on setup (filter (is_of t) s.registry.handles) d + extra d) (references s.registry t) (pending s.registry.between t)
-  pub credit : (d : DevId) → Credit setup t d s (extra d)
-
+-- handles are numbered in order, names and requests stand on none of a base, and each open request's handle is open
 pub record Fit (setup : Setup) (s : State) : Type 0 where
   pub order : InOrder 0 s.registry.handles s.registry.next
   pub next : length (firsts setup) ≤ s.registry.next
   pub live : LiveFine setup s.registry s.registry.between
   pub names : (t : ℕ) → FineNames setup t (part_of s t)
   pub rows : (t : ℕ) → RowsOpen setup (filter (is_of t) s.registry.handles) (part_of s t).requests
-  pub counts : (t : ℕ) → Counts setup t s
 
-module _ (setup : Setup) (ordered : StandsOnEarlier setup) (s : State) (e : Entry) (fresh : IsFresh s) (allowed : refusal setup s e ≡ None) (fit : Fit setup s) where
+-- a thread's references: one for each handle, each channel above, and the put of a limited device's home
+pub record Counts (setup : Setup) (t : ℕ) (s : State) : Type 0 where
+  pub extra : DevId → ℕ
+  pub covered : Covered setup (λ d. users_on setup (filter (is_of t) s.registry.handles) d + extra d) (references s.registry t) (pending s.registry.between t)
+  pub credit : (d : DevId) → Credit setup t d s (extra d)
+
+module _ (setup : Setup) (s : State) (e : Entry) (fresh : IsFresh s) (allowed : refusal setup s e ≡ None) (fit : Fit setup s) where
   passes : Passes (guards_in setup s e.thread e.act)
   passes = allowed_passes setup s e allowed
 
@@ -109,7 +109,23 @@ module _ (setup : Setup) (ordered : StandsOnEarlier setup) (s : State) (e : Entr
           (rows_act setup s e.thread e.act (fit.names e.thread) passes (fit.rows e.thread))))
       go (inr ne) = subst (λ (v : View). RowsOpen setup v.handles v.part.requests) (sym (frame setup s e fresh allowed u ne)) (fit.rows u)
 
-  -- ---- references
+  pub fit_after : Fit setup (after setup s e)
+  fit_after = record {
+    order = subst (λ (r : Registry). InOrder 0 r.handles r.next) (sym (registry_is setup s e)) (order_of e.act passes);
+    next = subst (λ (r : Registry). length (firsts setup) ≤ r.next) (sym (registry_is setup s e)) (next_of e.act);
+    live = subst (λ (r : Registry). LiveFine setup r r.between) (sym (registry_is setup s e)) (live_of e.act passes);
+    names = names_on;
+    rows = rows_on;
+  }
+
+-- ---- references
+
+module _ (setup : Setup) (ordered : StandsOnEarlier setup) (s : State) (e : Entry) (fresh : IsFresh s) (allowed : refusal setup s e ≡ None) (fit : Fit setup s) (counts : (t : ℕ) → Counts setup t s) where
+  may_happen : Passes (guards_in setup s e.thread e.act)
+  may_happen = allowed_passes setup s e allowed
+
+  is_fine : ActFine setup e.thread e.act
+  is_fine = act_fine setup s e fresh allowed fit
 
   -- what an entry takes of the puts
   abbrev left_extra : ℕ → (DevId → ℕ) → DevId → ℕ
@@ -138,7 +154,7 @@ module _ (setup : Setup) (ordered : StandsOnEarlier setup) (s : State) (e : Entr
       put dev is d =
           subst (λ (x : Act). c.extra d - one_if ((e.thread == e.thread) && is_put_by_home d x) + one_if (same_dev dev d) ≤ c.extra d) (sym is)
           (subst (λ (b : Bool). c.extra d - one_if (b && same_dev dev d) + one_if (same_dev dev d) ≤ c.extra d) (sym (eq-eqb e.thread e.thread refl))
-          (by d (same_dev dev d) (λ on. credit_pays setup e.thread d s e fresh allowed act_fine (c.extra d) (c.credit d) dev a is refl on)))
+          (by d (same_dev dev d) (λ on. credit_pays setup e.thread d s e fresh allowed is_fine (c.extra d) (c.credit d) dev a is refl on)))
 
       go : (event : RegEvent) → e.act ≡ acts.Reg event a → Spends event c.extra (left_extra e.thread c.extra)
       go (events.PutChannel dev false) is = λ d. put dev is d
@@ -164,7 +180,7 @@ module _ (setup : Setup) (ordered : StandsOnEarlier setup) (s : State) (e : Entr
   -- the thread's own references
   covered_own : (c : Counts setup e.thread s) → CoveredBy e.thread (left_extra e.thread c.extra) (filter (is_of e.thread) (after setup s e).registry.handles) (references (after setup s e).registry e.thread) (after setup s e).registry.between
   covered_own c =
-      subst (λ (v : View). CoveredBy e.thread (left_extra e.thread c.extra) v.handles v.channels (after setup s e).registry.between) (sym (own setup s e fresh allowed)) (go e.act refl passes)
+      subst (λ (v : View). CoveredBy e.thread (left_extra e.thread c.extra) v.handles v.channels (after setup s e).registry.between) (sym (own setup s e fresh allowed)) (go e.act refl may_happen)
     where
       go : (act : Act) → e.act ≡ act → Passes (guards_in setup s e.thread act)
           → CoveredBy e.thread (left_extra e.thread c.extra) (own_handles_after e.thread (view s e.thread).handles (asked e.act)) (own_channels_after setup (view s e.thread).channels (asked e.act)) (after setup s e).registry.between
@@ -187,7 +203,7 @@ module _ (setup : Setup) (ordered : StandsOnEarlier setup) (s : State) (e : Entr
 
   -- an event of another thread leaves nothing to follow here
   pending_stays : (u : ℕ) → (e.thread ≡ u → ⊥) → (d : DevId) → pending s.registry.between u d ≤ pending (after setup s e).registry.between u d
-  pending_stays u ne d = go e.act refl passes
+  pending_stays u ne d = go e.act refl may_happen
     where
       zero_least : (n m : ℕ) → n ≡ 0 → n ≤ m
       zero_least n m h = omega arith
@@ -218,23 +234,13 @@ module _ (setup : Setup) (ordered : StandsOnEarlier setup) (s : State) (e : Entr
       sum_less : (a b c : ℕ) → b ≤ c → a + b ≤ a + c
       sum_less a b c h = omega arith
 
-  counts_on : (u : ℕ) → Counts setup u (after setup s e)
-  counts_on u = record {
-    extra = left_extra u (fit.counts u).extra;
+  pub counts_stay : (u : ℕ) → Counts setup u (after setup s e)
+  counts_stay u = record {
+    extra = left_extra u (counts u).extra;
     covered = go (cases_eq e.thread u);
-    credit = λ d. credit_after setup u d s e fresh allowed act_fine ((fit.counts u).extra d) ((fit.counts u).credit d);
+    credit = λ d. credit_after setup u d s e fresh allowed is_fine ((counts u).extra d) ((counts u).credit d);
   }
     where
-      go : (e.thread ≡ u) ⊎ (e.thread ≡ u → ⊥) → CoveredBy u (left_extra u (fit.counts u).extra) (filter (is_of u) (after setup s e).registry.handles) (references (after setup s e).registry u) (after setup s e).registry.between
-      go (inl same) = subst (λ (w : ℕ). CoveredBy w (left_extra w (fit.counts w).extra) (filter (is_of w) (after setup s e).registry.handles) (references (after setup s e).registry w) (after setup s e).registry.between) same (covered_own (fit.counts e.thread))
-      go (inr ne) = covered_other u ne (fit.counts u)
-
-  pub fit_after : Fit setup (after setup s e)
-  fit_after = record {
-    order = subst (λ (r : Registry). InOrder 0 r.handles r.next) (sym (registry_is setup s e)) (order_of e.act passes);
-    next = subst (λ (r : Registry). length (firsts setup) ≤ r.next) (sym (registry_is setup s e)) (next_of e.act);
-    live = subst (λ (r : Registry). LiveFine setup r r.between) (sym (registry_is setup s e)) (live_of e.act passes);
-    names = names_on;
-    rows = rows_on;
-    counts = counts_on;
-  }
+      go : (e.thread ≡ u) ⊎ (e.thread ≡ u → ⊥) → CoveredBy u (left_extra u (counts u).extra) (filter (is_of u) (after setup s e).registry.handles) (references (after setup s e).registry u) (after setup s e).registry.between
+      go (inl same) = subst (λ (w : ℕ). CoveredBy w (left_extra w (counts w).extra) (filter (is_of w) (after setup s e).registry.handles) (references (after setup s e).registry w) (after setup s e).registry.between) same (covered_own (counts e.thread))
+      go (inr ne) = covered_other u ne (counts u)

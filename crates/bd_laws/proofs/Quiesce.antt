@@ -1,7 +1,7 @@
 -- Quiescence: the registry names every thread that has an older request open over the device, so none is open when a reset completes.
 use Rattle.std.proofs.Common.{◌≡◌, ℕ, zero, suc, ◌+◌, ◌<◌, ◌≤◌, Bool, true, false, cond, not, ◌&&◌, ◌||◌, ◌==◌, List, [], ◌∷◌, ◌++◌, length, map, get_or, Option, Some, None, is_some, refl, sym, ◌∙◌, ap, subst, eqb-true, arith}
 use Rattle.std.specs.Prelude.{set}
-use Rattle.std.specs.List.{AllByRecursion, filter, list_any, range_with_len}
+use Rattle.std.specs.List.{AllByRecursion, filter, list_all, list_any, range_with_len}
 use Rattle.std.proofs.lemmas.Bool.{and_parts, and_from}
 use Rattle.std.proofs.lemmas.List.{length-set}
 use Rattle.std.proofs.lemmas.List.FromFn.{length-map-range_with_len}
@@ -21,24 +21,26 @@ use Rattle.bd_machine.specs.BlockMap.{below}
 use Rattle.bd_machine.specs.Content.{Told}
 use Rattle.bd_machine.specs.Laws.{is_accept_of, is_complete_of, count_of}
 use Rattle.bd_machine.specs.Registry.{references, threads_of}
-use Rattle.bd_machine.specs.Run.{IsRunFrom, after_all}
+use Rattle.bd_machine.specs.Run.{IsRunFrom, after_all, state_after}
 use Rattle.bd_machine.specs.Same.{same_dev, same_handle}
 use Rattle.bd_machine.specs.Start.{start, part_at_start}
 use Rattle.bd_machine.specs.Step.{refusal, after, change_in}
 use Rattle.bd_machine.specs.Threads.{has}
 use Rattle.bd_machine.specs.Users.{is_base_handle}
-use Rattle.bd_machine.specs.View.{part_of, blank_part, is_of}
+use Rattle.bd_machine.specs.View.{part_of, blank_part, is_of, view}
 use Rattle.bd_machine.specs.Walks.{is_reset, is_kept_waiting, is_drained}
 use Rattle.bd_machine.proofs.Acts.{IsFresh}
+use Rattle.bd_machine.proofs.Complete.{fresh_start}
 use Rattle.bd_machine.proofs.Steps.{allowed_passes, fresh_after}
 use Rattle.bd_laws.specs.Quiescence as spec
-use Rattle.bd_laws.specs.Quiescence.{StandsOnEarlier, Quiescence, is_accept_above}
-use Rattle.bd_laws.proofs.Begins.{first_fit}
+use Rattle.bd_laws.specs.Quiescence.{Quiescence, is_accept_above}
+use Rattle.bd_laws.specs.Standing.{StandsOnEarlier, RequestsHaveHandles, RequestsHaveChannels, has_handle, is_used_by}
+use Rattle.bd_laws.proofs.Begins.{first_fit, first_counts}
 use Rattle.bd_laws.proofs.Channels.{Covered, above, val, all_have}
 use Rattle.bd_laws.proofs.Counted.{is_user, users_on, pending}
 use Rattle.bd_laws.proofs.Covered.{Covers}
-use Rattle.bd_laws.proofs.Drains.{fresh0, fresh1, fresh2, run_most, run_before, run_later, accepted_there, completed_at_end, all_later, held2, completed}
-use Rattle.bd_laws.proofs.Fit.{Fit, Counts, fit_after}
+use Rattle.bd_laws.proofs.Drains.{fresh1, fresh2, run_before, run_later, accepted_there, completed_at_end, all_later, held2, completed}
+use Rattle.bd_laws.proofs.Fit.{Fit, Counts, fit_after, counts_stay}
 use Rattle.bd_laws.proofs.Held.{Held, named_of}
 use Rattle.bd_laws.proofs.HeldOn.{held_on}
 use Rattle.bd_laws.proofs.Opened.{RowsOpen, HasHandle}
@@ -116,22 +118,22 @@ module _ (setup : Setup) where
     abbrev everyone : ℕ → Bool
     everyone u = true
 
-    names_all : (s : State) → Fit setup s → length s.parts ≡ setup.threads → s.registry.between ≡ None → (d : DevId) → d ≡ dev → Covers reset (There dev) (busy_in setup dev before (λ u. true) s) (threads_of setup s.registry d)
-    names_all s fit threads none d same u busy =
+    names_all : (s : State) → Fit setup s → ((t : ℕ) → Counts setup t s) → length s.parts ≡ setup.threads → s.registry.between ≡ None → (d : DevId) → d ≡ dev → Covers reset (There dev) (busy_in setup dev before (λ u. true) s) (threads_of setup s.registry d)
+    names_all s fit counts threads none d same u busy =
         let row = (and_parts true (list_any (is_older setup dev before) (part_of s u).requests) busy).1 in
         those_have (λ t. is_some (references s.registry t d)) setup.threads u (subst (λ (n : ℕ). u < n) threads (busy_thread (is_older setup dev before) s.parts u row))
-        (subst (λ (x : DevId). is_some (references s.registry u x) ≡ true) (sym same) (waits_has s u dev (is_older setup dev before) lower (fit.counts u) none (part_of s u).requests (fit.rows u) row))
+        (subst (λ (x : DevId). is_some (references s.registry u x) ≡ true) (sym same) (waits_has s u dev (is_older setup dev before) lower (counts u) none (part_of s u).requests (fit.rows u) row))
       where
         lower : (o : Open) → is_older setup dev before o ≡ true → is_below setup o.dev dev ≡ true
         lower o h = (and_parts (not (is_reset o.op)) (list_any (same_dev dev) (below setup o.dev)) (and_parts (was_accepted before o.id) (is_kept_waiting setup dev o) h).1).1
 
-    all_named : (s : State) (es : List Entry) → IsFresh s → Fit setup s → length s.parts ≡ setup.threads → IsRunFrom setup s es → AreLater before es → NoneOf (is_accept_of reset) es → NoneOf (is_complete_of reset) es
+    all_named : (s : State) (es : List Entry) → IsFresh s → Fit setup s → ((t : ℕ) → Counts setup t s) → length s.parts ≡ setup.threads → IsRunFrom setup s es → AreLater before es → NoneOf (is_accept_of reset) es → NoneOf (is_complete_of reset) es
         → Held reset (There dev) (busy_in setup dev before (λ u. true) s) s → AllNamed setup reset dev before (λ u. true) s es
-    all_named s [] fresh fit threads run new a c held = tt
-    all_named s (e ∷ es) fresh fit threads run new a c held =
-        let named = named_of setup s e reset (There dev) (busy_in setup dev before (λ u. true) s) held e.thread e.act (allowed_passes setup s e run.0) (λ d same none. names_all s fit threads none d same) in (
+    all_named s [] fresh fit counts threads run new a c held = tt
+    all_named s (e ∷ es) fresh fit counts threads run new a c held =
+        let named = named_of setup s e reset (There dev) (busy_in setup dev before (λ u. true) s) held e.thread e.act (allowed_passes setup s e run.0) (λ d same none. names_all s fit counts threads none d same) in (
           named,
-          all_named (after setup s e) es (fresh_after setup s e fresh run.0) (fit_after setup ordered s e fresh run.0 fit) (threads_stay setup s e ∙ threads) run.1 new.1 a.1 c.1
+          all_named (after setup s e) es (fresh_after setup s e fresh run.0) (fit_after setup s e fresh run.0 fit) (counts_stay setup ordered s e fresh run.0 fit counts) (threads_stay setup s e ∙ threads) run.1 new.1 a.1 c.1
               (held_on setup s e reset (There dev) (busy_in setup dev before (λ u. true) s) (busy_in setup dev before (λ u. true) (after setup s e)) fresh run.0 (completes_is reset e.act c.0) held named
               (λ d same k b. not_busy setup dev before (λ u. true) (part_of s e.thread) true (subst (λ (x : DevId). is_drained setup (part_of s e.thread) x Drain ≡ true) same k) b)
               (accepting_none reset (There dev) e.act a.0).0 (fewer_busy setup dev before (λ u. true) s e fresh run.0 new.0)),
@@ -139,9 +141,14 @@ module _ (setup : Setup) where
 
 -- ---- the law
 
-all_fit : (setup : Setup) → StandsOnEarlier setup → (s : State) (es : List Entry) → IsFresh s → IsRunFrom setup s es → Fit setup s → Fit setup (after_all setup s es)
-all_fit setup ordered s [] fresh run fit = fit
-all_fit setup ordered s (e ∷ es) fresh run fit = all_fit setup ordered (after setup s e) es (fresh_after setup s e fresh run.0) run.1 (fit_after setup ordered s e fresh run.0 fit)
+pub all_fit : (setup : Setup) (s : State) (es : List Entry) → IsFresh s → IsRunFrom setup s es → Fit setup s → Fit setup (after_all setup s es)
+all_fit setup s [] fresh run fit = fit
+all_fit setup s (e ∷ es) fresh run fit = all_fit setup (after setup s e) es (fresh_after setup s e fresh run.0) run.1 (fit_after setup s e fresh run.0 fit)
+
+all_counts : (setup : Setup) → StandsOnEarlier setup → (s : State) (es : List Entry) → IsFresh s → IsRunFrom setup s es → Fit setup s → ((t : ℕ) → Counts setup t s) → (t : ℕ) → Counts setup t (after_all setup s es)
+all_counts setup ordered s [] fresh run fit counts = counts
+all_counts setup ordered s (e ∷ es) fresh run fit counts =
+    all_counts setup ordered (after setup s e) es (fresh_after setup s e fresh run.0) run.1 (fit_after setup s e fresh run.0 fit) (counts_stay setup ordered s e fresh run.0 fit counts)
 
 all_threads : (setup : Setup) (s : State) (es : List Entry) → length (after_all setup s es).parts ≡ length s.parts
 all_threads setup s [] = refl
@@ -152,8 +159,9 @@ quiescence setup told reset dev before accept between complete ordered c r some 
     completed setup told reset dev before accept between complete c (λ u. true)
     (all_named setup ordered reset dev before (after setup (after_all setup (start setup told) before) accept) between
     (fresh2 setup told reset dev before accept between complete c (λ u. true))
-    (fit_after setup ordered (after_all setup (start setup told) before) accept (fresh1 setup told reset dev before accept between complete c (λ u. true)) (run_later setup told reset dev before accept between complete c).0
-    (all_fit setup ordered (start setup told) before (fresh0 setup told reset dev before accept between complete c) (run_before setup told reset dev before accept between complete c) (first_fit setup ordered told)))
+    (fit_after setup (after_all setup (start setup told) before) accept fresh_then (run_later setup told reset dev before accept between complete c).0 fit)
+    (counts_stay setup ordered (after_all setup (start setup told) before) accept fresh_then (run_later setup told reset dev before accept between complete c).0 fit
+    (all_counts setup ordered (start setup told) before (fresh_start setup told) run_first (first_fit setup told) (λ u. first_counts setup ordered u told)))
     (threads_stay setup (after_all setup (start setup told) before) accept ∙ all_threads setup (start setup told) before ∙ length-map-range_with_len (part_at_start setup told) 0 setup.threads)
     (run_later setup told reset dev before accept between complete c).1
     (all_later setup told reset dev before accept between complete c).1
@@ -161,3 +169,27 @@ quiescence setup told reset dev before accept between complete ordered c r some 
     (none_of (is_complete_of reset) between (completed_at_end setup told reset dev before accept between complete c).1)
     (held2 setup told reset dev before accept between complete c (λ u. true)))
     r refl some
+  where
+    run_first : IsRunFrom setup (start setup told) before
+    run_first = run_before setup told reset dev before accept between complete c
+
+    fresh_then : IsFresh (after_all setup (start setup told) before)
+    fresh_then = fresh1 setup told reset dev before accept between complete c (λ u. true)
+
+    fit : Fit setup (after_all setup (start setup told) before)
+    fit = all_fit setup (start setup told) before (fresh_start setup told) (run_before setup told reset dev before accept between complete c) (first_fit setup told)
+
+-- ---- the laws of what requests stand on
+
+pub requests_have_handles : RequestsHaveHandles
+requests_have_handles setup told es run t = go (part_of (state_after setup told es) t).requests ((all_fit setup (start setup told) es (fresh_start setup told) run (first_fit setup told)).rows t)
+  where
+    go : (rows : List Open) → RowsOpen setup (view (state_after setup told es) t).handles rows → list_all (has_handle (view (state_after setup told es) t).handles) rows ≡ true
+    go [] r = refl
+    go (o ∷ os) r = and_from (has_handle (view (state_after setup told es) t).handles o) (list_all (has_handle (view (state_after setup told es) t).handles) os) r.0.0 (go os r.1)
+
+pub requests_have_channels : RequestsHaveChannels
+requests_have_channels setup told es ordered run none t dev used =
+    waits_has setup (state_after setup told es) t dev (λ (o : Open). is_below setup o.dev dev) (λ o h. h)
+    (all_counts setup ordered (start setup told) es (fresh_start setup told) run (first_fit setup told) (λ u. first_counts setup ordered u told) t)
+    none (part_of (state_after setup told es) t).requests ((all_fit setup (start setup told) es (fresh_start setup told) run (first_fit setup told)).rows t) used

@@ -10,13 +10,13 @@ use Rattle.bd_base.specs.declared.id.DevId.{DevId}
 use Rattle.bd_base.specs.declared.id.ReqId.{ReqId}
 use Rattle.bd_base.specs.declared.setup.Setup.{Setup}
 use Rattle.bd_machine.specs.Aborts.{is_below}
-use Rattle.bd_machine.specs.BlockMap.{stands_on}
 use Rattle.bd_machine.specs.Content.{Told}
 use Rattle.bd_machine.specs.Laws.{is_complete_of, count_of}
 use Rattle.bd_machine.specs.Run.{IsRun}
 use Rattle.bd_machine.specs.Same.{same_dev, same_request}
 use Rattle.bd_machine.specs.Threads.{has}
 use Rattle.bd_machine.specs.Walks.{is_reset}
+use Rattle.bd_laws.specs.Standing.{StandsOnEarlier}
 
 -- a reset of the device is accepted
 abbrev pub is_reset_accept : ReqId → DevId → Act → Bool
@@ -48,10 +48,6 @@ WalksDrain = (setup : Setup) (told : Told) (reset : ReqId) (dev : DevId) (before
     → 0 < count_of (is_accept_above setup dev r) before → 0 < count_of (is_complete_of r) (before ++ accept ∷ between)
 
 -- ---- quiescence
-
--- each device stands on one with a number below its own, as in every setup that a configuration makes: a device is made after its base
-abbrev pub StandsOnEarlier : Setup → Type 0
-StandsOnEarlier setup = (dev base : DevId) → stands_on setup dev ≡ Some base → base.0 < dev.0
 
 -- each request but resets that was accepted before a reset, over its device, is completed before the reset is
 abbrev pub Quiescence : Type 0

@@ -2,6 +2,7 @@
 //! the machine's definitions alone prove.
 ghost use Rattle.bd_laws.specs.Ledger.{BudgetIsKept};
 ghost use Rattle.bd_laws.specs.Quiescence.{Quiescence, WalksDrain};
+ghost use Rattle.bd_laws.specs.Standing.{RequestsHaveChannels, RequestsHaveHandles};
 
 /// In every run, what is done to a device's limits keeps its budget: some start of its first timeslice
 /// fits each of its Ticks, and at each Let more than 0 is left of each limit that counts the request,
@@ -14,6 +15,18 @@ pub fn budget_is_kept()
 /// has its device below is completed, on every thread over which the reset's walks go.
 pub fn walks_drain()
     ensures { WalksDrain }
+{}
+
+/// In every run, each open request's handle is open on its thread, on the request's device.
+pub fn requests_have_handles()
+    ensures { RequestsHaveHandles }
+{}
+
+/// In every run of a setup whose devices stand on devices with smaller numbers, as each configuration
+/// makes them: a thread has a channel of each device below an open request of it, but between an open
+/// and its get and between a put and its close.
+pub fn requests_have_channels()
+    ensures { RequestsHaveChannels }
 {}
 
 /// In every run of a setup whose devices stand on devices with smaller numbers, as each configuration
