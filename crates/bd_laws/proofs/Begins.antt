@@ -1,5 +1,5 @@
 -- What the state before any entry has of handles, channels and open requests.
-use Rattle.std.proofs.Common.{◌≡◌, ℕ, zero, suc, ◌+◌, ◌<◌, ◌≤◌, Bool, true, false, cond, not, ◌&&◌, ◌||◌, ◌==◌, ◌⊎◌, inl, inr, List, [], ◌∷◌, ◌++◌, length, map, get_or, Option, Some, None, is_some, refl, sym, ◌∙◌, ap, subst, eqb-true, eq-eqb, ne_eqb, arith, le_refl}
+use Rattle.std.proofs.Common.{◌≡◌, ℕ, zero, suc, ◌+◌, ◌<◌, ◌≤◌, Bool, true, false, cond, not, ◌&&◌, ◌||◌, ◌==◌, ◌⊎◌, inl, inr, List, [], ◌∷◌, length, map, get_or, Option, Some, None, refl, sym, ap, subst, eq-eqb, ne_eqb, arith, le_refl}
 use Rattle.std.specs.Prelude.{slice_get, nat_lt, unwrap_or}
 use Rattle.std.specs.List.{filter, list_any, range_with_len}
 use Rattle.std.proofs.lemmas.Bool.{and_parts, and_from, cases_eq, lt-ltb}
@@ -28,7 +28,7 @@ use Rattle.bd_machine.proofs.Laws.{counts-own, channels-other}
 use Rattle.bd_machine.proofs.Tables.{dev_exact}
 use Rattle.bd_laws.specs.Standing.{StandsOnEarlier}
 use Rattle.bd_laws.proofs.Channels.{Covered, above, val, is_on_top, is_base_at, got_covered, deep_at}
-use Rattle.bd_laws.proofs.Counted.{InOrder, LiveFine, pending, is_user, users_on, weaker}
+use Rattle.bd_laws.proofs.Counted.{InOrder, LiveFine, pending, users_on, weaker}
 use Rattle.bd_laws.proofs.Fit.{Fit, Counts}
 use Rattle.bd_laws.proofs.Names.{FineNames, is_putter, puts}
 use Rattle.bd_laws.proofs.Opened.{RowsOpen, any_kept}

@@ -34,7 +34,7 @@ use Rattle.bd_machine.specs.Aborts.{aborted}
 use Rattle.bd_machine.specs.BlockMap.{size_of}
 use Rattle.bd_machine.specs.Completion.{pieces_of}
 use Rattle.bd_machine.specs.Delays.{held, released}
-use Rattle.bd_machine.specs.Events.{alone, with_due, removal_paid, removing, reset_begun, reset_thaws, injection_taken, with_reset, advanced, first_req, change_reg}
+use Rattle.bd_machine.specs.Events.{alone, removal_paid, removing, reset_begun, reset_thaws, injection_taken, with_reset, advanced, first_req, change_reg}
 use Rattle.bd_machine.specs.Guards.{change}
 use Rattle.bd_machine.specs.Homes.{base_here, change_applied, piece_edited, refused}
 use Rattle.bd_machine.specs.Injections.{injected, pended, asked_once_more}
@@ -45,9 +45,8 @@ use Rattle.bd_machine.specs.Requests.{extents_of, pieces_made, cut_into, closed_
 use Rattle.bd_machine.specs.Threads.{is_nobody}
 use Rattle.bd_machine.specs.View.{View, Came, Move, Change, id_of}
 use Rattle.bd_machine.specs.Walks.{begin_walk, after_walk, walked, walked_if_any, is_at_end, staged, drain_threads, marked_by, visited, reset_of}
-use Rattle.std.proofs.Common.{◌≡◌, ℕ, ◌+◌, ◌-◌, ◌*◌, ◌^◌, ◌<◌, ◌≤◌, Bool, true, false, cond, ◌&&◌, ◌==◌, ◌⊎◌, inl, inr, List, [], ◌∷◌, ◌++◌, Option, Some, None, refl, sym, ◌∙◌, ap, subst, eqb-true, arith}
-use Rattle.std.specs.Int.{bit_at}
-use Rattle.std.proofs.lemmas.Bool.{and_parts, and_from, cases_eq}
+use Rattle.std.proofs.Common.{◌≡◌, ℕ, ◌+◌, Bool, true, false, cond, ◌&&◌, ◌==◌, List, [], ◌∷◌, ◌++◌, Option, Some, None, refl, sym, ◌∙◌, ap, subst}
+use Rattle.std.proofs.lemmas.Bool.{and_parts, and_from}
 use Rattle.bd_machine.specs.declared.state.Place.{Place}
 use Rattle.bd_machine.specs.declared.state.Place.TheVariants.{At, Ring, Nowhere}
 use Rattle.bd_machine.specs.declared.state.Tracked.{Tracked}

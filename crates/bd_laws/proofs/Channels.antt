@@ -1,5 +1,5 @@
 -- A thread's references: each device has one for each handle on it, each channel above it, and what else needs one. What the registry's events make of that.
-use Rattle.std.proofs.Common.{◌≡◌, ℕ, zero, suc, ◌+◌, ◌-◌, ◌<◌, ◌≤◌, Bool, true, false, cond, not, ◌&&◌, ◌||◌, ◌==◌, ◌⊎◌, inl, inr, List, [], ◌∷◌, ◌++◌, length, map, Option, Some, None, is_some, refl, sym, ◌∙◌, ap, subst, eqb-true, eq-eqb, ne_eqb, arith}
+use Rattle.std.proofs.Common.{◌≡◌, ℕ, zero, suc, ◌+◌, ◌-◌, ◌<◌, ◌≤◌, Bool, true, false, cond, ◌&&◌, ◌||◌, ◌⊎◌, inl, inr, List, [], ◌∷◌, ◌++◌, length, map, Option, Some, None, is_some, refl, sym, ◌∙◌, ap, subst, eq-eqb, ne_eqb, arith}
 use Rattle.std.specs.Prelude.{slice_get}
 use Rattle.std.specs.List.{list_any}
 use Rattle.std.proofs.lemmas.Bool.{and_parts, and_from, cases_eq}
@@ -7,8 +7,8 @@ use Rattle.bd_base.specs.declared.device.DevRow.{DevRow}
 use Rattle.bd_base.specs.declared.id.DevId.{DevId}
 use Rattle.bd_base.specs.declared.setup.Setup.{Setup}
 use Rattle.bd_machine.specs.Alone.{counts_by}
-use Rattle.bd_machine.specs.BlockMap.{below, stands_on, dev_of_block, under, path_within, shift_of_row, row_of, base_of_row}
-use Rattle.bd_machine.specs.Changes.{Count, counts_got, got_at, base_put, one_less}
+use Rattle.bd_machine.specs.BlockMap.{stands_on, dev_of_block, under, path_within, shift_of_row, row_of, base_of_row}
+use Rattle.bd_machine.specs.Changes.{counts_got, got_at, base_put, one_less}
 use Rattle.bd_machine.specs.Laws.{one_if}
 use Rattle.bd_machine.specs.Same.{same_dev}
 use Rattle.bd_machine.specs.Users.{dev_of}
@@ -146,19 +146,6 @@ module _ (setup : Setup) where
 
     abbrev pub with_one : (DevId → Option ℕ) → DevId → Option ℕ → DevId → Option ℕ
     with_one refs dev count d = cond (same_dev dev d) count (refs d)
-
-    not_self : (dev base : DevId) → stands_on setup dev ≡ Some base → same_dev base dev ≡ false
-    not_self dev base on = ne_eqb base.0 dev.0 (apart base.0 dev.0 (ordered dev base on))
-      where
-        apart : (a b : ℕ) → a < b → a ≡ b → ⊥
-        apart a b h e = omega arith
-
-    base_not : (dev : DevId) → is_base_at dev (stands_on setup dev) ≡ false
-    base_not dev = go (stands_on setup dev) refl
-      where
-        go : (o : Option DevId) → stands_on setup dev ≡ o → is_base_at dev o ≡ false
-        go None e = refl
-        go (Some base) e = not_self dev base e
 
     -- one reference more where there is a channel
     more_covered : (refs : DevId → Option ℕ) (dev : DevId) (n : ℕ) → refs dev ≡ Some n → Covered need refs (λ d. one_if (same_dev dev d)) → Covered need (with_one refs dev (Some (n + 1))) (λ d. 0)

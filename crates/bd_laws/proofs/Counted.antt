@@ -1,8 +1,8 @@
 -- What the registry's events make of a thread's references: each device has one for each of the thread's handles on it, each channel above it, and each put that is still to come.
-use Rattle.std.proofs.Common.{◌≡◌, ℕ, zero, suc, ◌+◌, ◌-◌, ◌<◌, ◌≤◌, Bool, true, false, cond, not, ◌&&◌, ◌||◌, ◌==◌, ◌⊎◌, inl, inr, List, [], ◌∷◌, ◌++◌, length, map, Option, Some, None, is_some, is_none, refl, sym, ◌∙◌, ap, subst, eqb-true, eq-eqb, ne_eqb, arith, le_refl}
+use Rattle.std.proofs.Common.{◌≡◌, ℕ, suc, ◌+◌, ◌-◌, ◌<◌, ◌≤◌, Bool, true, false, cond, not, ◌&&◌, ◌||◌, ◌==◌, List, [], ◌∷◌, ◌++◌, length, map, Option, Some, None, is_some, is_none, refl, sym, ◌∙◌, ap, subst, eqb-true, eq-eqb, ne_eqb, arith, le_refl}
 use Rattle.std.specs.Prelude.{slice_get}
-use Rattle.std.specs.List.{filter, find, list_any}
-use Rattle.std.proofs.lemmas.Bool.{and_parts, and_from, cases_eq}
+use Rattle.std.specs.List.{filter, list_any}
+use Rattle.std.proofs.lemmas.Bool.{and_parts, and_from}
 use Rattle.bd_base.specs.declared.event.Answer.{Answer}
 use Rattle.bd_base.specs.declared.event.Answer.TheVariants as answers
 use Rattle.bd_base.specs.declared.event.ClaimKind.{ClaimKind}
@@ -20,7 +20,7 @@ use Rattle.bd_machine.specs.declared.state.Handle.{Handle}
 use Rattle.bd_machine.specs.declared.state.Registry.{Registry}
 use Rattle.bd_machine.specs.declared.state.State.{State}
 use Rattle.bd_machine.specs.Alone.{counts_by}
-use Rattle.bd_machine.specs.Asked.{asks_between, asks_freely, is_handle_on, may_close, is_get_of, is_close_on, open_on, job_now, is_job_close}
+use Rattle.bd_machine.specs.Asked.{asks_between, is_handle_on, may_close, is_get_of, is_close_on, open_on, job_now, is_job_close}
 use Rattle.bd_machine.specs.Admission.{is_gone}
 use Rattle.bd_machine.specs.AsYet.{as_yet}
 use Rattle.bd_machine.specs.BlockMap.{below, stands_on}
@@ -33,7 +33,7 @@ use Rattle.bd_machine.specs.Users.{is_base_handle}
 use Rattle.bd_machine.specs.View.{View, Came, view, is_of}
 use Rattle.bd_machine.proofs.Tables.{dev_exact}
 use Rattle.bd_laws.specs.Standing.{StandsOnEarlier}
-use Rattle.bd_laws.proofs.Channels.{Covered, above, val, with_one, got_covered, deep_at, put_covered, dropped_covered, same_here}
+use Rattle.bd_laws.proofs.Channels.{Covered, above, val, with_one, got_covered, deep_at, put_covered, dropped_covered}
 use Rattle.bd_laws.proofs.Sums.{count_in, in_push, in_filter, in_filter_less, in_map}
 
 differ : {b : Bool} → b ≡ true → b ≡ false → ⊥

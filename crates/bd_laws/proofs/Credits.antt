@@ -1,15 +1,13 @@
 -- A limited device's home puts its channel once: while the device is live, while the walk of its removal still has the home to visit, or while the put is owed.
-use Rattle.std.proofs.Common.{◌≡◌, ℕ, zero, suc, ◌+◌, ◌-◌, ◌<◌, ◌≤◌, Bool, true, false, cond, not, ◌&&◌, ◌||◌, ◌==◌, ◌⊎◌, inl, inr, List, [], ◌∷◌, ◌++◌, Option, Some, None, is_some, refl, sym, ◌∙◌, ap, subst, eqb-true, eq-eqb, arith, le_refl}
-use Rattle.std.specs.Prelude.{option_and_then, slice_get}
+use Rattle.std.proofs.Common.{◌≡◌, ℕ, zero, suc, ◌+◌, ◌-◌, ◌≤◌, Bool, true, false, cond, ◌&&◌, ◌==◌, ◌⊎◌, inl, inr, List, [], ◌∷◌, Option, Some, None, is_some, refl, sym, ◌∙◌, ap, subst, eqb-true, arith, le_refl}
+use Rattle.std.specs.Prelude.{slice_get}
 use Rattle.std.specs.List.{AllByRecursion, list_any, find, range_with_len}
 use Rattle.std.proofs.lemmas.Bool.{and_parts, and_from, cases_eq}
 use Rattle.bd_base.specs.declared.act.Act.{Act}
 use Rattle.bd_base.specs.declared.act.Act.TheVariants as acts
 use Rattle.bd_base.specs.declared.act.Entry.{Entry}
-use Rattle.bd_base.specs.declared.act.Token.{Token}
 use Rattle.bd_base.specs.declared.event.Answer.{Answer}
 use Rattle.bd_base.specs.declared.event.Answer.TheVariants as answers
-use Rattle.bd_base.specs.declared.event.RegEvent.{RegEvent}
 use Rattle.bd_base.specs.declared.event.RegEvent.TheVariants as events
 use Rattle.bd_base.specs.declared.id.DevId.{DevId}
 use Rattle.bd_base.specs.declared.id.WalkId.{WalkId}
@@ -17,7 +15,7 @@ use Rattle.bd_base.specs.declared.request.WalkKind.{WalkKind}
 use Rattle.bd_base.specs.declared.request.WalkKind.TheVariants.{Freeze, Drain, Thaw, Removal}
 use Rattle.bd_base.specs.declared.setup.Setup.{Setup}
 use Rattle.bd_machine.specs.declared.state.Id.{Id}
-use Rattle.bd_machine.specs.declared.state.Id.TheVariants.{Request, Piece, Walk, Notice}
+use Rattle.bd_machine.specs.declared.state.Id.TheVariants.{Walk}
 use Rattle.bd_machine.specs.declared.state.Kept.{Kept}
 use Rattle.bd_machine.specs.declared.state.Kept.TheVariants as keeps
 use Rattle.bd_machine.specs.declared.state.OpenWalk.{OpenWalk}
@@ -25,7 +23,6 @@ use Rattle.bd_machine.specs.declared.state.Owed.TheVariants as owes
 use Rattle.bd_machine.specs.declared.state.Part.{Part}
 use Rattle.bd_machine.specs.declared.state.State.{State}
 use Rattle.bd_machine.specs.declared.state.Tracked.{Tracked}
-use Rattle.bd_base.specs.declared.thread_set.ThreadSet.{ThreadSet}
 use Rattle.bd_machine.specs.declared.state.Between.{Between}
 use Rattle.bd_machine.specs.declared.state.Device.{Device}
 use Rattle.bd_machine.specs.declared.state.Registry.{Registry}
@@ -34,15 +31,14 @@ use Rattle.bd_machine.specs.Asked.{asks_between}
 use Rattle.bd_machine.specs.Changes.{registry_after, with_standing}
 use Rattle.bd_machine.specs.Destruction.{is_removing_of}
 use Rattle.bd_machine.specs.Events.{removal_paid}
-use Rattle.bd_machine.specs.Guards.{guards, change}
 use Rattle.bd_machine.specs.Kept.{as_walk, walk_here}
 use Rattle.bd_machine.specs.Laws.{one_if}
-use Rattle.bd_machine.specs.Registry.{is_live, is_live_standing, standing_if_any, device_named, answer_to, remove_answer}
+use Rattle.bd_machine.specs.Registry.{is_live, is_live_standing, standing_if_any, device_named, remove_answer}
 use Rattle.bd_machine.specs.Same.{same_dev, same_id, same_owed, same_answer, same_walk_kind, is_the}
 use Rattle.bd_machine.specs.Step.{guards_in, change_in, refusal, moved, after}
 use Rattle.bd_machine.specs.Table.{look_up, change_at}
 use Rattle.bd_machine.specs.Threads.{first_of, has}
-use Rattle.bd_machine.specs.View.{View, Came, Change, Move, Going, Here, Closed, asked, kept_on, view, came_for, part_of, here_of, message_for, message_of, id_of, took}
+use Rattle.bd_machine.specs.View.{Change, Move, Going, Here, Closed, asked, kept_on, view, came_for, part_of, here_of, id_of}
 use Rattle.bd_machine.specs.Walks.{is_next_visit, visited, walked, after_walk, is_at_end, walked_if_any, marked_by}
 use Rattle.bd_machine.proofs.Acts.{Passes, passed, IsFresh}
 use Rattle.bd_machine.proofs.Destruction.{step_stays}
@@ -51,7 +47,7 @@ use Rattle.bd_machine.specs.declared.state.Place.TheVariants.{At, Ring, Nowhere}
 use Rattle.bd_machine.proofs.Laws.{tracked, found-moved}
 use Rattle.bd_machine.proofs.Tables.{id_same, dev_exact}
 use Rattle.bd_machine.proofs.Steps.{allowed_passes, part_is, part_stays}
-use Rattle.bd_laws.proofs.Carriers.{is_removal, is_carrier, kept_carries, carries, OnlyIf, AreOld, BeginsOld, KnowsOld, moves_old, carries_after, here_only, message_only, visited_not}
+use Rattle.bd_laws.proofs.Carriers.{is_removal, is_carrier, kept_carries, carries, BeginsOld, moves_old, carries_after, here_only, message_only, visited_not}
 use Rattle.bd_laws.proofs.Counted.{freely}
 use Rattle.bd_laws.proofs.Facts.{removed_live}
 use Rattle.bd_laws.proofs.Ledger.{tokens_after_is}

@@ -1,12 +1,11 @@
 -- On the threads over which a reset's walks go, nothing older is open when it completes; and nothing at all, where every answer names every thread with an older request.
-use Rattle.std.proofs.Common.{◌≡◌, ℕ, zero, suc, ◌+◌, ◌<◌, ◌≤◌, Bool, true, false, cond, not, ◌&&◌, ◌||◌, ◌==◌, ◌⊎◌, inl, inr, nat_lt, List, [], ◌∷◌, ◌++◌, Option, Some, None, refl, sym, ◌∙◌, ap, subst, eqb-true, eq-eqb, arith}
+use Rattle.std.proofs.Common.{◌≡◌, ℕ, zero, suc, ◌+◌, ◌<◌, ◌≤◌, Bool, true, false, not, ◌&&◌, ◌||◌, ◌==◌, nat_lt, List, [], ◌∷◌, ◌++◌, None, refl, sym, ◌∙◌, ap, subst, eqb-true, eq-eqb, arith}
 use Rattle.std.specs.List.{AllByRecursion, list_any}
-use Rattle.std.proofs.lemmas.Bool.{and_parts, and_from, cases_eq, lt-ltb}
+use Rattle.std.proofs.lemmas.Bool.{and_parts, and_from, lt-ltb}
 use Rattle.bd_base.specs.declared.act.Act.{Act}
 use Rattle.bd_base.specs.declared.act.Act.TheVariants as acts
 use Rattle.bd_base.specs.declared.act.Entry.{Entry}
 use Rattle.bd_base.specs.declared.event.Answer.{Answer}
-use Rattle.bd_base.specs.declared.event.Answer.TheVariants as answers
 use Rattle.bd_base.specs.declared.event.RegEvent.TheVariants as events
 use Rattle.bd_base.specs.declared.id.DevId.{DevId}
 use Rattle.bd_base.specs.declared.id.ReqId.{ReqId}
@@ -18,7 +17,7 @@ use Rattle.bd_machine.specs.declared.state.State.{State}
 use Rattle.bd_machine.specs.Aborts.{is_below}
 use Rattle.bd_machine.specs.Content.{Told}
 use Rattle.bd_machine.specs.Laws.{is_accept_of, is_complete_of, one_if, count_of}
-use Rattle.bd_machine.specs.Run.{IsRun, IsRunFrom, after_all, state_after}
+use Rattle.bd_machine.specs.Run.{IsRunFrom, after_all, state_after}
 use Rattle.bd_machine.specs.Same.{same_dev, same_request}
 use Rattle.bd_machine.specs.Start.{start}
 use Rattle.bd_machine.specs.Step.{refusal, after}
@@ -32,11 +31,11 @@ use Rattle.bd_machine.proofs.Tables.{request_same, dev_exact}
 use Rattle.bd_laws.specs.Quiescence as spec
 use Rattle.bd_laws.specs.Quiescence.{is_reset_accept, is_accept_above, names_thread, WalksDrain}
 use Rattle.bd_laws.proofs.Bare.{AcceptsReset, IsBareIn, bare_on}
-use Rattle.bd_laws.proofs.Covered.{Covers, Quiet}
+use Rattle.bd_laws.proofs.Covered.{Quiet}
 use Rattle.bd_laws.proofs.Held.{Held, held_more, Named}
 use Rattle.bd_laws.proofs.Rows.{Completes}
 use Rattle.bd_laws.proofs.HeldOn.{Accepting, held_on}
-use Rattle.bd_laws.proofs.Quiet.{differ, count_both, NoneOf, none_of, run_first, run_rest, all_both, row_of_accepted, was_accepted, is_older, busy_in, AreLater, Nowhere, There, AllNamed, completes_is, not_busy, fewer_busy, held_before, bare_before, first_held, first_bare, held_after, quiet_at}
+use Rattle.bd_laws.proofs.Quiet.{differ, count_both, none_of, run_first, run_rest, all_both, row_of_accepted, was_accepted, is_older, busy_in, AreLater, Nowhere, There, AllNamed, not_busy, fewer_busy, held_before, bare_before, first_held, first_bare, held_after, quiet_at}
 
 pub fresh_all : (setup : Setup) (s : State) (es : List Entry) → IsFresh s → IsRunFrom setup s es → IsFresh (after_all setup s es)
 fresh_all setup s [] fresh run = fresh

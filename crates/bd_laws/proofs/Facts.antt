@@ -1,9 +1,7 @@
 -- What the registry's answers say, and what its events leave of the order of its handles, and of what is live where a channel has to follow.
-use Rattle.std.proofs.Common.{◌≡◌, ℕ, suc, ◌+◌, ◌<◌, ◌≤◌, Bool, true, false, cond, not, ◌&&◌, ◌==◌, nat_lt, List, [], ◌∷◌, ◌++◌, length, map, Option, Some, None, is_some, refl, sym, ◌∙◌, ap, subst, eqb-true, ltb-true, arith}
-use Rattle.std.specs.Prelude.{slice_get}
-use Rattle.std.specs.List.{filter, position, position_or_len}
-use Rattle.std.proofs.lemmas.Bool.{and_parts, lt-ltb}
-use Rattle.bd_base.specs.declared.act.Act.{Act}
+use Rattle.std.proofs.Common.{◌≡◌, ℕ, suc, ◌+◌, ◌<◌, ◌≤◌, Bool, true, false, cond, not, ◌&&◌, ◌==◌, nat_lt, List, [], ◌∷◌, length, map, Option, Some, None, is_some, refl, sym, ◌∙◌, ap, subst, eqb-true, ltb-true, arith}
+use Rattle.std.specs.List.{position, position_or_len}
+use Rattle.std.proofs.lemmas.Bool.{and_parts}
 use Rattle.bd_base.specs.declared.act.Act.TheVariants as acts
 use Rattle.bd_base.specs.declared.event.Answer.{Answer}
 use Rattle.bd_base.specs.declared.event.Answer.TheVariants as answers
@@ -13,17 +11,15 @@ use Rattle.bd_base.specs.declared.event.RegEvent.TheVariants as events
 use Rattle.bd_base.specs.declared.id.DevId.{DevId}
 use Rattle.bd_base.specs.declared.id.HandleId.{HandleId}
 use Rattle.bd_base.specs.declared.request.Errno.{Errno}
-use Rattle.bd_base.specs.declared.request.Errno.TheVariants.{NoDev, BadDesc, Busy, Inval}
+use Rattle.bd_base.specs.declared.request.Errno.TheVariants.{NoDev, BadDesc, Inval}
 use Rattle.bd_base.specs.declared.setup.Setup.{Setup}
-use Rattle.bd_machine.specs.declared.state.Between.{Between}
-use Rattle.bd_machine.specs.declared.state.Between.TheVariants.{Opening, Closing}
 use Rattle.bd_machine.specs.declared.state.Handle.{Handle}
 use Rattle.bd_machine.specs.declared.state.Registry.{Registry}
 use Rattle.bd_machine.specs.declared.state.Standing.{Standing}
 use Rattle.bd_machine.specs.declared.state.Standing.TheVariants as standings
 use Rattle.bd_machine.specs.Changes.{handles_after, next_after, between_after, registry_after, with_claim}
 use Rattle.bd_machine.specs.Claims.{open_refusal, claim_refusal}
-use Rattle.bd_machine.specs.Registry.{Question, is_own, is_live, is_live_standing, are_live, handle_of, holders_on, device_named, open_answer, close_answer, freed_by_close, claim_answer, refused_or, remove_answer, remove_answer_at, standing_of, handles_on, threads_of, opener_of, if_so, destructed_answer, left_open, is_free, is_last_user, answer_to}
+use Rattle.bd_machine.specs.Registry.{is_own, is_live, is_live_standing, are_live, handle_of, holders_on, device_named, open_answer, close_answer, freed_by_close, claim_answer, refused_or, remove_answer, remove_answer_at, standing_of, handles_on, threads_of, opener_of, if_so, destructed_answer, left_open, is_free, is_last_user, answer_to}
 use Rattle.bd_machine.specs.Destruction.{is_removing_of}
 use Rattle.bd_machine.specs.Threads.{is_nobody}
 use Rattle.std.specs.Cmp.Lexicographic.{pointwise}
@@ -31,7 +27,7 @@ use Rattle.bd_machine.specs.Same.{same_threads, same_holder, same_dev, same_hand
 use Rattle.bd_machine.specs.Users.{base_handle, firsts, handle_of_number, is_base_handle, shares_handle}
 use Rattle.bd_machine.proofs.Tables.{dev_exact}
 use Rattle.bd_laws.proofs.Counted.{InOrder, LiveFine, order_push, order_filter, order_map, claim_id}
-use Rattle.bd_laws.proofs.Names.{AnswerFine, FreesBase, EventFine}
+use Rattle.bd_laws.proofs.Names.{FreesBase, EventFine}
 
 abbrev Answered : Setup → Registry → ℕ → RegEvent → Answer → Type 0
 Answered setup r t event a = same_answer a (answer_to setup r t event) ≡ true
@@ -90,7 +86,7 @@ removed_live setup r (Some n) (answers.Removing d threads handles destruct) dev 
     go : (x : Standing) → standing_of r (record { 0 = n }) ≡ x → same_answer (answers.Removing d threads handles destruct) (remove_answer_at setup r (record { 0 = n }) x) ≡ true → is_live r dev ≡ true
     go standings.Live e h =
         let p = and_parts (same_dev d (record { 0 = n }) && same_threads threads (threads_of setup r (record { 0 = n })) && pointwise same_holder handles (map opener_of (handles_on r (record { 0 = n }))))
-            (same_if_any same_dev destruct (if_so ((length (handles_on r (record { 0 = n })) == 0) && is_nobody (threads_of setup r (record { 0 = n }))) (record { 0 = n }))) h in
+        (same_if_any same_dev destruct (if_so ((length (handles_on r (record { 0 = n })) == 0) && is_nobody (threads_of setup r (record { 0 = n }))) (record { 0 = n }))) h in
         let q = and_parts (same_dev d (record { 0 = n }) && same_threads threads (threads_of setup r (record { 0 = n }))) (pointwise same_holder handles (map opener_of (handles_on r (record { 0 = n })))) p.0 in
         let k = and_parts (same_dev d (record { 0 = n })) (same_threads threads (threads_of setup r (record { 0 = n }))) q.0 in
         let same : dev ≡ record { 0 = n } = sym (dev_exact d dev m) ∙ dev_exact d (record { 0 = n }) k.0 in

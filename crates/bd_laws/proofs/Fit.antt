@@ -1,29 +1,25 @@
 -- What every state of a run keeps of handles, channels and open requests.
-use Rattle.std.proofs.Common.{◌≡◌, ℕ, zero, suc, ◌+◌, ◌-◌, ◌<◌, ◌≤◌, Bool, true, false, cond, not, ◌&&◌, ◌||◌, ◌==◌, ◌⊎◌, inl, inr, List, [], ◌∷◌, ◌++◌, length, Option, Some, None, is_some, refl, sym, ◌∙◌, ap, subst, eqb-true, eq-eqb, ne_eqb, arith, le_refl}
-use Rattle.std.specs.Prelude.{set}
+use Rattle.std.proofs.Common.{◌≡◌, ℕ, ◌+◌, ◌-◌, ◌≤◌, Bool, true, false, ◌&&◌, ◌==◌, ◌⊎◌, inl, inr, List, length, Option, Some, None, refl, sym, ◌∙◌, ap, subst, eqb-true, eq-eqb, ne_eqb, arith, le_refl}
 use Rattle.std.specs.List.{filter}
 use Rattle.std.proofs.lemmas.Bool.{and_parts, cases_eq}
-use Rattle.std.proofs.lemmas.List.{length-set}
 use Rattle.bd_base.specs.declared.act.Act.{Act}
 use Rattle.bd_base.specs.declared.act.Act.TheVariants as acts
 use Rattle.bd_base.specs.declared.act.Entry.{Entry}
 use Rattle.bd_base.specs.declared.event.Answer.{Answer}
-use Rattle.bd_base.specs.declared.event.Answer.TheVariants as answers
 use Rattle.bd_base.specs.declared.event.RegEvent.{RegEvent}
 use Rattle.bd_base.specs.declared.event.RegEvent.TheVariants as events
 use Rattle.bd_base.specs.declared.id.DevId.{DevId}
-use Rattle.bd_base.specs.declared.request.WalkKind.TheVariants.{Freeze, Drain, Thaw, Removal}
+use Rattle.bd_base.specs.declared.request.WalkKind.TheVariants.{Removal}
 use Rattle.bd_base.specs.declared.setup.Setup.{Setup}
 use Rattle.bd_machine.specs.declared.state.Between.{Between}
 use Rattle.bd_machine.specs.declared.state.Between.TheVariants.{Opening, Closing}
 use Rattle.bd_machine.specs.declared.state.Handle.{Handle}
 use Rattle.bd_machine.specs.declared.state.Open.{Open}
-use Rattle.bd_machine.specs.declared.state.Part.{Part}
 use Rattle.bd_machine.specs.declared.state.Registry.{Registry}
 use Rattle.bd_machine.specs.declared.state.State.{State}
 use Rattle.bd_machine.specs.Alone.{counts_by, own_handles_after, own_channels_after}
 use Rattle.bd_machine.specs.Asked.{asks_between, is_get_of, is_close_on}
-use Rattle.bd_machine.specs.Changes.{between_after, registry_after, handles_after, counts_after}
+use Rattle.bd_machine.specs.Changes.{registry_after, handles_after, counts_after}
 use Rattle.bd_machine.specs.Laws.{one_if}
 use Rattle.bd_machine.specs.Registry.{Question, references}
 use Rattle.bd_machine.specs.Same.{same_dev}
@@ -33,12 +29,12 @@ use Rattle.bd_machine.specs.View.{View, Came, view, came_for, part_of, asked, is
 use Rattle.bd_machine.proofs.Acts.{Passes, passed, IsFresh}
 use Rattle.bd_machine.proofs.Steps.{allowed_passes, part_is, part_stays, own, frame}
 use Rattle.bd_laws.specs.Standing.{StandsOnEarlier}
-use Rattle.bd_laws.proofs.Channels.{Covered, above, val}
+use Rattle.bd_laws.proofs.Channels.{Covered}
 use Rattle.bd_laws.proofs.Counted.{InOrder, LiveFine, Spends, pending, users_on, weaker, covered_event}
 use Rattle.bd_laws.proofs.Credits.{Credit, credit_after, credit_pays, is_put_by_home, registry_is}
 use Rattle.bd_laws.proofs.Facts.{event_fine, order_event, next_event, live_event}
-use Rattle.bd_laws.proofs.Fields.{requests_after, requests_are}
-use Rattle.bd_laws.proofs.Names.{FineNames, ActFine, IsVisit, act_tame, visit_fine}
+use Rattle.bd_laws.proofs.Fields.{requests_are}
+use Rattle.bd_laws.proofs.Names.{FineNames, ActFine, act_tame, visit_fine}
 use Rattle.bd_laws.proofs.Opened.{RowsOpen, rows_act}
 
 -- handles are numbered in order, names and requests stand on none of a base, and each open request's handle is open

@@ -1,5 +1,5 @@
 -- A thread's open requests stand on handles that it has open, and on no base handle.
-use Rattle.std.proofs.Common.{◌≡◌, ℕ, suc, ◌+◌, ◌<◌, ◌≤◌, Bool, true, false, cond, not, ◌&&◌, ◌||◌, ◌==◌, List, [], ◌∷◌, ◌++◌, length, map, Option, Some, None, is_none, is_some, refl, sym, ◌∙◌, ap, subst, eqb-true, eq-eqb, arith}
+use Rattle.std.proofs.Common.{◌≡◌, ℕ, suc, Bool, true, false, cond, not, ◌&&◌, ◌||◌, ◌==◌, List, [], ◌∷◌, ◌++◌, length, map, Option, Some, None, is_none, refl, sym, ◌∙◌, ap, subst, eqb-true, arith}
 use Rattle.std.specs.List.{AllByRecursion, filter, find, list_any, count_by}
 use Rattle.std.proofs.lemmas.Bool.{and_parts, and_from}
 use Rattle.std.proofs.lemmas.List.Sums.{length-filter}
@@ -28,7 +28,7 @@ use Rattle.bd_machine.specs.declared.state.Owed.{Owed}
 use Rattle.bd_machine.specs.declared.state.Owed.TheVariants as owes
 use Rattle.bd_machine.specs.declared.state.Part.{Part}
 use Rattle.bd_machine.specs.declared.state.State.{State}
-use Rattle.bd_machine.specs.Admission.{refusal_of, refusal_on, is_removed_handle}
+use Rattle.bd_machine.specs.Admission.{refusal_on, is_removed_handle}
 use Rattle.bd_machine.specs.Alone.{own_handles_after}
 use Rattle.bd_machine.specs.Asked.{asks_between, asks_submission, is_job_submit, undecided_job, bound_to, handle_bound, op_asked, open_on, may_close, is_handle_on, is_close_on}
 use Rattle.bd_machine.specs.Changes.{handles_after, with_claim}
@@ -76,10 +76,6 @@ any_map is f same [] = refl
 any_map is f same (x ∷ xs) = ap (λ b. b || list_any is (map f xs)) (same x) ∙ ap (λ b. is x || b) (any_map is f same xs)
 
 -- ---- requests and handles
-
--- the handle of the request, on the request's device
-abbrev pub is_handle_of : Open → Handle → Bool
-is_handle_of o h = same_handle h.id o.handle && same_dev h.dev o.dev
 
 module _ (setup : Setup) where
   -- its handle is among these, and is no base handle

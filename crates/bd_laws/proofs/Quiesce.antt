@@ -1,7 +1,6 @@
 -- Quiescence: the registry names every thread that has an older request open over the device, so none is open when a reset completes.
-use Rattle.std.proofs.Common.{◌≡◌, ℕ, zero, suc, ◌+◌, ◌<◌, ◌≤◌, Bool, true, false, cond, not, ◌&&◌, ◌||◌, ◌==◌, List, [], ◌∷◌, ◌++◌, length, map, get_or, Option, Some, None, is_some, refl, sym, ◌∙◌, ap, subst, eqb-true, arith}
-use Rattle.std.specs.Prelude.{set}
-use Rattle.std.specs.List.{AllByRecursion, filter, list_all, list_any, range_with_len}
+use Rattle.std.proofs.Common.{◌≡◌, ℕ, zero, suc, ◌+◌, ◌<◌, ◌≤◌, Bool, true, false, not, ◌&&◌, ◌||◌, List, [], ◌∷◌, length, get_or, Option, Some, None, is_some, refl, sym, ◌∙◌, ap, subst, eqb-true, arith}
+use Rattle.std.specs.List.{filter, list_all, list_any}
 use Rattle.std.proofs.lemmas.Bool.{and_parts, and_from}
 use Rattle.std.proofs.lemmas.List.{length-set}
 use Rattle.std.proofs.lemmas.List.FromFn.{length-map-range_with_len}
@@ -14,27 +13,23 @@ use Rattle.bd_base.specs.declared.setup.Setup.{Setup}
 use Rattle.bd_machine.specs.declared.state.Handle.{Handle}
 use Rattle.bd_machine.specs.declared.state.Open.{Open}
 use Rattle.bd_machine.specs.declared.state.Part.{Part}
-use Rattle.bd_machine.specs.declared.state.Registry.{Registry}
 use Rattle.bd_machine.specs.declared.state.State.{State}
 use Rattle.bd_machine.specs.Aborts.{is_below}
 use Rattle.bd_machine.specs.BlockMap.{below}
-use Rattle.bd_machine.specs.Content.{Told}
-use Rattle.bd_machine.specs.Laws.{is_accept_of, is_complete_of, count_of}
+use Rattle.bd_machine.specs.Laws.{is_accept_of, is_complete_of}
 use Rattle.bd_machine.specs.Registry.{references, threads_of}
 use Rattle.bd_machine.specs.Run.{IsRunFrom, after_all, state_after}
 use Rattle.bd_machine.specs.Same.{same_dev, same_handle}
 use Rattle.bd_machine.specs.Start.{start, part_at_start}
-use Rattle.bd_machine.specs.Step.{refusal, after, change_in}
-use Rattle.bd_machine.specs.Threads.{has}
+use Rattle.bd_machine.specs.Step.{after, change_in}
 use Rattle.bd_machine.specs.Users.{is_base_handle}
 use Rattle.bd_machine.specs.View.{part_of, blank_part, is_of, view}
 use Rattle.bd_machine.specs.Walks.{is_reset, is_kept_waiting, is_drained}
 use Rattle.bd_machine.proofs.Acts.{IsFresh}
 use Rattle.bd_machine.proofs.Complete.{fresh_start}
 use Rattle.bd_machine.proofs.Steps.{allowed_passes, fresh_after}
-use Rattle.bd_laws.specs.Quiescence as spec
-use Rattle.bd_laws.specs.Quiescence.{Quiescence, is_accept_above}
-use Rattle.bd_laws.specs.Standing.{StandsOnEarlier, RequestsHaveHandles, RequestsHaveChannels, has_handle, is_used_by}
+use Rattle.bd_laws.specs.Quiescence.{Quiescence}
+use Rattle.bd_laws.specs.Standing.{StandsOnEarlier, RequestsHaveHandles, RequestsHaveChannels, has_handle}
 use Rattle.bd_laws.proofs.Begins.{first_fit, first_counts}
 use Rattle.bd_laws.proofs.Channels.{Covered, above, val, all_have}
 use Rattle.bd_laws.proofs.Counted.{is_user, users_on, pending}
@@ -115,9 +110,6 @@ module _ (setup : Setup) where
   -- ---- the registry names every busy thread
 
   module _ (ordered : StandsOnEarlier setup) (reset : ReqId) (dev : DevId) (before : List Entry) where
-    abbrev everyone : ℕ → Bool
-    everyone u = true
-
     names_all : (s : State) → Fit setup s → ((t : ℕ) → Counts setup t s) → length s.parts ≡ setup.threads → s.registry.between ≡ None → (d : DevId) → d ≡ dev → Covers reset (There dev) (busy_in setup dev before (λ u. true) s) (threads_of setup s.registry d)
     names_all s fit counts threads none d same u busy =
         let row = (and_parts true (list_any (is_older setup dev before) (part_of s u).requests) busy).1 in

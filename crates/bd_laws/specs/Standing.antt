@@ -23,7 +23,7 @@ has_handle handles o = list_any (λ (h : Handle). same_handle h.id o.handle && s
 abbrev pub RequestsHaveHandles : Type 0
 RequestsHaveHandles = (setup : Setup) (told : Told) (es : List Entry) → IsRun setup told es → (t : ℕ) → list_all (has_handle (view (state_after setup told es) t).handles) (part_of (state_after setup told es) t).requests ≡ true
 
--- each device stands on one with a number below its own, as in every setup that a configuration makes: a device is made after its base
+-- each device stands on one with a number below its own: it is made after its base
 abbrev pub StandsOnEarlier : Setup → Type 0
 StandsOnEarlier setup = (dev base : DevId) → stands_on setup dev ≡ Some base → base.0 < dev.0
 

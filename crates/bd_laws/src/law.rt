@@ -22,16 +22,16 @@ pub fn requests_have_handles()
     ensures { RequestsHaveHandles }
 {}
 
-/// In every run of a setup whose devices stand on devices with smaller numbers, as each configuration
-/// makes them: a thread has a channel of each device below an open request of it, but between an open
-/// and its get and between a put and its close.
+/// In every run of a setup in which each device stands on one with a smaller number: a thread has a
+/// channel of each device below an open request of it, but between an open and its get and between a
+/// put and its close.
 pub fn requests_have_channels()
     ensures { RequestsHaveChannels }
 {}
 
-/// In every run of a setup whose devices stand on devices with smaller numbers, as each configuration
-/// makes them: before a reset completes, each request but resets that was accepted before it and has
-/// its device below is completed, on every thread.
+/// In every run of a setup in which each device stands on one with a smaller number: before a reset
+/// completes, each request but resets that was accepted before it and has its device below is
+/// completed, on every thread.
 pub fn quiescence()
     ensures { Quiescence }
 {}
