@@ -1,5 +1,5 @@
 -- Quiescence: the registry names every thread that has an older request open over the device, so none is open when a reset completes.
-use Rattle.std.proofs.Common.{◌≡◌, ℕ, zero, suc, ◌+◌, ◌<◌, ◌≤◌, Bool, true, false, not, ◌&&◌, ◌||◌, List, [], ◌∷◌, length, get_or, Option, Some, None, is_some, refl, sym, ◌∙◌, ap, subst, eqb-true, arith}
+use Rattle.std.proofs.Common.{◌≡◌, ℕ, zero, suc, ◌+◌, ◌<◌, ◌≤◌, Bool, true, false, not, ◌&&◌, ◌||◌, List, [], ◌∷◌, ◌++◌, length, get_or, Option, Some, None, is_some, refl, sym, ◌∙◌, ap, subst, eqb-true, arith}
 use Rattle.std.specs.List.{filter, list_all, list_any}
 use Rattle.std.proofs.lemmas.Bool.{and_parts, and_from}
 use Rattle.std.proofs.lemmas.List.{length-set}
@@ -16,7 +16,8 @@ use Rattle.bd_machine.specs.declared.state.Part.{Part}
 use Rattle.bd_machine.specs.declared.state.State.{State}
 use Rattle.bd_machine.specs.Aborts.{is_below}
 use Rattle.bd_machine.specs.BlockMap.{below}
-use Rattle.bd_machine.specs.Laws.{is_accept_of, is_complete_of}
+use Rattle.bd_machine.specs.Content.{Told}
+use Rattle.bd_machine.specs.Laws.{is_accept_of, is_complete_of, count_of}
 use Rattle.bd_machine.specs.Registry.{references, threads_of}
 use Rattle.bd_machine.specs.Run.{IsRunFrom, after_all, state_after}
 use Rattle.bd_machine.specs.Same.{same_dev, same_handle}
@@ -27,14 +28,16 @@ use Rattle.bd_machine.specs.View.{part_of, blank_part, is_of, view}
 use Rattle.bd_machine.specs.Walks.{is_reset, is_kept_waiting, is_drained}
 use Rattle.bd_machine.proofs.Acts.{IsFresh}
 use Rattle.bd_machine.proofs.Complete.{fresh_start}
+use Rattle.bd_machine.proofs.Runs.{completed_stays_closed}
 use Rattle.bd_machine.proofs.Steps.{allowed_passes, fresh_after}
-use Rattle.bd_laws.specs.Quiescence.{Quiescence}
+use Rattle.bd_laws.specs.Quiescence as spec
+use Rattle.bd_laws.specs.Quiescence.{Quiescence, is_accept_above}
 use Rattle.bd_laws.specs.Standing.{StandsOnEarlier, RequestsHaveHandles, RequestsHaveChannels, has_handle}
 use Rattle.bd_laws.proofs.Begins.{first_fit, first_counts}
 use Rattle.bd_laws.proofs.Channels.{Covered, above, val, all_have}
 use Rattle.bd_laws.proofs.Counted.{is_user, users_on, pending}
 use Rattle.bd_laws.proofs.Covered.{Covers}
-use Rattle.bd_laws.proofs.Drains.{fresh1, fresh2, run_before, run_later, accepted_there, completed_at_end, all_later, held2, completed}
+use Rattle.bd_laws.proofs.Drains.{fresh1, fresh2, run_most, run_before, run_later, accepted_there, completed_at_end, all_later, held2, completed}
 use Rattle.bd_laws.proofs.Fit.{Fit, Counts, fit_after, counts_stay}
 use Rattle.bd_laws.proofs.Held.{Held, named_of}
 use Rattle.bd_laws.proofs.HeldOn.{held_on}
@@ -146,8 +149,10 @@ all_threads : (setup : Setup) (s : State) (es : List Entry) → length (after_al
 all_threads setup s [] = refl
 all_threads setup s (e ∷ es) = all_threads setup (after setup s e) es ∙ threads_stay setup s e
 
-pub quiescence : Quiescence
-quiescence setup told reset dev before accept between complete ordered c r some =
+older_completed : (setup : Setup) (told : Told) (reset : ReqId) (dev : DevId) (before : List Entry) (accept : Entry) (between : List Entry) (complete : Entry)
+    → StandsOnEarlier setup → spec.Completes setup told reset dev before accept between complete
+    → (r : ReqId) → 0 < count_of (is_accept_above setup dev r) before → 0 < count_of (is_complete_of r) (before ++ accept ∷ between)
+older_completed setup told reset dev before accept between complete ordered c r some =
     completed setup told reset dev before accept between complete c (λ u. true)
     (all_named setup ordered reset dev before (after setup (after_all setup (start setup told) before) accept) between
     (fresh2 setup told reset dev before accept between complete c (λ u. true))
@@ -170,6 +175,11 @@ quiescence setup told reset dev before accept between complete ordered c r some 
 
     fit : Fit setup (after_all setup (start setup told) before)
     fit = all_fit setup (start setup told) before (fresh_start setup told) (run_before setup told reset dev before accept between complete c) (first_fit setup told)
+
+pub quiescence : Quiescence
+quiescence setup told reset dev before accept between complete ordered c r some =
+    let done = older_completed setup told reset dev before accept between complete ordered c r some in
+    record { completed = done; nowhere = completed_stays_closed setup told (before ++ accept ∷ between) r (run_most setup told reset dev before accept between complete c) done }
 
 -- ---- the laws of what requests stand on
 

@@ -29,9 +29,9 @@ pub fn requests_have_channels()
     ensures { RequestsHaveChannels }
 {}
 
-/// In every run of a setup in which each device stands on one with a smaller number: before a reset
-/// completes, each request but resets that was accepted before it and has its device below is
-/// completed, on every thread.
+/// In every run of a setup in which each device stands on one with a smaller number: when a reset
+/// completes, no request but resets is open, on any thread, that was accepted before it and has its
+/// device below. Each is completed, and nowhere.
 pub fn quiescence()
     ensures { Quiescence }
 {}
