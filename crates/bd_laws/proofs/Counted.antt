@@ -20,9 +20,7 @@ use Rattle.bd_machine.specs.declared.state.Handle.{Handle}
 use Rattle.bd_machine.specs.declared.state.Registry.{Registry}
 use Rattle.bd_machine.specs.declared.state.State.{State}
 use Rattle.bd_machine.specs.Alone.{counts_by}
-use Rattle.bd_machine.specs.Asked.{asks_between, is_handle_on, may_close, is_get_of, is_close_on, open_on, job_now, is_job_close}
-use Rattle.bd_machine.specs.Admission.{is_gone}
-use Rattle.bd_machine.specs.AsYet.{as_yet}
+use Rattle.bd_machine.specs.Asked.{asks_between, is_handle_on, may_close, is_get_of, is_close_on, open_on}
 use Rattle.bd_machine.specs.BlockMap.{below, stands_on}
 use Rattle.bd_machine.specs.Changes.{handles_after, counts_after, counts_got, between_after, with_claim, base_put, is_dropped}
 use Rattle.bd_machine.specs.Laws.{one_if}
@@ -198,8 +196,7 @@ may_close_is setup t v came id h =
     let a : Bool = not (is_base_handle setup id) in
     let b : Bool = is_some (handle_of v.handles id) in
     let c : Bool = open_on v.part id == 0 in
-    let d : Bool = is_gone v.part id || (as_yet && came.shut) || is_job_close v.part id (job_now setup t v came) in
-    let p = and_parts (a && b && c) d h in
+    let p = and_parts (a && b && c) _ h in
     let q = and_parts (a && b) c p.0 in
     let r = and_parts a b q.0 in
     (not_true (is_base_handle setup id) r.0, (r.1, q.1))
