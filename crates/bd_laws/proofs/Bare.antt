@@ -1,7 +1,7 @@
 -- A reset's request is neither cut nor aborted nor failed: it completes once its row is finished.
-use Rattle.std.proofs.Common.{◌≡◌, ℕ, ◌+◌, ◌==◌, Bool, true, false, cond, not, ◌&&◌, ◌||◌, ◌⊎◌, inl, inr, List, [], ◌∷◌, ◌++◌, length, Option, Some, None, is_none, is_some, unwrap_or, refl, sym, ◌∙◌, ap, subst}
-use Rattle.std.specs.Prelude.{option_and_then, slice_get}
-use Rattle.std.specs.List.{AllByRecursion, list_any, list_all}
+use Rattle.std.proofs.Common.{◌≡◌, ℕ, ◌+◌, ◌==◌, Bool, true, false, cond, not, ◌&&◌, ◌||◌, ◌⊎◌, inl, inr, List, [], ◌∷◌, ◌++◌, Option, Some, None, is_none, is_some, unwrap_or, refl, sym, ◌∙◌, ap, subst}
+use Rattle.std.specs.Prelude.{slice_get}
+use Rattle.std.specs.List.{AllByRecursion, list_any}
 use Rattle.std.proofs.lemmas.Bool.{and_parts, cases_eq}
 use Rattle.bd_base.specs.declared.act.Act.{Act}
 use Rattle.bd_base.specs.declared.act.Act.TheVariants as acts
@@ -43,33 +43,32 @@ use Rattle.bd_machine.specs.declared.state.Part.{Part}
 use Rattle.bd_machine.specs.declared.state.Place.{Place}
 use Rattle.bd_machine.specs.declared.state.Place.TheVariants.{At, Ring, Nowhere}
 use Rattle.bd_machine.specs.declared.state.Resetting.{Resetting}
-use Rattle.bd_machine.specs.declared.state.Stage.{Stage}
 use Rattle.bd_machine.specs.declared.state.Stage.TheVariants as stages
 use Rattle.bd_machine.specs.declared.state.State.{State}
 use Rattle.bd_machine.specs.declared.state.TakenInjection.{TakenInjection}
 use Rattle.bd_machine.specs.declared.state.Tracked.{Tracked}
 use Rattle.bd_machine.specs.Aborts.{aborted, is_stoppable, may_abort}
 use Rattle.bd_machine.specs.Admission.{has_range}
-use Rattle.bd_machine.specs.Asked.{asks_event, asks_between}
+use Rattle.bd_machine.specs.Asked.{asks_between}
 use Rattle.bd_machine.specs.BlockMap.{size_of}
-use Rattle.bd_machine.specs.Completion.{pieces_of, is_back, is_faulted}
+use Rattle.bd_machine.specs.Completion.{pieces_of, is_faulted}
 use Rattle.bd_machine.specs.Delays.{held, released}
 use Rattle.bd_machine.specs.Events.{alone, with_due, removal_paid, removing, reset_begun, reset_thaws, injection_taken, with_reset, advanced, first_req, change_reg}
 use Rattle.bd_machine.specs.Guards.{guards, change, taken_injection}
 use Rattle.bd_machine.specs.Homes.{base_here, change_applied, piece_edited, refused}
 use Rattle.bd_machine.specs.Injections.{injected, pended, asked_once_more, is_fail, is_taken, is_under_way, goes_on, has_every_decision, asks_injection, errors_below}
-use Rattle.bd_machine.specs.Kept.{as_request, pieces_here, request_here, piece_here, walk_here, edited, is_at_own}
+use Rattle.bd_machine.specs.Kept.{pieces_here, request_here, piece_here, walk_here, edited, is_at_own}
 use Rattle.bd_machine.specs.Limits.{passed as let_pass, next_limited}
 use Rattle.bd_machine.specs.Marks.{is_marked}
 use Rattle.bd_machine.specs.Messages.{sent, token_put, news_put, news_of, taken_by, told_part, told_walk, went, freezes, closed_notice, arrived_walk}
 use Rattle.bd_machine.specs.Registry.{device_named}
-use Rattle.bd_machine.specs.Requests.{may_cut, may_complete, is_status_due, is_walking, extents_of, pieces_made, cut_into, closed_with, pieces_closed}
+use Rattle.bd_machine.specs.Requests.{may_cut, may_complete, is_status_due, extents_of, pieces_made, cut_into, closed_with, pieces_closed}
 use Rattle.bd_machine.specs.Same.{is_the, same_dev, same_decision, same_id, same_op, same_request}
-use Rattle.bd_machine.specs.Statuses.{is_failed, is_finished, is_status, may_be_status, is_delay_left, is_success_due}
+use Rattle.bd_machine.specs.Statuses.{is_failed, is_finished, is_status, is_delay_left, is_success_due}
 use Rattle.bd_machine.specs.Step.{guards_in, change_in, refusal, moved, after}
 use Rattle.bd_machine.specs.Table.{look_up}
 use Rattle.bd_machine.specs.Threads.{is_nobody}
-use Rattle.bd_machine.specs.View.{View, Came, Move, Change, Taking, view, here_of, kept_on, part_of, message_of, message_for, kept_in, came_for, took, id_of}
+use Rattle.bd_machine.specs.View.{View, Came, Move, Change, view, here_of, kept_on, part_of, message_of, kept_in, came_for, id_of}
 use Rattle.bd_machine.specs.Walks.{is_reset, begin_walk, after_walk, walked, walked_if_any, is_at_end, staged, drain_threads, marked_by, visited, reset_of}
 use Rattle.bd_machine.proofs.Acts.{Passes, passed, IsFresh}
 use Rattle.bd_machine.proofs.Laws.{tracked, found-moved}

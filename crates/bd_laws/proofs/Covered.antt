@@ -1,6 +1,6 @@
 -- What each act keeps of a reset: its walks cover every thread that still has an older request open over the device.
-use Rattle.std.proofs.Common.{◌≡◌, ℕ, ◌+◌, ◌==◌, Bool, true, false, cond, not, ◌&&◌, ◌||◌, ◌⊎◌, inl, inr, List, [], ◌∷◌, ◌++◌, map, Option, Some, None, refl, sym, ◌∙◌, ap, subst, append-nil, eqb-true, eq-eqb}
-use Rattle.std.specs.List.{AllByRecursion, filter, find, list_any, range_with_len}
+use Rattle.std.proofs.Common.{◌≡◌, ℕ, ◌+◌, ◌==◌, Bool, true, false, cond, not, ◌&&◌, ◌||◌, ◌⊎◌, inl, inr, List, [], ◌∷◌, ◌++◌, map, Option, Some, None, refl, sym, ◌∙◌, ap, subst, append-nil, eqb-true}
+use Rattle.std.specs.List.{AllByRecursion, filter, list_any, range_with_len}
 use Rattle.std.proofs.lemmas.Bool.{and_parts, cases_eq}
 use Rattle.bd_base.specs.declared.act.Act.{Act}
 use Rattle.bd_base.specs.declared.act.Act.TheVariants as acts
@@ -43,7 +43,7 @@ use Rattle.bd_machine.specs.Asked.{is_reset_at}
 use Rattle.bd_machine.specs.BlockMap.{size_of}
 use Rattle.bd_machine.specs.Changes.{is_dropped}
 use Rattle.bd_machine.specs.Completion.{pieces_of}
-use Rattle.bd_machine.specs.Events.{paid, with_due, due_to, device_due, channel_due, gone_due, go_due, alone, closed_by, got_by, put_paid, put_down_by, dropped_by, destruct_of, removal_paid, with_reset, advanced, freed_by, removing, reset_begun, reset_thaws, reset_finishes, injection_taken, change_reg, first_req}
+use Rattle.bd_machine.specs.Events.{paid, with_due, device_due, channel_due, gone_due, go_due, alone, closed_by, got_by, put_paid, put_down_by, dropped_by, destruct_of, removal_paid, with_reset, advanced, freed_by, removing, reset_begun, reset_thaws, reset_finishes, injection_taken, change_reg, first_req}
 use Rattle.bd_machine.specs.Aborts.{aborted}
 use Rattle.bd_machine.specs.Delays.{held, released}
 use Rattle.bd_machine.specs.Guards.{guards, change, change_by, taken_injection, noted}
@@ -60,8 +60,8 @@ use Rattle.bd_machine.specs.Same.{is_the, same_dev, same_news, same_request, sam
 use Rattle.bd_machine.specs.Scripts.{posted, mark_to}
 use Rattle.bd_machine.specs.Table.{without_first}
 use Rattle.bd_machine.specs.Threads.{first_of, has, is_nobody, without}
-use Rattle.bd_machine.specs.View.{View, Came, Move, Going, Here, To, Closed, Change, id_of}
-use Rattle.bd_machine.specs.Walks.{is_reset_of, at_stage, staged, numbered, over_nobody, begin_walk, after_walk, is_at_end, walked, threads_if_any, drain_threads, is_drained, is_next_visit, marked_by, visited, walked_if_any, reset_of}
+use Rattle.bd_machine.specs.View.{View, Came, Move, Here, Closed, Change, id_of}
+use Rattle.bd_machine.specs.Walks.{is_reset_of, at_stage, staged, numbered, over_nobody, begin_walk, after_walk, walked, threads_if_any, drain_threads, is_drained, is_next_visit, marked_by, visited, walked_if_any, reset_of}
 use Rattle.bd_machine.proofs.Acts.{Passes, passed}
 use Rattle.bd_machine.proofs.Laws.{filter_twice}
 use Rattle.bd_machine.proofs.Tables.{request_same, dev_exact}

@@ -1,12 +1,11 @@
 -- On the threads over which a reset's walks go, nothing older is open when it completes; and nothing at all, where every answer names every thread with an older request.
-use Rattle.std.proofs.Common.{◌≡◌, ℕ, zero, suc, ◌+◌, ◌<◌, ◌≤◌, Bool, true, false, cond, not, ◌&&◌, ◌||◌, ◌==◌, ◌⊎◌, inl, inr, nat_lt, List, [], ◌∷◌, ◌++◌, Option, Some, None, refl, sym, ◌∙◌, ap, subst, eqb-true, eq-eqb, arith}
+use Rattle.std.proofs.Common.{◌≡◌, ℕ, zero, suc, ◌+◌, ◌<◌, ◌≤◌, Bool, true, false, not, ◌&&◌, ◌||◌, ◌==◌, nat_lt, List, [], ◌∷◌, ◌++◌, None, refl, sym, ◌∙◌, ap, subst, eqb-true, eq-eqb, arith}
 use Rattle.std.specs.List.{AllByRecursion, list_any}
-use Rattle.std.proofs.lemmas.Bool.{and_parts, and_from, cases_eq, lt-ltb}
+use Rattle.std.proofs.lemmas.Bool.{and_parts, and_from, lt-ltb}
 use Rattle.bd_base.specs.declared.act.Act.{Act}
 use Rattle.bd_base.specs.declared.act.Act.TheVariants as acts
 use Rattle.bd_base.specs.declared.act.Entry.{Entry}
 use Rattle.bd_base.specs.declared.event.Answer.{Answer}
-use Rattle.bd_base.specs.declared.event.Answer.TheVariants as answers
 use Rattle.bd_base.specs.declared.event.RegEvent.TheVariants as events
 use Rattle.bd_base.specs.declared.id.DevId.{DevId}
 use Rattle.bd_base.specs.declared.id.ReqId.{ReqId}
@@ -18,7 +17,7 @@ use Rattle.bd_machine.specs.declared.state.State.{State}
 use Rattle.bd_machine.specs.Aborts.{is_below}
 use Rattle.bd_machine.specs.Content.{Told}
 use Rattle.bd_machine.specs.Laws.{is_accept_of, is_complete_of, one_if, count_of}
-use Rattle.bd_machine.specs.Run.{IsRun, IsRunFrom, after_all, state_after}
+use Rattle.bd_machine.specs.Run.{IsRunFrom, after_all, state_after}
 use Rattle.bd_machine.specs.Same.{same_dev, same_request}
 use Rattle.bd_machine.specs.Start.{start}
 use Rattle.bd_machine.specs.Step.{refusal, after}
@@ -32,13 +31,13 @@ use Rattle.bd_machine.proofs.Tables.{request_same, dev_exact}
 use Rattle.bd_laws.specs.Quiescence as spec
 use Rattle.bd_laws.specs.Quiescence.{is_reset_accept, is_accept_above, names_thread, WalksDrain}
 use Rattle.bd_laws.proofs.Bare.{AcceptsReset, IsBareIn, bare_on}
-use Rattle.bd_laws.proofs.Covered.{Covers, Quiet}
+use Rattle.bd_laws.proofs.Covered.{Quiet}
 use Rattle.bd_laws.proofs.Held.{Held, held_more, Named}
 use Rattle.bd_laws.proofs.Rows.{Completes}
 use Rattle.bd_laws.proofs.HeldOn.{Accepting, held_on}
-use Rattle.bd_laws.proofs.Quiet.{differ, count_both, NoneOf, none_of, run_first, run_rest, all_both, row_of_accepted, was_accepted, is_older, busy_in, AreLater, Nowhere, There, AllNamed, completes_is, not_busy, fewer_busy, held_before, bare_before, first_held, first_bare, held_after, quiet_at}
+use Rattle.bd_laws.proofs.Quiet.{differ, count_both, none_of, run_first, run_rest, all_both, row_of_accepted, was_accepted, is_older, busy_in, AreLater, Nowhere, There, AllNamed, not_busy, fewer_busy, held_before, bare_before, first_held, first_bare, held_after, quiet_at}
 
-fresh_all : (setup : Setup) (s : State) (es : List Entry) → IsFresh s → IsRunFrom setup s es → IsFresh (after_all setup s es)
+pub fresh_all : (setup : Setup) (s : State) (es : List Entry) → IsFresh s → IsRunFrom setup s es → IsFresh (after_all setup s es)
 fresh_all setup s [] fresh run = fresh
 fresh_all setup s (e ∷ es) fresh run = fresh_all setup (after setup s e) es (fresh_after setup s e fresh run.0) run.1
 
@@ -51,20 +50,20 @@ module _ (setup : Setup) (told : Told) (reset : ReqId) (dev : DevId) (before : L
   abbrev s0 : State
   s0 = start setup told
 
-  fresh0 : IsFresh (start setup told)
+  pub fresh0 : IsFresh (start setup told)
   fresh0 = fresh_start setup told
 
   -- the whole but its last entry, and the whole
   run_all : IsRunFrom setup (start setup told) ((before ++ accept ∷ between) ++ complete ∷ [])
   run_all = c.run
 
-  run_most : IsRunFrom setup (start setup told) (before ++ accept ∷ between)
+  pub run_most : IsRunFrom setup (start setup told) (before ++ accept ∷ between)
   run_most = run_first setup (start setup told) (before ++ accept ∷ between) (complete ∷ []) c.run
 
-  run_before : IsRunFrom setup (start setup told) before
+  pub run_before : IsRunFrom setup (start setup told) before
   run_before = run_first setup (start setup told) before (accept ∷ between) run_most
 
-  run_later : IsRunFrom setup (after_all setup (start setup told) before) (accept ∷ between)
+  pub run_later : IsRunFrom setup (after_all setup (start setup told) before) (accept ∷ between)
   run_later = run_rest setup (start setup told) before (accept ∷ between) run_most
 
   accept_is : is_accept_of reset accept.act ≡ true
@@ -78,7 +77,7 @@ module _ (setup : Setup) (told : Told) (reset : ReqId) (dev : DevId) (before : L
   count_most is = count_both is before (accept ∷ between)
 
   -- the reset is accepted there alone
-  accepted_there : (count_of (is_accept_of reset) before ≡ 0) × (count_of (is_accept_of reset) between ≡ 0)
+  pub accepted_there : (count_of (is_accept_of reset) before ≡ 0) × (count_of (is_accept_of reset) between ≡ 0)
   accepted_there =
       let once = accepts_once setup (start setup told) reset (before ++ accept ∷ between) fresh0 run_most in
       only (count_of (is_accept_of reset) before) (count_of (is_accept_of reset) between) (count_of (is_accept_of reset) (before ++ accept ∷ between)) (count_most (is_accept_of reset) ∙ ap (λ b. count_of (is_accept_of reset) before + (one_if b + count_of (is_accept_of reset) between)) accept_is) once
@@ -87,7 +86,7 @@ module _ (setup : Setup) (told : Told) (reset : ReqId) (dev : DevId) (before : L
       only a b n h k = (omega arith, omega arith)
 
   -- and completed at the end alone
-  completed_at_end : (count_of (is_complete_of reset) before ≡ 0) × (count_of (is_complete_of reset) between ≡ 0)
+  pub completed_at_end : (count_of (is_complete_of reset) before ≡ 0) × (count_of (is_complete_of reset) between ≡ 0)
   completed_at_end =
       let sums = balance setup (start setup told) reset ((before ++ accept ∷ between) ++ complete ∷ []) fresh0 c.run in
       let accepts = accepts_once setup (start setup told) reset ((before ++ accept ∷ between) ++ complete ∷ []) fresh0 c.run in
@@ -119,7 +118,7 @@ module _ (setup : Setup) (told : Told) (reset : ReqId) (dev : DevId) (before : L
       by : (n m : ℕ) → 1 + m + n ≤ 1 → nat_lt 0 n ≡ false
       by n m h = ap (λ k. nat_lt 0 k) (zero_of n m h) ∙ none
 
-  all_later : AreLater before (accept ∷ between)
+  pub all_later : AreLater before (accept ∷ between)
   all_later = later_alone (accept ∷ between) (λ r. swap (count_of (is_accept_of r) before) (one_if (is_accept_of r accept.act) + count_of (is_accept_of r) between) (count_of (is_accept_of r) (before ++ accept ∷ between)) (count_most (is_accept_of r)) (accepts_once setup (start setup told) r (before ++ accept ∷ between) fresh0 run_most))
     where
       swap : (a b n : ℕ) → n ≡ a + b → n ≤ 1 → b + a ≤ 1
@@ -136,7 +135,7 @@ module _ (setup : Setup) (told : Told) (reset : ReqId) (dev : DevId) (before : L
         (held_before setup reset (busy_in setup dev before at (after_all setup (start setup told) before)) (start setup told) before fresh0 run_before
         (none_of (is_accept_of reset) before accepted_there.0) (none_of (is_complete_of reset) before completed_at_end.0) (first_held setup reset (busy_in setup dev before at (after_all setup (start setup told) before)) told))
 
-    fresh1 : IsFresh (after_all setup (start setup told) before)
+    pub fresh1 : IsFresh (after_all setup (start setup told) before)
     fresh1 = fresh_all setup (start setup told) before fresh0 run_before
 
     -- the entry that accepts the reset
@@ -154,7 +153,7 @@ module _ (setup : Setup) (told : Told) (reset : ReqId) (dev : DevId) (before : L
     not_completing (acts.Accept req d handle op lba count) h o = o
     not_completing _ h o = cc
 
-    held2 : Held reset (There dev) (busy_in setup dev before at (after setup (after_all setup (start setup told) before) accept)) (after setup (after_all setup (start setup told) before) accept)
+    pub held2 : Held reset (There dev) (busy_in setup dev before at (after setup (after_all setup (start setup told) before) accept)) (after setup (after_all setup (start setup told) before) accept)
     held2 = held_on setup (after_all setup (start setup told) before) accept reset (There dev) (busy_in setup dev before at (after_all setup (start setup told) before)) (busy_in setup dev before at (after setup (after_all setup (start setup told) before) accept))
         fresh1 run_later.0 (not_completing accept.act c.accepts) held1 (not_named accept.act c.accepts (busy_in setup dev before at (after_all setup (start setup told) before)))
         (λ d same k b. not_busy setup dev before at (part_of (after_all setup (start setup told) before) accept.thread) (at accept.thread) (subst (λ (x : DevId). is_drained setup (part_of (after_all setup (start setup told) before) accept.thread) x Drain ≡ true) same k) b)
@@ -164,7 +163,7 @@ module _ (setup : Setup) (told : Told) (reset : ReqId) (dev : DevId) (before : L
     bare2 = bare_on reset setup (after_all setup (start setup told) before) accept fresh1 run_later.0 (accepts_dev accept.act c.accepts).1
         (bare_before setup reset (λ u. false) (start setup told) before fresh0 run_before (none_of (is_accept_of reset) before accepted_there.0) (first_bare setup reset (λ u. false) told))
 
-    fresh2 : IsFresh (after setup (after_all setup (start setup told) before) accept)
+    pub fresh2 : IsFresh (after setup (after_all setup (start setup told) before) accept)
     fresh2 = fresh_after setup (after_all setup (start setup told) before) accept fresh1 run_later.0
 
     abbrev last : State
@@ -186,7 +185,7 @@ module _ (setup : Setup) (told : Told) (reset : ReqId) (dev : DevId) (before : L
         (none_of (is_complete_of reset) between completed_at_end.1) held2)
 
     -- so what was accepted before, by a thread that counts, is completed
-    completed : AllNamed setup reset dev before at (after setup (after_all setup (start setup told) before) accept) between → (r : ReqId) → at r.thread ≡ true → 0 < count_of (is_accept_above setup dev r) before → 0 < count_of (is_complete_of r) (before ++ accept ∷ between)
+    pub completed : AllNamed setup reset dev before at (after setup (after_all setup (start setup told) before) accept) between → (r : ReqId) → at r.thread ≡ true → 0 < count_of (is_accept_above setup dev r) before → 0 < count_of (is_complete_of r) (before ++ accept ∷ between)
     completed named r counts some = go (count_of (is_complete_of r) (before ++ accept ∷ between)) refl
       where
         above : (es : List Entry) → count_of (is_accept_above setup dev r) es ≤ count_of (is_accept_of r) es

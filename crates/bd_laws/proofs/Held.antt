@@ -1,8 +1,8 @@
 -- What a state keeps of a reset, from entry to entry.
-use Rattle.std.proofs.Common.{◌≡◌, ℕ, zero, suc, ◌≤◌, Bool, true, false, cond, not, ◌&&◌, ◌||◌, ◌==◌, ◌⊎◌, inl, inr, List, [], ◌∷◌, ◌++◌, drop, Option, Some, None, is_none, refl, sym, ◌∙◌, ap, subst, eqb-true}
-use Rattle.std.specs.Prelude.{slice_get, option_and_then}
-use Rattle.std.specs.List.{AllByRecursion, filter, list_any}
-use Rattle.std.proofs.lemmas.Bool.{and_parts, cases_eq}
+use Rattle.std.proofs.Common.{◌≡◌, ℕ, zero, suc, Bool, true, false, cond, ◌&&◌, ◌||◌, ◌==◌, List, [], ◌∷◌, ◌++◌, drop, Option, Some, None, is_none, refl, sym, ◌∙◌, ap, subst, eqb-true}
+use Rattle.std.specs.Prelude.{slice_get}
+use Rattle.std.specs.List.{AllByRecursion, list_any}
+use Rattle.std.proofs.lemmas.Bool.{and_parts}
 use Rattle.bd_base.specs.declared.act.Act.{Act}
 use Rattle.bd_base.specs.declared.act.Act.TheVariants as acts
 use Rattle.bd_base.specs.declared.act.Entry.{Entry}
@@ -26,10 +26,8 @@ use Rattle.bd_machine.specs.declared.state.Kept.TheVariants as keeps
 use Rattle.bd_machine.specs.declared.state.News.{News}
 use Rattle.bd_machine.specs.declared.state.News.TheVariants as news
 use Rattle.bd_machine.specs.declared.state.Open.{Open}
-use Rattle.bd_machine.specs.declared.state.Part.{Part}
 use Rattle.bd_machine.specs.declared.state.Place.{Place}
 use Rattle.bd_machine.specs.declared.state.Place.TheVariants.{At, Ring, Nowhere}
-use Rattle.bd_machine.specs.declared.state.Registry.{Registry}
 use Rattle.bd_machine.specs.declared.state.ResetState.TheVariants as resets
 use Rattle.bd_machine.specs.declared.state.Resetting.{Resetting}
 use Rattle.bd_machine.specs.declared.state.Stage.{Stage}
@@ -39,21 +37,18 @@ use Rattle.bd_machine.specs.declared.state.State.{State}
 use Rattle.bd_machine.specs.declared.state.Tracked.{Tracked}
 use Rattle.bd_machine.specs.Asked.{asks_event, asks_between, is_new_reset}
 use Rattle.bd_base.specs.declared.request.Errno.TheVariants.{NoDev, Inval}
-use Rattle.bd_machine.specs.Changes.{registry_after, devices_after, with_standing, with_reset, with_waiting, without_next, less_injection}
+use Rattle.bd_machine.specs.Changes.{devices_after, with_standing, with_reset, with_waiting, without_next, less_injection}
 use Rattle.bd_machine.specs.Registry.{threads_of, begin_reset_answer, finish_reset_answer, next_reset, is_destructed_standing, is_idle_reset, is_thawing_reset}
 use Rattle.bd_machine.specs.Same.{same_id, same_dev, same_request, same_threads, same_answer}
-use Rattle.bd_machine.specs.Step.{guards_in, change_in, refusal, moved, after}
+use Rattle.bd_machine.specs.Step.{guards_in, moved, after}
 use Rattle.bd_machine.specs.Table.{look_up, change_at}
-use Rattle.bd_machine.specs.View.{View, Came, Move, Change, Taking, view, here_of, kept_on, part_of, message_of, message_for, kept_in, came_for, asked, took, id_of}
-use Rattle.bd_machine.specs.Walks.{is_reset, is_drained, reset_of}
-use Rattle.bd_machine.proofs.Acts.{Passes, passed, IsFresh, new_id}
+use Rattle.bd_machine.specs.View.{Came, Move, view, here_of, kept_on, part_of, message_of, kept_in, came_for}
+use Rattle.bd_machine.specs.Walks.{is_reset, reset_of}
+use Rattle.bd_machine.proofs.Acts.{Passes, passed}
 use Rattle.bd_machine.proofs.Laws.{tracked, found-moved}
-use Rattle.bd_machine.proofs.Steps.{allowed_passes, part_is, part_stays}
-use Rattle.bd_machine.proofs.Tables.{id_same, request_same, dev_exact}
-use Rattle.bd_laws.proofs.Covered.{Covers, Quiet, AtStage, RowsFine, IsOurs, ByKind, NewsFine, KeptFine, DueFine, MovesFine, Fine, Asks, Known, change_fine}
-use Rattle.bd_laws.proofs.Fields.{requests_after, requests_are}
-use Rattle.bd_laws.proofs.Ledger.{tokens_after_is}
-use Rattle.bd_laws.proofs.Rows.{mine, first_row, found_first, Begun, BegunIn, BeginsNew, Completes, begun_stays}
+use Rattle.bd_machine.proofs.Tables.{request_same, dev_exact}
+use Rattle.bd_laws.proofs.Covered.{Covers, AtStage, RowsFine, ByKind, NewsFine, KeptFine, DueFine, MovesFine, Asks}
+use Rattle.bd_laws.proofs.Rows.{mine, first_row, found_first, BegunIn}
 
 -- ---- fewer threads are busy, and more may be said of the device
 

@@ -1,7 +1,7 @@
 -- An entry keeps what the state before it kept of a reset.
-use Rattle.std.proofs.Common.{◌≡◌, ℕ, ◌≤◌, Bool, true, false, cond, not, ◌&&◌, ◌==◌, ◌⊎◌, inl, inr, List, [], ◌∷◌, ◌++◌, Option, Some, None, refl, sym, ◌∙◌, ap, subst}
+use Rattle.std.proofs.Common.{◌≡◌, ℕ, Bool, true, false, cond, not, ◌⊎◌, inl, inr, List, [], ◌∷◌, ◌++◌, Option, Some, None, refl, sym, ◌∙◌, ap, subst}
 use Rattle.std.specs.Prelude.{slice_get, option_and_then}
-use Rattle.std.specs.List.{AllByRecursion, filter}
+use Rattle.std.specs.List.{filter}
 use Rattle.std.proofs.lemmas.Bool.{cases_eq}
 use Rattle.bd_base.specs.declared.act.Act.{Act}
 use Rattle.bd_base.specs.declared.act.Act.TheVariants as acts
@@ -22,11 +22,10 @@ use Rattle.bd_machine.specs.declared.state.Tracked.{Tracked}
 use Rattle.bd_base.specs.declared.event.Answer.{Answer}
 use Rattle.bd_machine.specs.Changes.{registry_after}
 use Rattle.bd_machine.specs.Guards.{guards}
-use Rattle.bd_machine.specs.Registry.{threads_of}
 use Rattle.bd_machine.specs.Same.{same_id, same_request}
-use Rattle.bd_machine.specs.Step.{guards_in, change_in, refusal, moved, after}
+use Rattle.bd_machine.specs.Step.{guards_in, change_in, refusal, after}
 use Rattle.bd_machine.specs.Table.{look_up}
-use Rattle.bd_machine.specs.View.{View, Came, Change, Taking, view, here_of, part_of, message_of, message_for, came_for, asked, took, id_of}
+use Rattle.bd_machine.specs.View.{View, Came, Taking, view, part_of, message_for, came_for, asked, took, id_of}
 use Rattle.bd_machine.specs.Walks.{is_drained}
 use Rattle.bd_machine.proofs.Acts.{Passes, passed, IsFresh, new_id}
 use Rattle.bd_machine.proofs.Steps.{allowed_passes, part_is, part_stays}

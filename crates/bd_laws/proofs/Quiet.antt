@@ -1,7 +1,7 @@
 -- Quiescence, where every thread with an open request has a channel of each device below.
-use Rattle.std.proofs.Common.{◌≡◌, ℕ, zero, suc, ◌+◌, ◌<◌, ◌≤◌, Bool, true, false, cond, not, ◌&&◌, ◌||◌, ◌==◌, ◌⊎◌, inl, inr, nat_lt, List, [], ◌∷◌, ◌++◌, map, get_or, Option, Some, None, refl, sym, ◌∙◌, ap, subst, arith}
+use Rattle.std.proofs.Common.{◌≡◌, ℕ, zero, suc, ◌+◌, ◌<◌, Bool, true, false, cond, not, ◌&&◌, ◌||◌, ◌⊎◌, inl, inr, nat_lt, List, [], ◌∷◌, ◌++◌, map, get_or, None, refl, sym, ◌∙◌, ap, subst, arith}
 use Rattle.std.specs.Prelude.{slice_get}
-use Rattle.std.specs.List.{AllByRecursion, filter, find, list_any, range_with_len}
+use Rattle.std.specs.List.{AllByRecursion, filter, list_any, range_with_len}
 use Rattle.std.proofs.lemmas.Bool.{and_parts, and_from, cases_eq}
 use Rattle.bd_base.specs.declared.act.Act.{Act}
 use Rattle.bd_base.specs.declared.act.Act.TheVariants as acts
@@ -9,14 +9,10 @@ use Rattle.bd_base.specs.declared.act.Entry.{Entry}
 use Rattle.bd_base.specs.declared.event.RegEvent.TheVariants as events
 use Rattle.bd_base.specs.declared.id.DevId.{DevId}
 use Rattle.bd_base.specs.declared.id.ReqId.{ReqId}
-use Rattle.bd_base.specs.declared.request.Op.{Op}
-use Rattle.bd_base.specs.declared.request.Shown.{Shown}
-use Rattle.bd_base.specs.declared.request.Status.{Status}
 use Rattle.bd_base.specs.declared.request.WalkKind.TheVariants.{Drain}
 use Rattle.bd_base.specs.declared.setup.Setup.{Setup}
 use Rattle.bd_base.specs.declared.thread_set.ThreadSet.{ThreadSet}
 use Rattle.bd_machine.specs.declared.state.Device.{Device}
-use Rattle.bd_machine.specs.declared.state.Id.TheVariants.{Request}
 use Rattle.bd_machine.specs.declared.state.Open.{Open}
 use Rattle.bd_machine.specs.declared.state.Part.{Part}
 use Rattle.bd_machine.specs.declared.state.Registry.{Registry}
@@ -27,26 +23,24 @@ use Rattle.bd_machine.specs.declared.state.State.{State}
 use Rattle.bd_machine.specs.Aborts.{is_below}
 use Rattle.bd_machine.specs.Content.{Told}
 use Rattle.bd_machine.specs.Laws.{is_accept_of, is_complete_of, one_if, count_of}
-use Rattle.bd_machine.specs.Registry.{threads_of}
-use Rattle.bd_machine.specs.Run.{IsRun, IsRunFrom, after_all, state_after}
-use Rattle.bd_machine.specs.Same.{same_dev, same_id, same_request}
+use Rattle.bd_machine.specs.Run.{IsRunFrom, after_all}
+use Rattle.bd_machine.specs.Same.{same_request}
 use Rattle.bd_machine.specs.Start.{start, part_at_start, device_at_start, registry_at_start, bare_registry, with_channel, with_channels}
 use Rattle.bd_machine.specs.Limits.{is_limited}
 use Rattle.bd_machine.specs.Users.{all_devices}
 use Rattle.bd_machine.specs.Statuses.{is_finished, is_finished_stage}
-use Rattle.bd_machine.specs.Step.{IsAllowed, refusal, after, change_in}
-use Rattle.bd_machine.specs.Table.{look_up}
+use Rattle.bd_machine.specs.Step.{refusal, after}
 use Rattle.bd_machine.specs.View.{blank_part, part_of, view, came_for}
-use Rattle.bd_machine.specs.Walks.{is_reset, is_kept_waiting, is_drained, is_reset_of, reset_of}
-use Rattle.bd_machine.proofs.Acts.{IsFresh, open_now}
-use Rattle.bd_machine.proofs.Complete.{accepts_once, balance, completed_on_own, accepted_on_own}
+use Rattle.bd_machine.specs.Walks.{is_reset, is_kept_waiting, is_drained}
+use Rattle.bd_machine.proofs.Acts.{IsFresh}
+use Rattle.bd_machine.proofs.Complete.{accepted_on_own}
 use Rattle.bd_machine.proofs.Steps.{fresh_after, part_is, part_stays}
-use Rattle.bd_machine.proofs.Tables.{request_same, dev_exact}
-use Rattle.bd_laws.specs.Quiescence.{is_reset_accept, is_accept_above}
+use Rattle.bd_machine.proofs.Tables.{request_same}
+use Rattle.bd_laws.specs.Quiescence.{is_accept_above}
 use Rattle.bd_laws.proofs.Bare.{AcceptsReset, NotTaken, IsBareIn, bare_on, finished_at}
-use Rattle.bd_laws.proofs.Covered.{AtStage, Covers, DueFine, Quiet, RowsFine}
+use Rattle.bd_laws.proofs.Covered.{AtStage, DueFine, Quiet, RowsFine}
 use Rattle.bd_laws.proofs.Fields.{requests_after, requests_are}
-use Rattle.bd_laws.proofs.Held.{Held, held_more, Named, WaitsFine, OwnFine}
+use Rattle.bd_laws.proofs.Held.{Held, Named, WaitsFine, OwnFine}
 use Rattle.bd_laws.proofs.HeldOn.{Accepting, held_on}
 use Rattle.bd_laws.proofs.Rows.{mine, first_row, found_first, Completes}
 

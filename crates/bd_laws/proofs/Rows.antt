@@ -1,5 +1,5 @@
 -- The row of one reset on the thread that asked for it, and that a reset whose walks began doesn't wait any more.
-use Rattle.std.proofs.Common.{◌≡◌, ℕ, ◌+◌, ◌==◌, Bool, true, false, cond, not, ◌&&◌, List, [], ◌∷◌, ◌++◌, map, Option, Some, None, refl, sym, ◌∙◌, ap, subst, append-nil}
+use Rattle.std.proofs.Common.{◌≡◌, ℕ, ◌==◌, Bool, true, false, cond, not, ◌&&◌, List, [], ◌∷◌, ◌++◌, map, Option, Some, None, refl, sym, ◌∙◌, subst, append-nil}
 use Rattle.std.specs.List.{filter, find}
 use Rattle.bd_base.specs.declared.act.Act.{Act}
 use Rattle.bd_base.specs.declared.act.Act.TheVariants as acts
@@ -19,7 +19,6 @@ use Rattle.bd_base.specs.declared.request.WalkKind.TheVariants.{Freeze, Drain, T
 use Rattle.bd_base.specs.declared.setup.Setup.{Setup}
 use Rattle.bd_base.specs.declared.thread_set.ThreadSet.{ThreadSet}
 use Rattle.bd_machine.specs.declared.state.Base.{Base}
-use Rattle.bd_machine.specs.declared.state.Due.{Due}
 use Rattle.bd_machine.specs.declared.state.Id.{Id}
 use Rattle.bd_machine.specs.declared.state.Kept.{Kept}
 use Rattle.bd_machine.specs.declared.state.Kept.TheVariants as keeps
@@ -40,13 +39,13 @@ use Rattle.bd_machine.specs.Admission.{is_gone}
 use Rattle.bd_machine.specs.Asked.{owes_removal, is_reset_at}
 use Rattle.bd_machine.specs.BlockMap.{below, home, size_of}
 use Rattle.bd_machine.specs.Changes.{is_dropped}
-use Rattle.bd_machine.specs.Events.{decided_by, paid, owing, with_due, alone, closed_by, born, all_born, got_by, put_paid, removal_paid, with_reset, advanced, freed_by, removing, reset_begun, reset_thaws, reset_finishes, injection_taken, change_reg, first_req, dropped_by, put_down_by, channel_due}
+use Rattle.bd_machine.specs.Events.{decided_by, paid, owing, with_due, alone, closed_by, born, all_born, got_by, put_paid, removal_paid, with_reset, advanced, freed_by, removing, reset_begun, reset_thaws, reset_finishes, injection_taken, change_reg, first_req, dropped_by, put_down_by}
 use Rattle.bd_machine.specs.Guards.{change}
 use Rattle.bd_machine.specs.Homes.{base_here, change_applied}
 use Rattle.bd_machine.specs.Kept.{request_here, piece_here, walk_here}
 use Rattle.bd_machine.specs.Limits.{arrived, departed, is_limited, next_limited}
 use Rattle.bd_machine.specs.Marks.{remarked, frozen_as, freeze_set, removal_set}
-use Rattle.bd_machine.specs.Messages.{request_took, told_part, freezing, freezes, went, told_walk, taken_by, arrived_walk, closed_notice}
+use Rattle.bd_machine.specs.Messages.{request_took, told_part, freezing, freezes, went, told_walk, taken_by, arrived_walk}
 use Rattle.bd_machine.specs.Registry.{made, device_named}
 use Rattle.bd_machine.specs.Threads.{is_nobody}
 use Rattle.bd_machine.specs.Users.{is_base_handle}

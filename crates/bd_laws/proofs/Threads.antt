@@ -1,9 +1,9 @@
 -- Which threads a set has.
-use Rattle.std.proofs.Common.{◌≡◌, ◌≢◌, ℕ, zero, suc, ◌+◌, ◌-◌, ◌*◌, ◌/◌, ◌%◌, ◌^◌, ◌<◌, ◌≤◌, Bool, true, false, cond, ◌==◌, ◌⊎◌, inl, inr, refl, sym, ◌∙◌, ap, subst, eqb-true, eq-eqb, pow_pos, mod-lt, arith}
+use Rattle.std.proofs.Common.{◌≡◌, ℕ, zero, suc, ◌+◌, ◌-◌, ◌*◌, ◌/◌, ◌%◌, ◌^◌, ◌<◌, ◌≤◌, Bool, true, false, cond, ◌==◌, ◌⊎◌, inl, inr, refl, sym, ◌∙◌, ap, subst, eqb-true, eq-eqb, pow_pos, mod-lt, arith}
 use Rattle.std.specs.Int.{bit_at}
 use Rattle.std.proofs.lemmas.Bool.{cases_eq, cases_order}
 use Rattle.std.proofs.lemmas.Nat.{div-add-mod'}
-use Rattle.std.proofs.lemmas.Nat.Bits.{bit_at-zero, bit_at-suc, bit_at_cat_low, bit_at_cat_high}
+use Rattle.std.proofs.lemmas.Nat.Bits.{bit_at-zero, bit_at_lowest, bit_at-suc, bit_at_cat_low, bit_at_cat_high}
 use Rattle.bd_base.specs.declared.thread_set.ThreadSet.{ThreadSet}
 use Rattle.bd_machine.specs.Threads.{has, is_nobody, without, bits_of, those}
 
@@ -118,3 +118,39 @@ without_has threads t u ne k = go (has threads t) refl
     go : (b : Bool) → has threads t ≡ b → (bit_at (cond b (threads.0 - 2 ^ t) threads.0) u == 1) ≡ true
     go true e = ap (λ (m : ℕ). m == 1) (without_bit threads.0 t u ne (eqb-true (bit_at threads.0 t) 1 e)) ∙ k
     go false e = k
+
+-- nothing comes by a thread less
+pub without_less : (threads : ThreadSet) (t u : ℕ) → has (without threads t) u ≡ true → has threads u ≡ true
+without_less threads t u k = go (cases_eq u t) (has threads t) refl k
+  where
+    go : (u ≡ t) ⊎ (u ≡ t → ⊥) → (b : Bool) → has threads t ≡ b → (bit_at (cond b (threads.0 - 2 ^ t) threads.0) u == 1) ≡ true → has threads u ≡ true
+    go same false e k = k
+    go (inl same) true e k = subst (λ (n : ℕ). has threads n ≡ true) (sym same) e
+    go (inr ne) true e k = ap (λ (m : ℕ). m == 1) (sym (without_bit threads.0 t u ne (eqb-true (bit_at threads.0 t) 1 e))) ∙ k
+
+pub without_not : (threads : ThreadSet) (t : ℕ) → has (without threads t) t ≡ true → ⊥
+without_not threads t k = go (has threads t) refl k
+  where
+    same_is : (n : ℕ) → n ≤ n
+    same_is n = omega arith
+
+    less_self : (n : ℕ) → n - n ≡ 0
+    less_self n = omega arith
+
+    even : (n : ℕ) → 2 * n % 2 ≡ 0
+    even n = omega arith
+
+    clash : (n : ℕ) → n ≡ 0 → n ≡ 1 → ⊥
+    clash n a b = omega arith
+
+    differ : {b : Bool} → b ≡ true → b ≡ false → ⊥
+    differ h k = let e : true ≡ false = sym h ∙ k in cc
+
+    bit : (h : bit_at threads.0 t ≡ 1) → bit_at (threads.0 - 2 ^ t) t ≡ 0
+    bit h =
+        let p = parts_of threads.0 t h in
+        ap (λ (m : ℕ). bit_at m t) p.rest ∙ bit_at_cat_high (2 * p.high) t p.low t p.small (same_is t) ∙ ap (bit_at (2 * p.high)) (less_self t) ∙ bit_at_lowest (2 * p.high) ∙ even p.high
+
+    go : (b : Bool) → has threads t ≡ b → (bit_at (cond b (threads.0 - 2 ^ t) threads.0) t == 1) ≡ true → ⊥
+    go false e k = differ k e
+    go true e k = clash (bit_at (threads.0 - 2 ^ t) t) (bit (eqb-true (bit_at threads.0 t) 1 e)) (eqb-true (bit_at (threads.0 - 2 ^ t) t) 1 k)

@@ -12,10 +12,14 @@ use Rattle.bd_base.specs.declared.setup.Setup.{Setup}
 use Rattle.bd_machine.specs.Aborts.{is_below}
 use Rattle.bd_machine.specs.Content.{Told}
 use Rattle.bd_machine.specs.Laws.{is_complete_of, count_of}
-use Rattle.bd_machine.specs.Run.{IsRun}
+use Rattle.bd_machine.specs.declared.state.Id.TheVariants.{Request}
+use Rattle.bd_machine.specs.declared.state.Place.TheVariants.{Nowhere}
+use Rattle.bd_machine.specs.Placement.{place}
+use Rattle.bd_machine.specs.Run.{IsRun, state_after}
 use Rattle.bd_machine.specs.Same.{same_dev, same_request}
 use Rattle.bd_machine.specs.Threads.{has}
 use Rattle.bd_machine.specs.Walks.{is_reset}
+use Rattle.bd_laws.specs.Standing.{StandsOnEarlier}
 
 -- a reset of the device is accepted
 abbrev pub is_reset_accept : ReqId → DevId → Act → Bool
@@ -45,3 +49,16 @@ WalksDrain = (setup : Setup) (told : Told) (reset : ReqId) (dev : DevId) (before
     → Completes setup told reset dev before accept between complete
     → (r : ReqId) → AllByRecursion (λ (e : Entry). names_thread reset r.thread e.act ≡ true) between
     → 0 < count_of (is_accept_above setup dev r) before → 0 < count_of (is_complete_of r) (before ++ accept ∷ between)
+
+-- ---- quiescence
+
+-- the request is completed by these entries, and is nowhere after them
+pub record IsOver (setup : Setup) (told : Told) (r : ReqId) (es : List Entry) : Type 0 where
+  pub completed : 0 < count_of (is_complete_of r) es
+  pub nowhere : place (state_after setup told es) (Request r) ≡ Nowhere
+
+-- when a reset completes, no request but resets is open that was accepted before it, over its device
+abbrev pub Quiescence : Type 0
+Quiescence = (setup : Setup) (told : Told) (reset : ReqId) (dev : DevId) (before : List Entry) (accept : Entry) (between : List Entry) (complete : Entry)
+    → StandsOnEarlier setup → Completes setup told reset dev before accept between complete
+    → (r : ReqId) → 0 < count_of (is_accept_above setup dev r) before → IsOver setup told r (before ++ accept ∷ between)
