@@ -1,5 +1,5 @@
 -- What contracts see of the latencies of one delay device on one thread.
-use Rattle.std.specs.Prelude.{ℕ, ◌%◌}
+use Rattle.std.specs.Prelude.{◌%◌}
 use Rattle.bd_base.specs.declared.device.Kind.{Kind}
 use Rattle.bd_machine.specs.declared.state.Delayed.{Delayed}
 
