@@ -1,5 +1,5 @@
 //! The limits of devices.
-ghost use Rattle.std.specs.Prelude.{◌≡◌, pos};
+ghost use Rattle.std.specs.Prelude.{◌≡◌};
 ghost use Rattle.bd_machine.specs.Budget.{bytes_in_slice, one_quota, quotas_of, requests_in_slice};
 ghost use Rattle.bd_machine.specs.Limits.{counts_both, counts_way, is_limited, rates_of};
 
@@ -47,26 +47,28 @@ pub fn is_limited(setup: &Setup, dev: DevId) -> bool
     counts_way(Way::Read, rates) || counts_way(Way::Write, rates)
 }
 
-fn requests_in_slice(per_second: u64) -> i128
-    ensures { result ≡ pos (requests_in_slice per_second) }
+/// The requests that a limit per second lets through in a timeslice of 1,000 microseconds, rounded up.
+pub fn requests_in_slice(per_second: u64) -> u128
+    ensures { result ≡ requests_in_slice per_second }
 {
-    (per_second as i128 + 999) / 1000
+    (u128::from(per_second) + 999) / 1000
 }
 
-fn bytes_in_slice(megabytes: u64) -> i128
-    ensures { result ≡ pos (bytes_in_slice megabytes) }
+/// The bytes that a limit in megabytes per second lets through in a timeslice, rounded down.
+pub fn bytes_in_slice(megabytes: u64) -> u128
+    ensures { result ≡ bytes_in_slice megabytes }
 {
-    megabytes as i128 * 1_048_576 / 1000
+    u128::from(megabytes) * 1_048_576 / 1000
 }
 
-/// What is left of each limit at first: one quota.
-pub(crate) fn one_quota(rates: Rates) -> Left
+/// What is left of each limit of these rates at first: one quota.
+pub fn one_quota(rates: Rates) -> Left
     ensures { result ≡ one_quota (quotas_of rates) }
 {
     Left {
-        rw_requests: requests_in_slice(rates.rw_ios_per_sec),
-        rw_bytes: bytes_in_slice(rates.rw_mbytes_per_sec),
-        r_bytes: bytes_in_slice(rates.r_mbytes_per_sec),
-        w_bytes: bytes_in_slice(rates.w_mbytes_per_sec),
+        rw_requests: requests_in_slice(rates.rw_ios_per_sec) as i128,
+        rw_bytes: bytes_in_slice(rates.rw_mbytes_per_sec) as i128,
+        r_bytes: bytes_in_slice(rates.r_mbytes_per_sec) as i128,
+        w_bytes: bytes_in_slice(rates.w_mbytes_per_sec) as i128,
     }
 }

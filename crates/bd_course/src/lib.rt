@@ -3,13 +3,14 @@
 #![tactic(auto)]
 
 mod aborts;
-mod budget;
 mod delays;
 mod injections;
 mod limits;
 
 pub use aborts::{aborted, refused_abort};
-pub use budget::{charged, may_have_passed, may_pass, one_quota, renewed, starts_before};
-pub use delays::{counted, held, refused_hold, refused_release, released};
+pub use bd_delay::counted;
+pub use delays::{held, refused_hold, refused_release, released};
 pub use injections::{asked_once_more, injected, pended, refused_inject, refused_pend};
-pub use limits::{charge, depart, passed, refused_let, refused_tick, seen_at, tick};
+pub use limits::{
+    charge, depart, passed, refused_let, refused_tick, seen_at, tick, waiting_for,
+};

@@ -6,11 +6,11 @@ ghost use Rattle.bd_machine.specs.Same.{same_request};
 ghost use Rattle.bd_machine.specs.Step.{first_failing};
 ghost use Rattle.bd_machine.specs.Table.{change_first};
 
-use crate::budget::{charged, may_have_passed, may_pass, renewed, starts_before};
 use bd_base::{DevId, OutOfMemory, ReqId, Rows, Setup, Way};
 use bd_blocks::{home, rates_of, size_of};
 use bd_machine::guard::{FIRST_IN_LINE, TICK_DUE, WITHIN_LIMITS};
 use bd_machine::{Limited, Moments, OpenRequest, Part, Starts, Trip};
+use bd_qos::{charged, may_have_passed, may_pass, renewed, starts_before};
 use bd_rules::{is_marked, next_limited, request_here, way_of};
 use bd_view::{Sees, same_request};
 use std::alloc::Global;
@@ -45,13 +45,13 @@ fn is_head(req: ReqId, waiting: &[ReqId]) -> bool
     }
 }
 
-// Whether the request is the first that waits for the device.
-fn is_first_waiting(part: &Part, req: ReqId, dev: DevId) -> bool
-    ensures { result ≡ is_head req (waiting_for part.now dev) }
+/// The requests that wait here for a limited device, in order of arrival.
+pub fn waiting_for(part: &Part, dev: DevId) -> &[ReqId]
+    ensures { result.now ≡ waiting_for part.now dev }
 {
     match limited_here(part, dev) {
-        Some(l) => is_head(req, l.waiting.as_slice()),
-        None => false,
+        Some(l) => l.waiting.as_slice(),
+        None => &[],
     }
 }
 
@@ -119,7 +119,7 @@ fn is_next_in_line<S: Sees>(
         None => false,
     };
     let part = seen.part();
-    waits && is_next && is_first_waiting(part, req, dev) && !is_marked(setup, part, r.dev)
+    waits && is_next && is_head(req, waiting_for(part, dev)) && !is_marked(setup, part, r.dev)
 }
 
 // Whether each limit that counts the request lets it through.

@@ -1,2 +1,2 @@
+pub mod Channel
 pub mod Holds
-pub mod Latencies

@@ -8,14 +8,14 @@ use std::marker::Model;
 
 // A request that is held until a moment (microseconds).
 #[derive(Clone, Copy, Debug)]
-struct Hold {
+struct HeldRequest {
     id: ReqId,
     until: u64,
 }
 
-impl Hold {
+impl HeldRequest {
     // Whether this hold ends before another: by its moment, and then by its request.
-    fn ends_before(&self, other: &Hold) -> bool
+    fn ends_before(&self, other: &HeldRequest) -> bool
         ensures { result ≡ ends_before self.now other.now }
     {
         self.until < other.until || (self.until == other.until && id_before(&self.id, &other.id))
@@ -39,7 +39,7 @@ fn id_before(a: &ReqId, b: &ReqId) -> bool
 /// The held requests of a thread, in the order in which they came.
 #[derive(Debug, Drop)]
 pub struct Held {
-    rows: Vec<Hold>,
+    rows: Vec<HeldRequest>,
 }
 
 impl Model for Held {
@@ -78,7 +78,7 @@ impl Held {
         requires { 0 < self.old.room }
         ensures { self.new ≡ record { rows = self.old.rows ++ record { id = id; until = until } ∷ []; room = self.old.room - 1 } }
     {
-        self.rows.push_reserved(Hold { id, until });
+        self.rows.push_reserved(HeldRequest { id, until });
     }
 
     /// The request whose hold ends next, if its moment has come: the least moment, and then the

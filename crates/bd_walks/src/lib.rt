@@ -5,4 +5,4 @@ mod table;
 mod visit;
 
 pub use table::write_row;
-pub use visit::{is_below, mark, refused_visit, remark, uncount, visited};
+pub use visit::{is_below, is_drained, mark, refused_visit, remark, uncount, visited};

@@ -58,8 +58,9 @@ fn any_waits(setup: &Setup, requests: &[Open], dev: DevId) -> bool
         .any(|open| is_kept_waiting(setup, dev, open))
 }
 
-// Whether no open request of the thread stands against a drain.
-fn is_drained(setup: &Setup, part: &Part, dev: DevId, kind: WalkKind) -> bool
+/// Whether no open request of the thread stands against a visit of this kind: against a drain each does
+/// that has the device below, but resets.
+pub fn is_drained(setup: &Setup, part: &Part, dev: DevId, kind: WalkKind) -> bool
     ensures { result ≡ is_drained setup.now part.now dev kind }
 {
     match kind {

@@ -1,7 +1,7 @@
 use Rattle.std.proofs.Common.{◌≡◌, filter}
 use Rattle.bd_machine.specs.BlockMap.{below, is_delay}
 use Rattle.bd_machine.specs.Delays.{counted_all}
-use Rattle.bd_course.proofs.delays.count_below.Given as goal
+use Rattle.bd_delay.proofs.latency.count_below.Given as goal
 
 -- with the devices that are left, all are counted
 abbrev pub invariant-loop-d : goal.invariant-loop-d

@@ -1,37 +1,12 @@
 //! What is left of a device's limits, over timeslices of 1,000 microseconds.
-ghost use Rattle.std.specs.Prelude.{◌≡◌, ◌≤◌, ◌+◌, ◌*◌, ◌^◌, pos, IfNone, IfOk, IfSome};
-ghost use Rattle.bd_machine.specs.Budget.{bytes_in_slice, charged, charged_by, lets, may_have_passed, may_pass, one_quota, quotas_of, renewed, renewed_by, requests_in_slice, starts_before};
+ghost use Rattle.std.specs.Prelude.{◌≡◌, ◌≤◌, ◌<◌, ◌+◌, ◌-◌, ◌*◌, ◌^◌, pos, true, IsOk, IfNone, IfOk, IfSome};
+ghost use Rattle.bd_machine.specs.declared.state.Starts.{Starts};
+ghost use Rattle.bd_machine.specs.Budget.{charged, charged_by, lets, may_have_passed, may_pass, quotas_of, renewed, renewed_by, slices_passed, starts_before};
+ghost use Rattle.bd_qos.specs.Bounds.{AreInRange, AreBounded, IsBounded, IsOneOf, MayHavePassed};
 
 use bd_base::{OutOfMemory, Rates, Way};
+use bd_blocks::{bytes_in_slice, requests_in_slice};
 use bd_machine::{Left, Starts};
-
-// ---- quotas
-
-// The requests that a limit per second lets through in a timeslice, rounded up.
-fn requests_in_slice(per_second: u64) -> u128
-    ensures { result ≡ requests_in_slice per_second }
-{
-    (u128::from(per_second) + 999) / 1000
-}
-
-// The bytes that a limit in megabytes per second lets through in a timeslice, rounded down.
-fn bytes_in_slice(megabytes: u64) -> u128
-    ensures { result ≡ bytes_in_slice megabytes }
-{
-    u128::from(megabytes) * 1_048_576 / 1000
-}
-
-/// What is left of each limit of these rates at first: one quota.
-pub fn one_quota(rates: Rates) -> Left
-    ensures { result ≡ one_quota (quotas_of rates) }
-{
-    Left {
-        rw_requests: requests_in_slice(rates.rw_ios_per_sec) as i128,
-        rw_bytes: bytes_in_slice(rates.rw_mbytes_per_sec) as i128,
-        r_bytes: bytes_in_slice(rates.r_mbytes_per_sec) as i128,
-        w_bytes: bytes_in_slice(rates.w_mbytes_per_sec) as i128,
-    }
-}
 
 // ---- a request
 
@@ -56,7 +31,9 @@ pub fn may_pass(rates: Rates, left: Left, way: Way) -> bool
 
 // What is left of a limit that a request was charged to. More than 127 bits count answer out of memory.
 fn charged_by(quota: u128, cost: u64, left: i128) -> Result<i128, OutOfMemory>
-    ensures { IfOk result (λ n. n ≡ charged_by quota cost left) }
+    ensures left { IfOk result (λ n. n ≡ charged_by quota cost left) }
+    ensures fits { IsBounded left → IsOk result }
+    ensures bounded { IsBounded left → lets quota left ≡ true → IfOk result IsBounded }
 {
     if quota == 0 {
         return Ok(left);
@@ -67,9 +44,12 @@ fn charged_by(quota: u128, cost: u64, left: i128) -> Result<i128, OutOfMemory>
     }
 }
 
-/// What is left after a request of these bytes passed.
+/// What is left after a request of these bytes passed. More than 127 bits count answer out of memory;
+/// where what was left is bounded it never comes to that.
 pub fn charged(rates: Rates, way: Way, bytes: u64, left: Left) -> Result<Left, OutOfMemory>
-    ensures { IfOk result (λ l. l ≡ charged (quotas_of rates) way bytes left) }
+    ensures left { IfOk result (λ l. l ≡ charged (quotas_of rates) way bytes left) }
+    ensures fits { AreBounded left → IsOk result }
+    ensures bounded { AreBounded left → may_pass (quotas_of rates) left way ≡ true → IfOk result AreBounded }
 {
     let rw_requests = charged_by(requests_in_slice(rates.rw_ios_per_sec), 1, left.rw_requests)?;
     let rw_bytes = charged_by(
@@ -103,7 +83,9 @@ pub fn charged(rates: Rates, way: Way, bytes: u64, left: Left) -> Result<Left, O
 
 // These quotas. More than 127 bits count answer out of memory.
 fn quotas(quota: u128, slices: u64) -> Result<i128, OutOfMemory>
-    ensures { IfOk result (λ n. n ≡ pos (slices * quota)) }
+    ensures value { IfOk result (λ n. n ≡ pos (slices * quota)) }
+    ensures fits { quota < 2 ^ 30 → IsOk result }
+    ensures bounded { quota < 2 ^ 30 → slices * quota < 2 ^ 94 }
 {
     let Some(all) = u128::from(slices).checked_mul(quota) else {
         return Err(OutOfMemory);
@@ -116,7 +98,9 @@ fn quotas(quota: u128, slices: u64) -> Result<i128, OutOfMemory>
 
 // A limit after these timeslices.
 fn renewed_by(quota: u128, slices: u64, left: i128) -> Result<i128, OutOfMemory>
-    ensures { IfOk result (λ n. n ≡ renewed_by quota slices left) }
+    ensures left { IfOk result (λ n. n ≡ renewed_by quota slices left) }
+    ensures fits { quota < 2 ^ 30 → IsBounded left → IsOk result }
+    ensures bounded { quota < 2 ^ 30 → IsBounded left → IfOk result IsBounded }
 {
     let more = quotas(quota, slices)?;
     match left.min(0).checked_add(more) {
@@ -126,9 +110,12 @@ fn renewed_by(quota: u128, slices: u64, left: i128) -> Result<i128, OutOfMemory>
 }
 
 /// What is left after these timeslices: an overrun stays, what was left over goes, and each brings a
-/// quota.
+/// quota. More than 127 bits count answer out of memory; where the limits are in range and what was left
+/// is bounded it never comes to that.
 pub fn renewed(rates: Rates, slices: u64, left: Left) -> Result<Left, OutOfMemory>
-    ensures { IfOk result (λ l. l ≡ renewed (quotas_of rates) slices left) }
+    ensures left { IfOk result (λ l. l ≡ renewed (quotas_of rates) slices left) }
+    ensures fits { AreInRange rates → AreBounded left → IsOk result }
+    ensures bounded { AreInRange rates → AreBounded left → IfOk result AreBounded }
 {
     Ok(Left {
         rw_requests: renewed_by(
@@ -144,6 +131,17 @@ pub fn renewed(rates: Rates, slices: u64, left: Left) -> Result<Left, OutOfMemor
         r_bytes: renewed_by(bytes_in_slice(rates.r_mbytes_per_sec), slices, left.r_bytes)?,
         w_bytes: renewed_by(bytes_in_slice(rates.w_mbytes_per_sec), slices, left.w_bytes)?,
     })
+}
+
+/// How many timeslices passed from a start to a moment (microseconds) beside those that were counted
+/// before. Where they are any, the machine lets them pass at that moment, and the start stays one of
+/// those that it leaves.
+pub fn slices_due(start: u64, now: u64, counted: u128) -> u64
+    ensures due { result ≡ slices_passed start now - counted }
+    ensures allowed { 0 < result → (starts : Starts) → IsOneOf start starts → MayHavePassed start now (counted + result) starts }
+{
+    let passed = now.saturating_sub(start) / 1000;
+    u128::from(passed).saturating_sub(counted) as u64
 }
 
 // The microseconds of these timeslices, and of all but the last moment of one more; none past 128 bits.
