@@ -1,18 +1,20 @@
 //! The digest, the pattern of a fill, and the lists.
-use crate::steps::no_such_step;
-use crate::words::{decoded, escaped, first_word, hexadecimal, number};
+use crate::steps::said;
+use crate::words::{decoded, escaped, first_word, number};
 use bd_base::{Bytes, DevId, DevList, Name, NameList, OutOfMemory, digest_of, fill_pattern};
 use std::alloc::Global;
 
 pub(crate) fn answer(alloc: Global, case: &str) -> Result<String, OutOfMemory> {
     let (form, rest) = first_word(case);
     match form {
-        "digest" => hexadecimal(alloc, &digest_of(decoded(alloc, rest)?.as_slice())),
+        "digest" => {
+            let digest = digest_of(decoded(alloc, rest)?.as_slice());
+            Ok(hex::encode(alloc, digest.as_slice())?)
+        },
         "fill" => filled(alloc, rest),
-        "name" => name(alloc),
         "bytes" => bytes(alloc),
         "lists" => lists(alloc),
-        _ => no_such_step(alloc),
+        _ => said(alloc, "no such step"),
     }
 }
 
@@ -21,15 +23,7 @@ fn filled(alloc: Global, words: &str) -> Result<String, OutOfMemory> {
     let (seed, block) = first_word(words);
     let mut bytes = [0u8; 4];
     fill_pattern(number(seed), number(block), &mut bytes);
-    hexadecimal(alloc, &bytes)
-}
-
-// A name that grows by a byte, and whether it is its copy.
-fn name(alloc: Global) -> Result<String, OutOfMemory> {
-    let mut name = Name::from_slice(alloc, b"Malloc")?;
-    name.push(b'0')?;
-    let is = name.copy()?.is(&name);
-    Ok(format!(in alloc; "{name} {is}")?)
+    Ok(hex::encode(alloc, bytes.as_slice())?)
 }
 
 // The copy of two zeros with more bytes after them.
@@ -40,15 +34,16 @@ fn bytes(alloc: Global) -> Result<String, OutOfMemory> {
     escaped(alloc, bytes.copy()?.as_slice())
 }
 
-// How long the copy of a list of one device is, and whether names are in a list of one name.
+// A name that grows by a byte, its copy, and lists of it and of a device.
 fn lists(alloc: Global) -> Result<String, OutOfMemory> {
+    let mut name = Name::from_slice(alloc, b"Malloc")?;
+    name.push(b'0')?;
+    let is = name.copy()?.is(&name);
     let mut devices = DevList::new(alloc);
     devices.push(DevId(7))?;
     let length = devices.copy()?.len();
     let mut names = NameList::new(alloc);
-    let name = Name::from_slice(alloc, b"Malloc0")?;
     names.push(name.copy()?)?;
-    let has = names.has(&name);
-    let has_empty = names.has(&Name::new(alloc));
-    Ok(format!(in alloc; "{length} {has} {has_empty}")?)
+    let (has, has_empty) = (names.has(&name), names.has(&Name::new(alloc)));
+    Ok(format!(in alloc; "{name} {is} {length} {has} {has_empty}")?)
 }

@@ -1,8 +1,8 @@
 //! Delays: the latencies that a channel gives its reads (`r`) and writes (`w`), and requests that are
 //! held until a moment.
-use crate::steps::{Subject, done, no_such_step, told};
+use crate::steps::{Subject, said, told};
 use crate::words::{first_word, number, request};
-use bd_base::{OutOfMemory, ReqId, Way};
+use bd_base::{OutOfMemory, Way};
 use bd_delay::{DelayChannel, Held};
 use std::alloc::Global;
 
@@ -11,7 +11,7 @@ pub(crate) fn answer(alloc: Global, case: &str) -> Result<String, OutOfMemory> {
     match form {
         "held" => told(alloc, &mut Held::new(alloc), rest),
         "channel" => latencies(alloc, rest),
-        _ => no_such_step(alloc),
+        _ => said(alloc, "no such step"),
     }
 }
 
@@ -31,27 +31,23 @@ fn latencies(alloc: Global, ways: &str) -> Result<String, OutOfMemory> {
     Ok(latencies)
 }
 
-fn id(seq: &str) -> ReqId {
-    ReqId {
-        thread: 0,
-        seq: number(seq),
-    }
-}
-
 impl Subject for Held {
     fn step(&mut self, alloc: Global, words: &[&str]) -> Result<String, OutOfMemory> {
         match words {
             ["hold", seq, until] => {
                 self.reserve(1)?;
-                self.hold(id(seq), number(until));
-                done(alloc)
+                self.hold(request(seq), number(until));
+                said(alloc, "done")
             }
-            ["due", now] => request(alloc, self.due(number(now))),
+            ["due", now] => {
+                let due = self.due(number(now));
+                Ok(format!(in alloc; "{due:?}")?)
+            },
             ["stop", seq] => {
-                let stopped = self.stop(id(seq));
+                let stopped = self.stop(request(seq));
                 Ok(format!(in alloc; "{stopped}")?)
             }
-            _ => no_such_step(alloc),
+            _ => said(alloc, "no such step"),
         }
     }
 }

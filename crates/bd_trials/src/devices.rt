@@ -1,5 +1,5 @@
 //! Devices before a run: the number of the errno that each call is refused with, or 0.
-use crate::steps::{Subject, no_such_step};
+use crate::steps::{Subject, said};
 use crate::words::small;
 use bd_base::{DevId, DevRow, ErrKind, Errno, IoSet, Kind, Name, OutOfMemory, RateSet};
 use bd_devices::{Devices, RegisterNo};
@@ -81,7 +81,7 @@ impl Subject for Devices {
                 let row = row(alloc, [*name, *kind, *base, *group])?;
                 register(alloc, self, row)?
             }
-            _ => return no_such_step(alloc),
+            _ => return said(alloc, "no such step"),
         };
         Ok(format!(in alloc; "{number}")?)
     }

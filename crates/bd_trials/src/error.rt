@@ -1,5 +1,5 @@
 //! Injected errors: they are set for types of request, and each request takes what is left for its.
-use crate::steps::{Subject, done, no_such_step};
+use crate::steps::{Subject, said};
 use crate::words::{op, small};
 use bd_base::{ErrKind, Injection, Injections, IoSet, OutOfMemory};
 use bd_error::InjectionCalls;
@@ -43,7 +43,7 @@ impl Subject for Injections {
         match words {
             ["set", letters, word, count] => {
                 self.set(types(letters), kind(word), small(count));
-                done(alloc)
+                said(alloc, "done")
             }
             ["left"] => {
                 let (read, unmap, flush) = (self.read.left, self.unmap.left, self.flush.left);
@@ -54,9 +54,9 @@ impl Subject for Injections {
                     let decision = self.take(&op);
                     Ok(format!(in alloc; "{decision:?}")?)
                 }
-                None => no_such_step(alloc),
+                None => said(alloc, "no such step"),
             },
-            _ => no_such_step(alloc),
+            _ => said(alloc, "no such step"),
         }
     }
 }

@@ -1,8 +1,8 @@
 //! What scripts come to: their lines, or the first line outside the grammar; and generated scripts.
 mod command;
 
-use crate::steps::no_such_step;
-use crate::words::{decoded, escaped, first_word, hexadecimal, small};
+use crate::steps::said;
+use crate::words::{decoded, escaped, first_word, small};
 use bd_base::{OutOfMemory, Script, digest_of};
 use bd_jobs::{JobNo, generate, read_jobs};
 use std::alloc::Global;
@@ -15,7 +15,7 @@ pub(crate) fn answer(alloc: Global, case: &str) -> Result<String, OutOfMemory> {
         "repeat" => outcome(alloc, repeated(alloc, small(number), rest)?.as_slice(), 1),
         "generate" => escaped(alloc, generated(alloc, number, rest)?.as_slice()),
         "digest" => digest(alloc, number, rest),
-        _ => no_such_step(alloc),
+        _ => said(alloc, "no such step"),
     }
 }
 
@@ -64,7 +64,7 @@ fn generated(alloc: Global, numbers: &str, threads: &str) -> Result<Vec<u8>, Out
 // The digest of a generated script, and how many threads have a script in it.
 fn digest(alloc: Global, numbers: &str, threads: &str) -> Result<String, OutOfMemory> {
     let text = generated(alloc, numbers, threads)?;
-    let digest = hexadecimal(alloc, &digest_of(text.as_slice()))?;
+    let digest = hex::encode(alloc, digest_of(text.as_slice()).as_slice())?;
     match read_jobs(alloc, text.as_slice(), small(threads)) {
         Ok(scripts) => {
             let scripts = scripts.len();

@@ -2,7 +2,7 @@
 //! other.
 ghost use Rattle.std.specs.Prelude.{◌≡◌, IfOk};
 
-use crate::steps::{Subject, done, no_such_step, told};
+use crate::steps::{Subject, said, told};
 use crate::words::{first_word, small};
 use bd_base::{Act, Entry, OutOfMemory, ThreadId};
 use bd_log::{Log, LogNo, merge, merge_onto};
@@ -14,7 +14,7 @@ pub(crate) fn answer(alloc: Global, case: &str) -> Result<String, OutOfMemory> {
         "thread" => stamps(alloc, rest),
         "merge" => merged(alloc),
         "parts" => by_parts(alloc),
-        _ => no_such_step(alloc),
+        _ => said(alloc, "no such step"),
     }
 }
 
@@ -23,7 +23,7 @@ impl Subject for Log {
         match words {
             ["reserve", count] => {
                 self.reserve(small(count))?;
-                done(alloc)
+                said(alloc, "done")
             }
             ["push"] => match self.push(Act::Shutdown) {
                 Ok(stamp) => Ok(format!(in alloc; "{stamp}")?),
@@ -32,7 +32,7 @@ impl Subject for Log {
             },
             ["meet", stamp] => {
                 self.meet(stamp.parse().unwrap_or(0));
-                done(alloc)
+                said(alloc, "done")
             }
             ["last"] => {
                 let last = self.last();
@@ -46,7 +46,7 @@ impl Subject for Log {
                 let entries = self.hand_out().len();
                 Ok(format!(in alloc; "{entries}")?)
             }
-            _ => no_such_step(alloc),
+            _ => said(alloc, "no such step"),
         }
     }
 }

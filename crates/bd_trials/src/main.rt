@@ -26,33 +26,25 @@ use bd_poller::Pollers;
 use bd_tables::{Retry, Tables};
 use std::alloc::Global;
 
-// The answer to a case about the crates that read and write texts, and about a script's moves.
 fn answer(alloc: Global, subject: &str, case: &str) -> Result<String, OutOfMemory> {
     match subject {
         "base" => base::answer(alloc, case),
         "config" => config::answer(alloc, case),
-        "jobs" => jobs::answer(alloc, case),
-        "outside" => outside::answer(alloc, case),
-        "report" => report::answer(alloc, case),
-        "user" => user::answer(alloc, case),
-        _ => small_answer(alloc, subject, case),
-    }
-}
-
-// The answer to a case about what a thread is made of.
-fn small_answer(alloc: Global, subject: &str, case: &str) -> Result<String, OutOfMemory> {
-    match subject {
         "delay" => delay::answer(alloc, case),
         "devices" => steps::told(alloc, &mut Devices::new(alloc, 2), case),
         "error" => steps::told(alloc, &mut error::none_left(), case),
+        "jobs" => jobs::answer(alloc, case),
         "log" => log::answer(alloc, case),
         "msg" => msg::answer(alloc, case),
+        "outside" => outside::answer(alloc, case),
         "poller" => steps::told(alloc, &mut Pollers::new(alloc), case),
         "qos" => qos::answer(alloc, case),
+        "report" => report::answer(alloc, case),
         "retry" => steps::told(alloc, &mut Retry::new(alloc), case),
         "tables" => steps::told(alloc, &mut Tables::new(alloc), case),
+        "user" => user::answer(alloc, case),
         "walk" => walk::answer(alloc, case),
-        _ => Ok(String::from_str(alloc, "no such subject")?),
+        _ => steps::said(alloc, "no such subject"),
     }
 }
 

@@ -1,7 +1,7 @@
 //! The forms of the outside in memory.
 mod disk;
 
-use crate::steps::{Subject, no_such_step, told};
+use crate::steps::{Subject, said, told};
 use crate::words::{escaped, first_word, number};
 use bd_base::{Bytes, Name, OutOfMemory};
 use bd_outside::{Clock, Host, MemHost, MemSink, Sink, StillClock};
@@ -10,20 +10,17 @@ use std::alloc::Global;
 pub(crate) fn answer(alloc: Global, case: &str) -> Result<String, OutOfMemory> {
     let (form, rest) = first_word(case);
     match form {
-        "clock" => moments(alloc, number(rest)),
+        "clock" => {
+            let clock = StillClock::new(number(rest));
+            let (first, second) = (clock.now(), clock.now());
+            Ok(format!(in alloc; "{first} {second}")?)
+        }
         "disk" => disk::written(alloc),
         "files" => told(alloc, &mut two_files(alloc, 0, &[4])?, rest),
         "openings" => disk::opened(alloc),
         "sink" => taken(alloc, rest),
-        _ => no_such_step(alloc),
+        _ => said(alloc, "no such step"),
     }
-}
-
-// A clock that stands still, looked at twice.
-fn moments(alloc: Global, at: u64) -> Result<String, OutOfMemory> {
-    let clock = StillClock::new(at);
-    let (first, second) = (clock.now(), clock.now());
-    Ok(format!(in alloc; "{first} {second}")?)
 }
 
 // A host of the files `a` and `b`, of which these calls fail.
@@ -49,7 +46,7 @@ impl Subject for MemHost {
                 let (faults, absences) = (self.faults(), self.absences());
                 Ok(format!(in alloc; "{faults} failed, {absences} absent")?)
             }
-            _ => no_such_step(alloc),
+            _ => said(alloc, "no such step"),
         }
     }
 }

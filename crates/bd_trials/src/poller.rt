@@ -1,17 +1,17 @@
 //! Pollers: each is added with its period and the moment, and a turn that began at a moment gives
 //! those that are due.
-use crate::steps::{Subject, done, no_such_step};
+use crate::steps::{Subject, said};
 use crate::words::number;
 use bd_base::OutOfMemory;
-use bd_poller::{PollerId, Pollers};
+use bd_poller::Pollers;
 use std::alloc::Global;
 
 impl Subject for Pollers {
     fn step(&mut self, alloc: Global, words: &[&str]) -> Result<String, OutOfMemory> {
         match words {
             ["add", period, now] => {
-                let PollerId(added) = self.add(number(period), number(now))?;
-                Ok(format!(in alloc; "{added}")?)
+                let added = self.add(number(period), number(now))?;
+                Ok(format!(in alloc; "{added:?}")?)
             }
             ["next"] => {
                 let moment = self.next_due();
@@ -19,13 +19,13 @@ impl Subject for Pollers {
             }
             ["begin", now] => {
                 self.begin(number(now));
-                done(alloc)
+                said(alloc, "done")
             }
             ["due"] => {
-                let due = self.due().map(|PollerId(n)| n);
+                let due = self.due();
                 Ok(format!(in alloc; "{due:?}")?)
             }
-            _ => no_such_step(alloc),
+            _ => said(alloc, "no such step"),
         }
     }
 }

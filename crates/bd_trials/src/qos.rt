@@ -1,8 +1,8 @@
 //! Limits: what may pass and is charged, and how many slices have passed. A case begins with a limit
 //! of its kind, and the moment at which it starts.
-use crate::steps::{Subject, done, no_such_step, told};
-use crate::words::{number, way};
-use bd_base::{OutOfMemory, Rates};
+use crate::steps::{Subject, said, told};
+use crate::words::number;
+use bd_base::{OutOfMemory, Rates, Way};
 use bd_qos::Limits;
 use std::alloc::Global;
 
@@ -26,30 +26,38 @@ pub(crate) fn answer(alloc: Global, case: &str) -> Result<String, OutOfMemory> {
             rates.r_mbytes_per_sec = number(limit).min(1_000_000);
             number(start)
         }
-        _ => return no_such_step(alloc),
+        _ => return said(alloc, "no such step"),
     };
     told(alloc, &mut Limits::new(&rates, start), steps)
+}
+
+fn way_of(word: &str) -> Way {
+    if word == "write" {
+        Way::Write
+    } else {
+        Way::Read
+    }
 }
 
 impl Subject for Limits {
     fn step(&mut self, alloc: Global, words: &[&str]) -> Result<String, OutOfMemory> {
         match words {
-            ["may", word, bytes] => {
-                let may = self.may(way(word), number(bytes));
+            ["may", way, bytes] => {
+                let may = self.may(way_of(way), number(bytes));
                 Ok(format!(in alloc; "{may}")?)
             }
-            ["charge", word, bytes] => {
-                if !self.may(way(word), number(bytes)) {
-                    return Ok(String::from_str(alloc, "not charged")?);
+            ["charge", way, bytes] => {
+                if !self.may(way_of(way), number(bytes)) {
+                    return said(alloc, "not charged");
                 }
-                self.charge(way(word), number(bytes));
-                done(alloc)
+                self.charge(way_of(way), number(bytes));
+                said(alloc, "done")
             }
             ["tick", now] => {
                 let passed = self.tick(number(now));
                 Ok(format!(in alloc; "{passed}")?)
             }
-            _ => no_such_step(alloc),
+            _ => said(alloc, "no such step"),
         }
     }
 }

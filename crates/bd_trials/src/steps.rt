@@ -25,12 +25,7 @@ pub(crate) fn told<S: Subject>(
     Ok(told)
 }
 
-/// The answer to a step that nothing is told of.
-pub(crate) fn done(alloc: Global) -> Result<String, OutOfMemory> {
-    Ok(String::from_str(alloc, "done")?)
-}
-
-/// The answer to words that are no step.
-pub(crate) fn no_such_step(alloc: Global) -> Result<String, OutOfMemory> {
-    Ok(String::from_str(alloc, "no such step")?)
+/// An answer that is always the same.
+pub(crate) fn said(alloc: Global, answer: &str) -> Result<String, OutOfMemory> {
+    Ok(String::from_str(alloc, answer)?)
 }

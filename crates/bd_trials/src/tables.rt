@@ -1,26 +1,15 @@
 //! Where requests wait: the table of a thread's requests by place, and the retry queue of a channel.
-use crate::steps::{Subject, done, no_such_step};
-use crate::words::{self, number, small};
-use bd_base::{DevId, HandleId, Op, OutOfMemory, ReqId};
+use crate::steps::{Subject, said};
+use crate::words::{number, request, small};
+use bd_base::{DevId, HandleId, Op, OutOfMemory};
 use bd_msg::{Piece, Request};
 use bd_tables::{Place, Retry, Tables};
 use std::alloc::Global;
 
-fn answer(alloc: Global, holds: bool) -> Result<String, OutOfMemory> {
-    Ok(format!(in alloc; "{holds}")?)
-}
-
-fn id(seq: &str) -> ReqId {
-    ReqId {
-        thread: 0,
-        seq: number(seq),
-    }
-}
-
 // A read on handle 7.
-fn request(seq: &str) -> Request {
+fn read(seq: &str) -> Request {
     Request {
-        id: id(seq),
+        id: request(seq),
         dev: DevId(3),
         handle: HandleId(7),
         op: Op::Read,
@@ -38,22 +27,12 @@ fn place(word: &str) -> Place {
     }
 }
 
-// Whether a request is the one of its number.
-fn given(alloc: Global, seq: &str, found: Option<Request>) -> Result<String, OutOfMemory> {
-    let word = match found {
-        None => "none",
-        Some(found) if found == request(seq) => "given",
-        Some(_) => "another",
-    };
-    Ok(String::from_str(alloc, word)?)
-}
-
 fn park(alloc: Global, tables: &mut Tables, seq: &str, word: &str) -> Result<String, OutOfMemory> {
-    if tables.keeps(id(seq)) || !tables.has_room() {
-        return Ok(String::from_str(alloc, "not parked")?);
+    if tables.keeps(request(seq)) || !tables.has_room() {
+        return said(alloc, "not parked");
     }
-    tables.park(request(seq), place(word));
-    done(alloc)
+    tables.park(read(seq), place(word));
+    said(alloc, "done")
 }
 
 // The numbers of the requests in order, each with its place.
@@ -72,31 +51,46 @@ impl Subject for Tables {
         match words {
             ["reserve", count] => {
                 self.reserve(small(count))?;
-                done(alloc)
+                said(alloc, "done")
             }
             ["park", seq, word] => park(alloc, self, seq, word),
             ["move", seq, word] => {
-                let moved = self.move_to(id(seq), place(word));
-                answer(alloc, moved)
+                let moved = self.move_to(request(seq), place(word));
+                Ok(format!(in alloc; "{moved}")?)
             }
-            ["first", word] => words::request(alloc, self.first_in(place(word))),
-            ["away", seq] => given(alloc, seq, self.away(id(seq))),
-            ["unpark", seq] => given(alloc, seq, self.unpark(id(seq))),
+            ["first", word] => {
+                let given = self.first_in(place(word));
+                Ok(format!(in alloc; "{given:?}")?)
+            }
+            ["away", seq] => {
+                let given = self.away(request(seq));
+                Ok(format!(in alloc; "{given:?}")?)
+            }
+            ["unpark", seq] => {
+                let given = self.unpark(request(seq));
+                Ok(format!(in alloc; "{given:?}")?)
+            }
             ["open", handle] => {
                 let open = self.open_on(HandleId(number(handle).into()));
                 Ok(format!(in alloc; "{open}")?)
             }
             ["rows"] => rows(alloc, self),
-            ["empty"] => answer(alloc, self.is_empty()),
-            ["room"] => answer(alloc, self.has_room()),
-            _ => no_such_step(alloc),
+            ["empty"] => {
+                let empty = self.is_empty();
+                Ok(format!(in alloc; "{empty}")?)
+            }
+            ["room"] => {
+                let room = self.has_room();
+                Ok(format!(in alloc; "{room}")?)
+            }
+            _ => said(alloc, "no such step"),
         }
     }
 }
 
 fn piece(k: u32) -> Piece {
     Piece {
-        req: ReqId { thread: 0, seq: 1 },
+        req: request("1"),
         k,
         base: DevId(0),
         lba: 0,
@@ -112,22 +106,22 @@ impl Subject for Retry {
             ["refused", k, in_flight] => {
                 self.reserve(1)?;
                 self.refused(piece(small(k)), small(in_flight));
-                done(alloc)
+                said(alloc, "done")
             }
             ["queue", k] => {
                 self.reserve(1)?;
                 self.queue(piece(small(k)));
-                done(alloc)
+                said(alloc, "done")
             }
             ["retry", in_flight] => {
                 let sent = self.retry(small(in_flight));
-                let k = sent
-                    .filter(|sent| *sent == piece(sent.k))
-                    .map(|sent| sent.k);
-                Ok(format!(in alloc; "{k:?}")?)
+                Ok(format!(in alloc; "{sent:?}")?)
             }
-            ["empty"] => answer(alloc, self.is_empty()),
-            _ => no_such_step(alloc),
+            ["empty"] => {
+                let empty = self.is_empty();
+                Ok(format!(in alloc; "{empty}")?)
+            }
+            _ => said(alloc, "no such step"),
         }
     }
 }

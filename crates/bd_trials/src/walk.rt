@@ -5,8 +5,7 @@ use bd_msg::Walk;
 use bd_walk::WalkCalls;
 use std::alloc::Global;
 
-// The set of threads with these numbers.
-fn threads(numbers: &str) -> ThreadSet {
+pub(crate) fn answer(alloc: Global, numbers: &str) -> Result<String, OutOfMemory> {
     let mut threads = ThreadSet::empty();
     for word in numbers.split_whitespace() {
         let thread = small(word);
@@ -14,15 +13,11 @@ fn threads(numbers: &str) -> ThreadSet {
             threads.insert(ThreadId(thread));
         }
     }
-    threads
-}
-
-pub(crate) fn answer(alloc: Global, numbers: &str) -> Result<String, OutOfMemory> {
     let mut walk: Walk = WalkCalls::begin(
         WalkId { thread: 2, seq: 0 },
         DevId(1),
         WalkKind::Removal,
-        threads(numbers),
+        threads,
         ThreadId(2),
         None,
     );

@@ -1,5 +1,5 @@
 //! The words of a case: numbers, types of request, and bytes as it writes them.
-use bd_base::{Fill, Op, OutOfMemory, ReqId, Way};
+use bd_base::{Fill, Op, OutOfMemory, ReqId};
 use std::alloc::Global;
 
 /// The first word, and what comes after the space that ends it.
@@ -17,6 +17,14 @@ pub(crate) fn small(word: &str) -> u32 {
     word.parse().unwrap_or(0)
 }
 
+/// A request of thread 0 by its number.
+pub(crate) fn request(seq: &str) -> ReqId {
+    ReqId {
+        thread: 0,
+        seq: number(seq),
+    }
+}
+
 /// A type of request by its command's word. A write's seed is 5, an abort's line 3.
 pub(crate) fn op(word: &str) -> Option<Op> {
     Some(match word {
@@ -32,22 +40,6 @@ pub(crate) fn op(word: &str) -> Option<Op> {
         "abort" => Op::Abort(3),
         _ => return None,
     })
-}
-
-/// Writes, for the word `write`, and else reads.
-pub(crate) fn way(word: &str) -> Way {
-    match word {
-        "write" => Way::Write,
-        _ => Way::Read,
-    }
-}
-
-/// A request as its thread and its number, or `none`.
-pub(crate) fn request(alloc: Global, id: Option<ReqId>) -> Result<String, OutOfMemory> {
-    match id {
-        Some(ReqId { thread, seq }) => Ok(format!(in alloc; "{thread}:{seq}")?),
-        None => Ok(String::from_str(alloc, "none")?),
-    }
 }
 
 /// The bytes that a text stands for: `\n`, `\r` and `\t` as in Rust, `\x` and two digits for a byte.
@@ -97,15 +89,6 @@ pub(crate) fn escaped(alloc: Global, bytes: &[u8]) -> Result<String, OutOfMemory
             b' '..=b'[' | b']'..=b'~' => text.push(char::from(*byte))?,
             _ => write!(text, "\\x{byte:02x}")?,
         }
-    }
-    Ok(text)
-}
-
-/// Bytes in hexadecimal digits.
-pub(crate) fn hexadecimal(alloc: Global, bytes: &[u8]) -> Result<String, OutOfMemory> {
-    let mut text = String::new(alloc);
-    for byte in bytes {
-        write!(text, "{byte:02x}")?;
     }
     Ok(text)
 }

@@ -1,5 +1,5 @@
 //! A command in words.
-use bd_base::{ErrKind, IoSet, OutOfMemory, RateSet};
+use bd_base::{IoSet, OutOfMemory};
 use bd_config::Command;
 use std::alloc::Global;
 
@@ -12,12 +12,12 @@ pub(crate) fn told(alloc: Global, command: &Command) -> Result<String, OutOfMemo
             count,
         } => {
             let types = types_word(alloc, types)?;
-            let kind = kind_word(*kind);
-            Ok(format!(in alloc; "inject {name} {types} {kind} {count}")?)
+            Ok(format!(in alloc; "inject {name} {types} {kind:?} {count}")?)
         }
         Command::SetLimits { name, rates } => {
-            let rates = rates_words(alloc, rates)?;
-            Ok(format!(in alloc; "limits {name} {rates}")?)
+            let (requests, both) = (rates.rw_ios_per_sec, rates.rw_mbytes_per_sec);
+            let (read, write) = (rates.r_mbytes_per_sec, rates.w_mbytes_per_sec);
+            Ok(format!(in alloc; "limits {name} {requests:?} {both:?} {read:?} {write:?}")?)
         }
         _ => base_told(alloc, command),
     }
@@ -91,28 +91,4 @@ fn types_word(alloc: Global, types: &IoSet) -> Result<String, OutOfMemory> {
         word.push('f')?;
     }
     Ok(word)
-}
-
-fn kind_word(kind: ErrKind) -> &'static str {
-    match kind {
-        ErrKind::Failure => "failure",
-        ErrKind::Pending => "pending",
-        ErrKind::Corrupt => "corrupt",
-    }
-}
-
-// The four limits; `-` for one that isn't named.
-fn rates_words(alloc: Global, rates: &RateSet) -> Result<String, OutOfMemory> {
-    let ios = limit_word(alloc, rates.rw_ios_per_sec)?;
-    let both = limit_word(alloc, rates.rw_mbytes_per_sec)?;
-    let read = limit_word(alloc, rates.r_mbytes_per_sec)?;
-    let write = limit_word(alloc, rates.w_mbytes_per_sec)?;
-    Ok(format!(in alloc; "{ios} {both} {read} {write}")?)
-}
-
-fn limit_word(alloc: Global, limit: Option<u64>) -> Result<String, OutOfMemory> {
-    match limit {
-        Some(n) => Ok(format!(in alloc; "{n}")?),
-        None => Ok(String::from_str(alloc, "-")?),
-    }
 }

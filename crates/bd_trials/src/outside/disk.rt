@@ -2,7 +2,7 @@
 use crate::outside::two_files;
 use crate::words::escaped;
 use bd_base::{Bytes, OutOfMemory};
-use bd_outside::{Disk, Host, HostNo, MemDisk, MemHost, Opening};
+use bd_outside::{Disk, Host, MemDisk, MemHost, Opening};
 use std::alloc::Global;
 
 // A disk whose last block isn't whole: its middle block is written, and it and the next are read.
@@ -30,7 +30,7 @@ pub(crate) fn opened(alloc: Global) -> Result<String, OutOfMemory> {
         Err(_) => false,
     };
     let rows = rows(alloc, host.openings())?;
-    let (again, other) = (no_disk(&mut host, "b"), no_disk(&mut host, "c"));
+    let (again, other) = (host.open_disk("b", 4).err(), host.open_disk("c", 4).err());
     Ok(format!(in alloc; "{did}; {rows}; {again:?}, {other:?}")?)
 }
 
@@ -40,10 +40,6 @@ fn close_written(host: &mut MemHost, disk: MemDisk) -> bool {
     let did = disk.blocks() == 2 && disk.write(0, b"AAAA").is_ok() && disk.flush().is_ok();
     host.close_disk("b", disk);
     did
-}
-
-fn no_disk(host: &mut MemHost, name: &str) -> Option<HostNo> {
-    host.open_disk(name, 4).err()
 }
 
 // The rows of closed disks.

@@ -24,19 +24,42 @@ pub(crate) fn entries(alloc: Global, acts: &str) -> Result<Vec<Entry>, OutOfMemo
 }
 
 fn act(words: &[&str]) -> Option<Act> {
+    Some(match words {
+        ["line", line, outcome @ ..] => Act::Script {
+            line: small(line),
+            outcome: outcome_of(outcome)?,
+        },
+        ["accept", thread, seq] => Act::Accept {
+            req: request(thread, seq),
+            dev: DevId(0),
+            handle: HandleId(0),
+            op: Op::Read,
+            lba: 0,
+            count: 8,
+        },
+        ["complete", thread, seq, end] => complete(request(thread, seq), end),
+        ["refuse"] => REFUSAL,
+        ["destruct", byte] => Act::Destruct {
+            dev: DevId(0),
+            digest: digest(byte),
+        },
+        _ => return None,
+    })
+}
+
+fn outcome_of(words: &[&str]) -> Option<Outcome> {
     match words {
-        ["line", line, "accepted", thread, seq] => {
-            Some(script(line, Outcome::Accepted(request(thread, seq))))
-        }
-        ["line", line, "refused"] => Some(script(line, Outcome::Errno(Errno::BadDesc))),
-        ["line", line, "done"] => Some(script(line, Outcome::Done)),
-        ["accept", thread, seq] => Some(accept(request(thread, seq))),
-        ["complete", thread, seq, end] => Some(complete(request(thread, seq), end)),
-        ["refuse"] => Some(REFUSAL),
-        ["destruct", "untold"] => Some(destruct(None)),
-        ["destruct", byte] => Some(destruct(byte.parse().ok().map(|byte| [byte; 32]))),
+        ["accepted", thread, seq] => Some(Outcome::Accepted(request(thread, seq))),
+        ["refused"] => Some(Outcome::Errno(Errno::BadDesc)),
+        ["done"] => Some(Outcome::Done),
         _ => None,
     }
+}
+
+// A digest of one byte, again and again; none for a word that is no byte.
+fn digest(byte: &str) -> Option<[u8; 32]> {
+    let byte: u8 = byte.parse().ok()?;
+    Some([byte; 32])
 }
 
 // A write of the first eight blocks is refused.
@@ -58,25 +81,6 @@ fn request(thread: &str, seq: &str) -> ReqId {
     }
 }
 
-fn script(line: &str, outcome: Outcome) -> Act {
-    Act::Script {
-        line: small(line),
-        outcome,
-    }
-}
-
-// A read of the first eight blocks is accepted.
-fn accept(req: ReqId) -> Act {
-    Act::Accept {
-        req,
-        dev: DevId(0),
-        handle: HandleId(0),
-        op: Op::Read,
-        lba: 0,
-        count: 8,
-    }
-}
-
 // A request ends with a status by its word; `shown` ends it well, with data to be shown.
 fn complete(req: ReqId, end: &str) -> Act {
     let (status, shown) = match end {
@@ -92,10 +96,3 @@ const SHOWN: Shown = Shown {
     first: [0, 1, 2, 3, 4, 5, 6, 7],
     digest: [0xab; 32],
 };
-
-fn destruct(digest: Option<[u8; 32]>) -> Act {
-    Act::Destruct {
-        dev: DevId(0),
-        digest,
-    }
-}
