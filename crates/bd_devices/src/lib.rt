@@ -5,7 +5,5 @@
 mod devices;
 mod names;
 mod refusals;
-#[cfg(test)]
-mod tests;
 
 pub use devices::{Devices, RegisterNo};

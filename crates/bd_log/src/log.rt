@@ -170,25 +170,3 @@ impl Log {
         LogPart::of(thread, entries)
     }
 }
-
-#[cfg(test)]
-mod tests {
-    use super::*;
-
-    #[test]
-    fn stamps_are_above_all_pushed_and_met(rt: HostRuntime) {
-        let mut log = Log::new(rt.alloc(), ThreadId(2));
-        assert!(rt; log.reserve(2).is_ok());
-        assert!(rt; log.push(Act::Shutdown) == Ok(1));
-        log.meet(6);
-        assert!(rt; log.push(Act::Shutdown) == Ok(7));
-        log.meet(3);
-        assert!(rt; log.last() == 7 && log.entries().len() == 2);
-        assert!(rt; log.hand_out().len() == 2);
-        assert!(rt; log.push(Act::Shutdown) == Ok(8));
-
-        log.meet(u128::MAX);
-        assert!(rt; log.push(Act::Shutdown) == Err(LogNo::StampsSpent(u128::MAX)));
-        assert!(rt; log.into_part().len() == 1);
-    }
-}

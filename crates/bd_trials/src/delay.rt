@@ -1,37 +1,53 @@
-//! Delays by hand.
-use bd_base::{ReqId, Way};
+//! Delays: the latencies that a channel gives its reads (`r`) and writes (`w`), and requests that are
+//! held until a moment.
+use crate::steps::{Subject, said, told};
+use crate::words::{first_word, number, request};
+use bd_base::{OutOfMemory, Way};
 use bd_delay::{DelayChannel, Held};
-use std::test::Fail;
+use std::alloc::Global;
 
-#[test]
-fn each_hundredth_of_a_way_waits_the_p99(rt: HostRuntime) {
-    let mut channel = DelayChannel::new(10, 500, 20, 900);
-    // A write in between isn't counted among the reads.
-    assert_eq!(rt; channel.next(Way::Write), 20);
-    for n in 1..=200u64 {
-        let wanted = if n == 100 || n == 200 { 500 } else { 10 };
-        assert_eq!(rt; channel.next(Way::Read), wanted, "read {n}");
-    }
-    for n in 2..=100u64 {
-        let wanted = if n == 100 { 900 } else { 20 };
-        assert_eq!(rt; channel.next(Way::Write), wanted, "write {n}");
+pub(crate) fn answer(alloc: Global, case: &str) -> Result<String, OutOfMemory> {
+    let (form, rest) = first_word(case);
+    match form {
+        "held" => told(alloc, &mut Held::new(alloc), rest),
+        "channel" => latencies(alloc, rest),
+        _ => said(alloc, "no such step"),
     }
 }
 
-#[test]
-fn holds_end_by_moment_and_then_by_request(rt: HostRuntime) -> Result<(), Fail> {
-    let mut held = Held::new(rt.alloc());
-    held.reserve(4)?;
-    held.hold(ReqId { thread: 0, seq: 7 }, 30);
-    held.hold(ReqId { thread: 0, seq: 5 }, 20);
-    held.hold(ReqId { thread: 0, seq: 4 }, 30);
-    held.hold(ReqId { thread: 0, seq: 6 }, 10);
-    assert!(rt; held.due(9).is_none());
-    assert!(rt; held.stop(ReqId { thread: 0, seq: 5 }));
-    assert!(rt; !held.stop(ReqId { thread: 0, seq: 5 }));
-    for seq in [6, 4, 7] {
-        assert_eq!(rt; held.due(30), Some(ReqId { thread: 0, seq }));
+// The latencies of these ways, of a channel whose reads wait 10 or 500 and whose writes 20 or 900.
+fn latencies(alloc: Global, ways: &str) -> Result<String, OutOfMemory> {
+    let mut channel = DelayChannel::new(10, 500, 20, 900);
+    let mut latencies = String::from_str(alloc, "latencies")?;
+    for letter in ways.bytes() {
+        let way = if letter == b'r' {
+            Way::Read
+        } else {
+            Way::Write
+        };
+        let latency = channel.next(way);
+        write!(latencies, " {latency}")?;
     }
-    assert!(rt; held.due(u64::MAX).is_none());
-    Ok(())
+    Ok(latencies)
+}
+
+impl Subject for Held {
+    fn step(&mut self, alloc: Global, words: &[&str]) -> Result<String, OutOfMemory> {
+        match words {
+            ["hold", seq, until] => {
+                self.reserve(1)?;
+                self.hold(request(seq), number(until));
+                said(alloc, "done")
+            }
+            ["due", now] => {
+                let due = self.due(number(now));
+                Ok(format!(in alloc; "{due:?}")?)
+            },
+            ["stop", seq] => {
+                let stopped = self.stop(request(seq));
+                Ok(format!(in alloc; "{stopped}")?)
+            }
+            _ => said(alloc, "no such step"),
+        }
+    }
 }

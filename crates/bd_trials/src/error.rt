@@ -1,8 +1,11 @@
-//! Injected errors by hand.
-use bd_base::{Decision, ErrKind, Injection, Injections, IoSet, Op};
+//! Injected errors: they are set for types of request, and each request takes what is left for its.
+use crate::steps::{Subject, said};
+use crate::words::{op, small};
+use bd_base::{ErrKind, Injection, Injections, IoSet, OutOfMemory};
 use bd_error::InjectionCalls;
+use std::alloc::Global;
 
-fn none_left() -> Injections {
+pub(crate) fn none_left() -> Injections {
     let none = Injection {
         kind: ErrKind::Failure,
         left: 0,
@@ -16,38 +19,44 @@ fn none_left() -> Injections {
     }
 }
 
-#[test]
-fn requests_take_what_is_set_for_their_type(rt: HostRuntime) {
-    let mut injections = none_left();
-    let mut io = IoSet {
-        read: true,
-        write: false,
-        zeroes: false,
-        unmap: false,
-        flush: true,
-    };
-    assert_eq!(rt; injections.take(&Op::Read), Decision::Pass);
-    // Two for reads and two for flushes: 2, 1, 0, and then nothing.
-    injections.set(io, ErrKind::Pending, 2);
-    for row in &[
-        (Op::Read, Decision::Pend),
-        (Op::Unmap, Decision::Pass),
-        (Op::Read, Decision::Pend),
-        (Op::Read, Decision::Pass),
-        (Op::Reset, Decision::Pass),
-        (Op::Flush, Decision::Pend),
-    ] {
-        let (op, decision) = *row;
-        assert_eq!(rt; injections.take(&op), decision);
+// Types of request by their letters.
+fn types(letters: &str) -> IoSet {
+    IoSet {
+        read: letters.contains('r'),
+        write: letters.contains('w'),
+        zeroes: letters.contains('z'),
+        unmap: letters.contains('u'),
+        flush: letters.contains('f'),
     }
-    // A flush has no data: the corruption stays for reads. The one pending flush is replaced.
-    injections.set(io, ErrKind::Corrupt, 1);
-    assert_eq!(rt; injections.take(&Op::Flush), Decision::Pass);
-    assert_eq!(rt; injections.flush.left, 1);
-    assert_eq!(rt; injections.take(&Op::Read), Decision::Corrupt);
-    io.read = false;
-    io.unmap = true;
-    injections.set(io, ErrKind::Failure, 1);
-    assert_eq!(rt; injections.take(&Op::Unmap), Decision::Fail);
-    assert_eq!(rt; injections.unmap.left, 0);
+}
+
+fn kind(word: &str) -> ErrKind {
+    match word {
+        "pending" => ErrKind::Pending,
+        "corrupt" => ErrKind::Corrupt,
+        _ => ErrKind::Failure,
+    }
+}
+
+impl Subject for Injections {
+    fn step(&mut self, alloc: Global, words: &[&str]) -> Result<String, OutOfMemory> {
+        match words {
+            ["set", letters, word, count] => {
+                self.set(types(letters), kind(word), small(count));
+                said(alloc, "done")
+            }
+            ["left"] => {
+                let (read, unmap, flush) = (self.read.left, self.unmap.left, self.flush.left);
+                Ok(format!(in alloc; "r {read} u {unmap} f {flush}")?)
+            }
+            [word] => match op(word) {
+                Some(op) => {
+                    let decision = self.take(&op);
+                    Ok(format!(in alloc; "{decision:?}")?)
+                }
+                None => said(alloc, "no such step"),
+            },
+            _ => said(alloc, "no such step"),
+        }
+    }
 }

@@ -1,247 +1,110 @@
-//! What a line waits for.
-use bd_base::{ClaimKind, Fill, Job, Line, Name, NameList, Op, Rows, View};
-use bd_user::{Move, User, Why};
+//! What lines wait for. A case has the lines of a script, which commas part, and after a colon what
+//! the thread sees; the answer has the moves, up to the first that waits.
+use crate::words::{first_word, number, op, small};
+use bd_base::{ClaimKind, Job, Line, Name, NameList, OutOfMemory, Rows, View};
+use bd_user::{Move, User};
 use std::alloc::Global;
-use std::test::Fail;
 
-// What a thread sees, in so far as a move goes by it.
-#[derive(Clone, Copy, Debug)]
-struct Seen {
-    now: u64,
-    met: u64,
-    requests: u32,
-    taken: bool,
-    bound: bool,
-    gone: bool,
-}
-
-// No moment passed, nothing is open or bound, and nothing came.
-const NOTHING: Seen = Seen {
-    now: 0,
-    met: 0,
-    requests: 0,
-    taken: false,
-    bound: false,
-    gone: false,
-};
-
-// The name alone, or no name.
-fn names(alloc: Global, is_there: bool, name: &[u8]) -> Result<NameList, Fail> {
-    let mut names = NameList::new(alloc);
-    names.push(Name::from_slice(alloc, b"other")?)?;
-    if is_there {
-        names.push(Name::from_slice(alloc, name)?)?;
+pub(crate) fn answer(alloc: Global, case: &str) -> Result<String, OutOfMemory> {
+    let (script, seen) = case.split_once(": ").unwrap_or((case, ""));
+    let mut lines = Rows::new(alloc);
+    for line in script.split(", ") {
+        let job = job(alloc, line)?;
+        lines.push(Line { number: 7, job })?;
     }
-    Ok(names)
+    moves(alloc, lines.as_slice(), &view(alloc, seen)?)
 }
 
-fn view_of(alloc: Global, seen: &Seen) -> Result<View, Fail> {
-    Ok(View {
-        now: seen.now,
-        met: seen.met,
-        requests: seen.requests,
-        marks: names(alloc, seen.taken, b"mark")?,
-        gone: names(alloc, seen.gone, b"h")?,
-        bound: names(alloc, seen.bound, b"h")?,
-    })
-}
-
-fn name(alloc: Global, text: &[u8]) -> Result<Name, Fail> {
-    Ok(Name::from_slice(alloc, text)?)
-}
-
-// A line, by what a move goes by.
-#[derive(Clone, Copy, Debug)]
-enum Word {
-    Submit(Op),
-    Wait,
-    Sleep(u64),
-    Await,
-    Gone,
-    Open,
-    Close,
-    Claim,
-    Remove,
-    Post,
-}
-
-fn job(alloc: Global, word: Word) -> Result<Job, Fail> {
-    let handle = name(alloc, b"h")?;
+// The command of a line, of which a submission is of block 0 on the handle `h`.
+fn job(alloc: Global, line: &str) -> Result<Job, OutOfMemory> {
+    let (word, rest) = first_word(line);
+    let handle = Name::from_slice(alloc, b"h")?;
     Ok(match word {
-        Word::Submit(op) => Job::Submit {
-            handle,
-            op,
-            lba: 0,
-            count: 1,
-        },
-        Word::Wait => Job::Wait,
-        Word::Sleep(micros) => Job::Sleep(micros),
-        Word::Await => Job::Await(name(alloc, b"mark")?),
-        Word::Gone => Job::Gone { handle },
-        Word::Open => Job::Open {
-            handle,
-            dev: name(alloc, b"Malloc0")?,
-            write: true,
-        },
-        Word::Close => Job::Close { handle },
-        Word::Claim => Job::Claim {
+        "wait" => Job::Wait,
+        "sleep" => Job::Sleep(number(rest)),
+        "await" => Job::Await(Name::from_slice(alloc, b"mark")?),
+        "gone" => Job::Gone { handle },
+        "close" => Job::Close { handle },
+        "claim" => Job::Claim {
             handle,
             kind: ClaimKind::Exclusive,
         },
-        Word::Remove => Job::Remove {
-            dev: name(alloc, b"Malloc0")?,
+        "remove" => Job::Remove {
+            dev: Name::from_slice(alloc, b"Malloc0")?,
         },
-        Word::Post => Job::Post(name(alloc, b"mark")?),
+        "post" => Job::Post(Name::from_slice(alloc, b"mark")?),
+        _ => match op(word) {
+            Some(op) => Job::Submit {
+                handle,
+                op,
+                lba: 0,
+                count: 1,
+            },
+            None => Job::Open {
+                handle,
+                dev: Name::from_slice(alloc, b"Malloc0")?,
+                write: true,
+            },
+        },
     })
 }
 
-const WRITE: Op = Op::Write(Fill {
-    seed: 5,
-    flip: false,
-});
-
-const TAKEN: Seen = Seen {
-    taken: true,
-    ..NOTHING
-};
-
-const BOUND: Seen = Seen {
-    bound: true,
-    ..NOTHING
-};
-
-const GONE: Seen = Seen {
-    gone: true,
-    ..BOUND
-};
-
-// 1,024 requests are open, and a bound handle is there.
-const BUSY: Seen = Seen {
-    requests: 1024,
-    ..BOUND
-};
-
-const ONE_OPEN: Seen = Seen {
-    requests: 1,
-    ..NOTHING
-};
-
-const ROOM_FOR_ONE: Seen = Seen {
-    requests: 1023,
-    ..NOTHING
-};
-
-const FULL: Seen = Seen {
-    requests: 1024,
-    ..NOTHING
-};
-
-// The one line of a script, what the thread sees, and what the line waits for; None where it is
-// done.
-const ROWS: [(Word, Seen, Option<Why>); 23] = [
-    // a submission waits for room
-    (Word::Submit(WRITE), NOTHING, None),
-    (Word::Submit(WRITE), ROOM_FOR_ONE, None),
-    (Word::Submit(WRITE), FULL, Some(Why::Room)),
-    (Word::Submit(Op::Read), ROOM_FOR_ONE, None),
-    (Word::Submit(Op::Read), BUSY, Some(Why::Room)),
-    (Word::Submit(Op::Zeroes), BUSY, Some(Why::Room)),
-    (Word::Submit(Op::Flush), BUSY, Some(Why::Room)),
-    (Word::Submit(Op::Reset), BUSY, Some(Why::Room)),
-    (Word::Submit(Op::Abort(3)), BUSY, Some(Why::Room)),
-    // a wait waits for each request
-    (Word::Wait, NOTHING, None),
-    (Word::Wait, ONE_OPEN, Some(Why::Requests)),
-    (Word::Wait, FULL, Some(Why::Requests)),
-    // an await waits for its mark
-    (Word::Await, NOTHING, Some(Why::Mark)),
-    (Word::Await, TAKEN, None),
-    // a gone waits on a bound name alone
-    (Word::Gone, NOTHING, None),
-    (Word::Gone, BOUND, Some(Why::Gone)),
-    (Word::Gone, GONE, None),
-    // other lines never wait
-    (Word::Open, BUSY, None),
-    (Word::Close, BUSY, None),
-    (Word::Claim, BUSY, None),
-    (Word::Remove, BUSY, None),
-    (Word::Post, BUSY, None),
-    (Word::Post, NOTHING, None),
-];
-
-// A sleep, the moment, the one at which the line was met, and whether it waits. The last moment
-// ends every sleep.
-const SLEEPS: [(u64, u64, u64, bool); 7] = [
-    (50, 100, 100, true),
-    (50, 149, 100, true),
-    (50, 150, 100, false),
-    (50, 151, 100, false),
-    (0, 9, 9, false),
-    (u64::MAX, u64::MAX - 1, 5, true),
-    (u64::MAX, u64::MAX, 5, false),
-];
-
-// What a script of this one line waits for; None where the line is done.
-fn waits_for(alloc: Global, word: Word, seen: &Seen) -> Result<Option<Why>, Fail> {
-    let mut lines = Rows::new(alloc);
-    lines.push(Line {
-        number: 7,
-        job: job(alloc, word)?,
-    })?;
-    let view = view_of(alloc, seen)?;
-    match User::new(lines.as_slice()).next(&view) {
-        Move::Do(_) => Ok(None),
-        Move::Blocked(why) => Ok(Some(why)),
-        Move::End => Err(Fail::from("a script of one line is at its end")),
+// What a thread sees, by its words: the moment, the one at which the line was met, how many requests
+// are open, and whether the mark was taken, the handle is bound, and its device is gone.
+fn view(alloc: Global, seen: &str) -> Result<View, OutOfMemory> {
+    let mut view = View {
+        now: 0,
+        met: 0,
+        requests: 0,
+        marks: other(alloc)?,
+        gone: other(alloc)?,
+        bound: other(alloc)?,
+    };
+    for part in seen.split(", ") {
+        let (word, rest) = first_word(part);
+        match word {
+            "now" => view.now = number(rest),
+            "met" => view.met = number(rest),
+            "requests" => view.requests = small(rest),
+            "taken" => view.marks.push(Name::from_slice(alloc, b"mark")?)?,
+            "bound" => view.bound.push(Name::from_slice(alloc, b"h")?)?,
+            "gone" => view.gone.push(Name::from_slice(alloc, b"h")?)?,
+            _ => (),
+        }
     }
+    Ok(view)
 }
 
-#[test]
-fn lines_wait_for_what_they_need(rt: HostRuntime) -> Result<(), Fail> {
-    for row in &ROWS {
-        let (word, seen, expected) = *row;
-        let found = waits_for(rt.alloc(), word, &seen)?;
-        assert!(rt; found == expected, "{word:?}: {seen:?}");
-    }
-    Ok(())
+// A list of a name that no line has.
+fn other(alloc: Global) -> Result<NameList, OutOfMemory> {
+    let mut names = NameList::new(alloc);
+    names.push(Name::from_slice(alloc, b"other")?)?;
+    Ok(names)
 }
 
-#[test]
-fn a_sleep_counts_from_the_first_look(rt: HostRuntime) -> Result<(), Fail> {
-    for row in &SLEEPS {
-        let (micros, now, met, waits) = *row;
-        let seen = Seen {
-            now,
-            met,
-            ..NOTHING
-        };
-        let found = waits_for(rt.alloc(), Word::Sleep(micros), &seen)?;
-        assert!(rt; found == waits.then_some(Why::Time), "{micros}: {seen:?}");
-    }
-    Ok(())
-}
-
-// post, wait, close: each is done, in order, and then the script is at its end and stays there.
-#[test]
-fn lines_in_order(rt: HostRuntime) -> Result<(), Fail> {
-    let alloc = rt.alloc();
-    let mut lines = Rows::new(alloc);
-    for (number, word) in [(1, Word::Post), (2, Word::Wait), (4, Word::Close)] {
-        let job = job(alloc, word)?;
-        lines.push(Line { number, job })?;
-    }
-    let view = view_of(alloc, &NOTHING)?;
-    let mut user = User::new(lines.as_slice());
-    for expected in ["post", "wait", "close"] {
-        match user.next(&view) {
-            Move::Do(job) => assert!(rt; job.word() == expected),
-            Move::Blocked(_) | Move::End => assert!(rt; false, "{expected}"),
+// The moves of these lines, up to the first that waits, and two after the last line.
+fn moves(alloc: Global, lines: &[Line], view: &View) -> Result<String, OutOfMemory> {
+    let mut user = User::new(lines);
+    let mut told = String::from_str(alloc, "moves")?;
+    for _ in lines {
+        match user.next(view) {
+            Move::Do(job) => write!(told, " {}", job.word())?,
+            Move::Blocked(why) => {
+                write!(told, " blocked by {why:?}")?;
+                return Ok(told);
+            }
+            Move::End => told.push_str(" end too soon")?,
         }
         user.did();
     }
     for _ in 0..2 {
-        assert!(rt; matches!(user.next(&view), Move::End));
+        let end = if matches!(user.next(view), Move::End) {
+            "end"
+        } else {
+            "more"
+        };
+        write!(told, " {end}")?;
         user.did();
     }
-    Ok(())
+    Ok(told)
 }
