@@ -24,7 +24,7 @@ WRITERS = ("write", "zeroes", "unmap")
 REQUESTS = ("read", "write", "zeroes", "unmap", "flush")
 # Whether the end of a run removes the device where no script did: then each handle that is left open gets its remove event
 # there, and its `gone` line.
-END_REMOVES = False
+END_REMOVES = True
 
 
 # ---- what is read
