@@ -22,9 +22,6 @@ MOST_OPEN = 1024
 MOST_WAYS = 64
 WRITERS = ("write", "zeroes", "unmap")
 REQUESTS = ("read", "write", "zeroes", "unmap", "flush")
-# Whether the end of a run removes the device where no script did: then each handle that is left open gets its remove event
-# there, and its `gone` line.
-END_REMOVES = True
 
 
 # ---- what is read
@@ -568,10 +565,9 @@ class Check:
     # ---- the lines after the jobs
 
     def check_gone_lines(self):
-        """A handle was told exactly if it was opened and its script didn't close it, where a removal began."""
+        """A handle was told exactly if it was opened and its script didn't close it: the end of a run removes the device where no
+        script did."""
         told = [handle for handle in self.opened if not hasattr(handle, "closed")]
-        if self.removal is None and not END_REMOVES:
-            told = []
         told.sort(key=lambda handle: (handle.line.thread, handle.line.place))
         expected = ["gone %d %s %s" % (handle.line.thread, handle.line.words[0], self.name) for handle in told]
         if self.gone_lines != expected:

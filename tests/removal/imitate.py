@@ -42,9 +42,9 @@ class Thread:
 
 
 class Imitation:
-    def __init__(self, text, threads, name, blocks, size, seed, end_removes=False):
+    def __init__(self, text, threads, name, blocks, size, seed):
         self.random = random.Random(seed)
-        self.name, self.blocks, self.size, self.end_removes = name, blocks, size, end_removes
+        self.name, self.blocks, self.size = name, blocks, size
         self.threads = [Thread() for _ in range(threads)]
         self.results, self.jobs = {}, []
         for number, line in enumerate(text.split("\n"), 1):
@@ -112,10 +112,7 @@ class Imitation:
                     return self.report()
                 self.shut = True
                 if self.standing == "live":
-                    if self.end_removes:
-                        self.begin_removal(0)
-                    else:
-                        self.digest = hashlib.sha256(b"".join(self.content)).hexdigest()
+                    self.begin_removal(0)
 
     # ---- messages
 
@@ -379,5 +376,5 @@ class Imitation:
         return "\n".join(out) + "\n"
 
 
-def report(text, threads, name, blocks, size, seed, end_removes=False):
-    return Imitation(text, threads, name, blocks, size, seed, end_removes).play()
+def report(text, threads, name, blocks, size, seed):
+    return Imitation(text, threads, name, blocks, size, seed).play()

@@ -92,13 +92,13 @@ rests_of t links h =
 -- a handle whose remove event was taken is a base handle, or isn't open
 gone_settled : (t : Thread) (links : Links) (id : HandleId) (gone : List HandleId) → list_all (is_settled t links) gone ≡ true → list_any (same_handle id) gone ≡ true → is_settled t links id ≡ true
 gone_settled t links id [] all h = cc
-gone_settled t links id (g ∷ gs) all h = go (same_handle id g) refl h
+gone_settled t links id (g ∷ gs) all h =
+    let parts = and_parts (is_settled t links g) (list_all (is_settled t links) gs) all in
+    go (same_handle id g) refl parts.0 h (gone_settled t links id gs parts.1)
   where
-    parts = and_parts (is_settled t links g) (list_all (is_settled t links) gs) all
-
-    go : (b : Bool) → same_handle id g ≡ b → b || list_any (same_handle id) gs ≡ true → is_settled t links id ≡ true
-    go true e k = ap (λ (n : ℕ). is_settled t links (record { 0 = n })) (eqb-true id.0 g.0 e) ∙ parts.0
-    go false e k = gone_settled t links id gs parts.1 k
+    go : (b : Bool) → same_handle id g ≡ b → is_settled t links g ≡ true → b || list_any (same_handle id) gs ≡ true → (list_any (same_handle id) gs ≡ true → is_settled t links id ≡ true) → is_settled t links id ≡ true
+    go true e k any rest = ap (λ (n : ℕ). is_settled t links (record { 0 = n })) (eqb-true id.0 g.0 e) ∙ k
+    go false e k any rest = rest any
 
 -- where each of these is open by its number, none is left open
 none_left_open : (t : Thread) (links : Links) (setup : Setup) → setup_of t ≡ setup → list_all (is_settled t links) t.part.gone ≡ true → (hs : List Handle)

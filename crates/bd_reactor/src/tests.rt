@@ -236,8 +236,11 @@ fn history_by(alloc: Global, setup: &Setup, order: &[u32]) -> Result<Option<Hist
     requires { 0 < setup.now.threads }
 {
     let mut node = Node::build(alloc, setup, 0)?;
-    let played = play_by(&mut node, order);
-    if played.is_err() || node.state() != NodeState::Done {
+    let Ok(()) = play_by(&mut node, order) else {
+        node.abandon();
+        return Ok(None);
+    };
+    if node.state() != NodeState::Done {
         node.abandon();
         return Ok(None);
     }
