@@ -64,10 +64,10 @@ fn log_of(alloc: Global, thread: u32, met: [u128; 2]) -> Result<Log, OutOfMemory
     ensures { IfOk result (λ log. log.thread ≡ thread) }
 {
     let mut log = Log::new(alloc, ThreadId(thread));
-    for stamp in met {
-        log.meet(stamp);
-        push(&mut log)?;
-    }
+    log.meet(met[0]);
+    push(&mut log)?;
+    log.meet(met[1]);
+    push(&mut log)?;
     Ok(log)
 }
 

@@ -47,10 +47,11 @@ impl Subject for Limits {
                 Ok(format!(in alloc; "{may}")?)
             }
             ["charge", way, bytes] => {
-                if !self.may(way_of(way), number(bytes)) {
+                let (way, bytes) = (way_of(way), number(bytes));
+                if !self.may(way, bytes) {
                     return said(alloc, "not charged");
                 }
-                self.charge(way_of(way), number(bytes));
+                self.charge(way, bytes);
                 said(alloc, "done")
             }
             ["tick", now] => {

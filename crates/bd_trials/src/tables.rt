@@ -28,10 +28,11 @@ fn place(word: &str) -> Place {
 }
 
 fn park(alloc: Global, tables: &mut Tables, seq: &str, word: &str) -> Result<String, OutOfMemory> {
-    if tables.keeps(request(seq)) || !tables.has_room() {
+    let request = read(seq);
+    if tables.keeps(request.id) || !tables.has_room() {
         return said(alloc, "not parked");
     }
-    tables.park(read(seq), place(word));
+    tables.park(request, place(word));
     said(alloc, "done")
 }
 

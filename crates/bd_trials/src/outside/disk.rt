@@ -1,8 +1,9 @@
 //! Disks in memory.
 use crate::outside::two_files;
+use crate::steps::said;
 use crate::words::escaped;
 use bd_base::{Bytes, OutOfMemory};
-use bd_outside::{Disk, Host, MemDisk, MemHost, Opening};
+use bd_outside::{Disk, Host, MemDisk, Opening};
 use std::alloc::Global;
 
 // A disk whose last block isn't whole: its middle block is written, and it and the next are read.
@@ -25,21 +26,14 @@ pub(crate) fn written(alloc: Global) -> Result<String, OutOfMemory> {
 // for another, and no file of another name.
 pub(crate) fn opened(alloc: Global) -> Result<String, OutOfMemory> {
     let mut host = two_files(alloc, 1, &[])?;
-    let did = match host.open_disk("b", 4) {
-        Ok(disk) => close_written(&mut host, disk),
-        Err(_) => false,
+    let Ok(mut disk) = host.open_disk("b", 4) else {
+        return said(alloc, "no disk");
     };
+    let did = disk.blocks() == 2 && disk.write(0, b"AAAA").is_ok() && disk.flush().is_ok();
+    host.close_disk("b", disk);
     let rows = rows(alloc, host.openings())?;
     let (again, other) = (host.open_disk("b", 4).err(), host.open_disk("c", 4).err());
     Ok(format!(in alloc; "{did}; {rows}; {again:?}, {other:?}")?)
-}
-
-// Writes the first block of a disk of `b`, flushes and closes it.
-fn close_written(host: &mut MemHost, disk: MemDisk) -> bool {
-    let mut disk = disk;
-    let did = disk.blocks() == 2 && disk.write(0, b"AAAA").is_ok() && disk.flush().is_ok();
-    host.close_disk("b", disk);
-    did
 }
 
 // The rows of closed disks.
