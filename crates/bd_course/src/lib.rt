@@ -11,6 +11,4 @@ pub use aborts::{aborted, refused_abort};
 pub use bd_delay::counted;
 pub use delays::{held, refused_hold, refused_release, released};
 pub use injections::{asked_once_more, injected, pended, refused_inject, refused_pend};
-pub use limits::{
-    charge, depart, passed, refused_let, refused_tick, seen_at, tick, waiting_for,
-};
+pub use limits::{charge, depart, passed, refused_let, refused_tick, seen_at, tick, waiting_for};

@@ -1,5 +1,5 @@
 //! A thread that holds what it sees, by hand: what the guards of acts that no thread makes yet refuse,
-//! and let pass.
+//! and let pass; which request a mark stops first, and what a drain waits for.
 ghost use Rattle.std.specs.Prelude.{filter};
 ghost use Rattle.bd_machine.specs.Registry.{references};
 ghost use Rattle.bd_machine.specs.Same.{same_id};
@@ -20,11 +20,13 @@ use bd_machine::guard::{
     ABORT_CAUSE, DRAINED, FIRST_IN_LINE, HOLD_OVER, INJECTION_TAKEN, MAY_ABORT, MAY_HOLD, MAY_PEND,
     NEXT_VISIT, TICK_DUE, WITHIN_LIMITS,
 };
-use bd_machine::{Handle, Id, Kept, Open, OpenWalk, Part, Registry, Trip};
+use bd_machine::{Handle, Id, Kept, Marking, Open, OpenWalk, Part, Registry, Trip};
+use bd_reset::{first_in_line, first_waiting, may_leave};
 use bd_rules::new_request;
 use bd_view::{Sees, Submission, look_up, own_handle};
 use bd_walks::refused_visit;
 use std::alloc::Global;
+use std::test::Fail;
 
 const DEV: DevId = DevId(0);
 
@@ -247,4 +249,57 @@ fn guards_of_acts_that_no_thread_makes(rt: HostRuntime) {
         let refused = answer(alloc, case, deed);
         assert!(rt; refused == Ok(guard), "{guard:?}");
     }
+}
+
+// The thread in this case, with a freeze mark of its device or without one.
+fn marked(alloc: Global, setup: &Setup, case: Case, frozen: bool) -> Result<Holder, OutOfMemory> {
+    let mut part = part(alloc, setup, case)?;
+    let marking = Marking {
+        frozen,
+        removed: false,
+        times: 1,
+    };
+    part.marked.push((DEV, marking))?;
+    Ok(Holder {
+        part,
+        held: held(alloc, case)?,
+        registry: registry_at_start(alloc, setup)?,
+    })
+}
+
+// In this case, with a freeze mark or without one: which request of the thread the freeze mark stops
+// first, which of those that wait for the limits, and whether a drain may leave.
+const MARKED: [(Case, bool, Option<ReqId>, Option<ReqId>, bool); 4] = [
+    (OPEN, true, Some(REQ), None, false),
+    (OPEN, false, None, None, false),
+    (WAITING, true, Some(REQ), Some(REQ), false),
+    // the thread has no open request, and one waits here
+    (
+        Case {
+            open: false,
+            ..WAITING
+        },
+        true,
+        None,
+        Some(REQ),
+        true,
+    ),
+];
+
+#[test]
+fn what_a_mark_stops_and_a_drain_waits_for(rt: HostRuntime) -> Result<(), Fail> {
+    let alloc = rt.alloc();
+    let setup = one_device(alloc, 1, Some(RATES))?;
+    for row in &MARKED {
+        let (case, frozen, first, in_line, leaves) = *row;
+        let seen = marked(alloc, &setup, case, frozen)?;
+        let cause = AbortCause::Frozen(DEV);
+        assert!(rt; first_waiting(&seen, &setup, cause) == first);
+        assert!(rt; first_in_line(&seen, &setup, DEV, cause) == in_line);
+        assert!(rt; may_leave(&seen, &setup, DEV) == leaves);
+        // no removal mark stands
+        let removed = AbortCause::Removed(DEV);
+        assert!(rt; first_waiting(&seen, &setup, removed).is_none());
+    }
+    Ok(())
 }

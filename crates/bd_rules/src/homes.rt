@@ -145,13 +145,7 @@ pub fn is_told<S: Sees>(seen: &S, dev: DevId) -> bool
 /// Whether the thread may destruct a device: it is the device's home, it was told to and didn't yet,
 /// and the device is free (it is being removed, with neither handle nor channel), which the thread
 /// doesn't see.
-pub fn may_destruct<S: Sees>(
-    seen: &S,
-    setup: &Setup,
-    thread: u32,
-    free: bool,
-    dev: DevId,
-) -> bool
+pub fn may_destruct<S: Sees>(seen: &S, setup: &Setup, thread: u32, free: bool, dev: DevId) -> bool
     ensures { result ≡ may_destruct setup.now thread (S.view_of seen.now) (came_free free) dev }
 {
     let is_called_for = is_told(seen, dev) && free;

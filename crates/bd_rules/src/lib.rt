@@ -20,8 +20,8 @@ pub use completion::{
 };
 pub use delays::{is_delay_left, is_delayed};
 pub use homes::{
-    base_here, has_destructed, is_digest_due, is_told, may_apply, may_destruct, may_end,
-    may_hold, may_refuse,
+    base_here, has_destructed, is_digest_due, is_told, may_apply, may_destruct, may_end, may_hold,
+    may_refuse,
 };
 pub use injections::{asks_injection, has_every_decision, is_at_own, is_fail, is_under_way};
 pub use kept::{new_request, piece_here, request_here, walk_here};

@@ -11,7 +11,7 @@ use Rattle.bd_machine.specs.declared.state.Owed.{Owed}
 use Rattle.bd_machine.specs.declared.state.Owed.TheVariants as owes
 use Rattle.bd_machine.specs.Admission.{is_gone}
 use Rattle.bd_machine.specs.BlockMap.{is_malloc, row_of}
-use Rattle.bd_machine.specs.Homes.{has_destructed, is_base, is_called_for, is_home, is_told}
+use Rattle.bd_machine.specs.Homes.{has_destructed, is_base, is_called_for, is_home}
 use Rattle.bd_machine.specs.Registry.{is_live, is_on}
 use Rattle.bd_machine.specs.Same.{same_handle, same_owed}
 use Rattle.bd_machine.specs.View.{View}

@@ -26,24 +26,18 @@ use Rattle.bd_base.specs.declared.setup.Setup.{Setup}
 use Rattle.bd_base.specs.declared.thread_set.ThreadSet.{ThreadSet}
 use Rattle.bd_machine.specs.declared.state.Between.{Between}
 use Rattle.bd_machine.specs.declared.state.Between.TheVariants.{Opening, Closing}
-use Rattle.bd_machine.specs.declared.state.Due.{Due}
 use Rattle.bd_machine.specs.declared.state.Handle.{Handle}
 use Rattle.bd_machine.specs.declared.state.Id.{Id}
 use Rattle.bd_machine.specs.declared.state.Kept.{Kept}
-use Rattle.bd_machine.specs.declared.state.Owed.TheVariants as owes
 use Rattle.bd_machine.specs.declared.state.Part.{Part}
 use Rattle.bd_machine.specs.declared.state.Registry.{Registry}
-use Rattle.bd_machine.specs.Admission.{is_gone}
 use Rattle.bd_machine.specs.Alone.{held_after}
 use Rattle.bd_machine.specs.Asked.{asks_between, asks_event, bound_to}
-use Rattle.bd_machine.specs.BlockMap.{below}
-use Rattle.bd_machine.specs.Changes.{between_after, is_dropped, registry_after}
-use Rattle.bd_machine.specs.Events.{all_born, born, change_reg, channel_due, closed_by, decided_by, destruct_of, device_due, dropped_by, got_by, paid, put_down_by, put_paid, with_due}
+use Rattle.bd_machine.specs.Changes.{between_after, registry_after}
+use Rattle.bd_machine.specs.Events.{change_reg}
 use Rattle.bd_machine.specs.Guards.{is_built_event, taken_injection}
-use Rattle.bd_machine.specs.Marks.{frozen_as, remarked}
-use Rattle.bd_machine.specs.Registry.{answer_to, made}
+use Rattle.bd_machine.specs.Registry.{answer_to}
 use Rattle.bd_machine.specs.Same.{same_answer, same_dev, same_dropped, same_decision, same_holder, same_if_any, same_next_reset}
-use Rattle.bd_machine.specs.Users.{is_base_handle}
 use Rattle.bd_machine.specs.View.{Came, Change, Move, View}
 use Rattle.bd_machine.proofs.Parts.{Core, reg_grows}
 use Rattle.bd_view.specs.Came.{came_between, came_shut}

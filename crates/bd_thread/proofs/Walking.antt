@@ -15,7 +15,7 @@ use Rattle.bd_machine.specs.declared.state.Registry.{Registry}
 use Rattle.bd_machine.specs.Alone.{held_after}
 use Rattle.bd_machine.specs.Kept.{walk_here}
 use Rattle.bd_machine.specs.Step.{first_failing}
-use Rattle.bd_machine.specs.View.{Change, Move, View}
+use Rattle.bd_machine.specs.View.{View}
 use Rattle.bd_machine.specs.Walks.{change_visit, guards_visit, marked_by, visited, walked, walked_if_any}
 use Rattle.bd_machine.proofs.Parts.{Core, visit_grows}
 use Rattle.bd_turns.specs.declared.queue.Message.{Message}

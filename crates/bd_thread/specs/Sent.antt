@@ -8,8 +8,7 @@ use Rattle.bd_machine.specs.declared.state.Kept.{Kept}
 use Rattle.bd_machine.specs.declared.state.Kept.TheVariants as keeps
 use Rattle.bd_machine.specs.declared.state.News.{News}
 use Rattle.bd_machine.specs.Guards.{is_built_token}
-use Rattle.bd_machine.specs.Messages.{brings, closed_notice, count_at, here_with, may_go, news_of, progress_took, sent}
-use Rattle.bd_machine.specs.View.{Move}
+use Rattle.bd_machine.specs.Messages.{brings, count_at, may_go, news_of, sent}
 use Rattle.bd_turns.specs.declared.queue.Message.{Message}
 use Rattle.bd_turns.specs.Tied.{id_next}
 use Rattle.bd_links.specs.Entries.{longer}

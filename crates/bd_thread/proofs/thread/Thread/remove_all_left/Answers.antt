@@ -21,9 +21,9 @@ loop-round-preserved c =
     let more : c.len-count.result - round ≡ dev + 1 = omega (arith, less, is) in
     let next : dev ≡ c.len-count.result - (round + 1) = omega (arith, less, is) in
     record {
-  acted = acted_then _ _ _ _ _ _ c.loop-round.invariant.acted c.in_ok-remove_left.ensures.acted;
-  tickets = λ keeps. c.in_ok-remove_left.ensures.tickets (c.loop-round.invariant.tickets keeps);
-  quiet = idle_then {Q = NoRemovalOn (record { 0 = dev })} _ _ _ _ _ _ c.loop-round.invariant.acted c.in_ok-remove_left.ensures.acted
-      (λ above on. subst (λ (n : ℕ). NoRemovalFrom n c.args.self.now c.args.links.now) next (no_removal_from (c.len-count.result - round) dev c.args.self.now c.args.links.now more above on))
-      c.loop-round.invariant.quiet (removes_left_idle _ _ _ _ _ _ c.in_ok-remove_left.ensures.removes);
-}
+      acted = acted_then _ _ _ _ _ _ c.loop-round.invariant.acted c.in_ok-remove_left.ensures.acted;
+      tickets = λ keeps. c.in_ok-remove_left.ensures.tickets (c.loop-round.invariant.tickets keeps);
+      quiet = idle_then {Q = NoRemovalOn (record { 0 = dev })} _ _ _ _ _ _ c.loop-round.invariant.acted c.in_ok-remove_left.ensures.acted
+          (λ above on. subst (λ (n : ℕ). NoRemovalFrom n c.args.self.now c.args.links.now) next (no_removal_from (c.len-count.result - round) dev c.args.self.now c.args.links.now more above on))
+          c.loop-round.invariant.quiet (removes_left_idle _ _ _ _ _ _ c.in_ok-remove_left.ensures.removes);
+    }

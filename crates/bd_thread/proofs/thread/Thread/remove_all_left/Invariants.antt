@@ -1,4 +1,4 @@
-use Rattle.std.proofs.Common.{◌≡◌, ◌-◌}
+use Rattle.std.proofs.Common.{◌-◌}
 use Rattle.bd_thread.specs.Acted.{Acted}
 use Rattle.bd_thread.specs.Requests.{KeepsTickets}
 use Rattle.bd_thread.specs.Waits.{Idles, NoRemovalFrom}

@@ -8,7 +8,7 @@ use Rattle.bd_machine.specs.Guards.{is_built_token}
 use Rattle.bd_machine.specs.Messages.{brings, count_at, taken_by}
 use Rattle.bd_machine.specs.Same.{same_id}
 use Rattle.bd_machine.specs.Table.{write}
-use Rattle.bd_machine.specs.View.{Move, id_of}
+use Rattle.bd_machine.specs.View.{id_of}
 use Rattle.bd_links.specs.Entries.{longer}
 use Rattle.bd_links.specs.Queues.{queues_of}
 use Rattle.bd_changes.specs.Begun.{begun, token_moved}
