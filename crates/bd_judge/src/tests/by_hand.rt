@@ -3,7 +3,7 @@
 use bd_base::{
     Act, Answer, ApplyEnd, ClaimKind, DevId, DevRow, Dropped, Entry, Errno, Fill, HandleId, Job,
     Kind, Line, Name, Op, OutOfMemory, Outcome, RegEvent, ReqId, Rows, Script, Setup, Shown,
-    Status, Token,
+    Status, ThreadSet, Token,
 };
 use bd_play::{Machine, StepNo};
 use std::alloc::Global;
@@ -138,13 +138,15 @@ enum Ask {
     Close,
     Drop,
     Remove,
+    Destructed,
 }
 
-// What a message carries: a piece, or the channel that is to be dropped.
+// What a message carries: a piece, the channel that is to be dropped, or the device that is to be destructed.
 #[derive(Clone, Copy)]
 enum What {
     Piece(u64, u32),
     Channel,
+    Device,
 }
 
 // An act of thread 0, by what differs.
@@ -184,6 +186,7 @@ fn event(alloc: Global, ask: Ask) -> Result<RegEvent, OutOfMemory> {
         Ask::Close => Ok(RegEvent::Close { handle: HANDLE }),
         Ask::Drop => Ok(RegEvent::DropChannel { dev: DEV }),
         Ask::Remove => Ok(RegEvent::BeginRemove { name }),
+        Ask::Destructed => Ok(RegEvent::Destructed { dev: DEV }),
     }
 }
 
@@ -205,7 +208,13 @@ fn answer(alloc: Global, ask: Ask) -> Answer {
             zero: None,
             destruct: None,
         },
-        Ask::Remove => Answer::Refused(Errno::Busy),
+        Ask::Remove => Answer::Removing {
+            dev: DEV,
+            threads: ThreadSet::empty(),
+            handles: Rows::new(alloc),
+            destruct: Some(DEV),
+        },
+        Ask::Destructed => Answer::Freed { close: None },
     }
 }
 
@@ -213,6 +222,7 @@ fn token(what: What) -> Token {
     match what {
         What::Piece(seq, k) => Token::Piece(req(seq), k),
         What::Channel => Token::Channel(DEV),
+        What::Device => Token::Device(DEV),
     }
 }
 
@@ -291,7 +301,7 @@ const ONE: ReqId = ReqId { thread: 0, seq: 1 };
 const TWO: ReqId = ReqId { thread: 0, seq: 2 };
 
 // The whole history of the script, with the stamps 1, 2, 3 and so on.
-const TRACE: [Deed; 35] = [
+const TRACE: [Deed; 39] = [
     Deed::Reg(Ask::Open(0)),
     Deed::Reg(Ask::Get(true)),
     Deed::Script(1, Outcome::Done),
@@ -326,11 +336,15 @@ const TRACE: [Deed; 35] = [
     Deed::Took(4, What::Channel),
     Deed::Reg(Ask::Drop),
     Deed::Shutdown,
+    Deed::Reg(Ask::Remove),
+    Deed::Put(5, What::Device),
+    Deed::Took(5, What::Device),
     Deed::Destruct(0, Some(CONTENT)),
+    Deed::Reg(Ask::Destructed),
 ];
 
 // A guard, and an act that it refuses after the first entries of the trace.
-const REFUSED: [(u32, usize, Deed); 51] = [
+const REFUSED: [(u32, usize, Deed); 52] = [
     // an act that isn't built, a reset
     (0, 0, Deed::Pend),
     (0, 3, Deed::Accept(ZERO, 0, Op::Reset, 0)),
@@ -345,8 +359,8 @@ const REFUSED: [(u32, usize, Deed); 51] = [
     (5, 6, Deed::Took(0, What::Piece(0, 0))),
     (5, 8, Deed::Took(0, What::Piece(0, 0))),
     (5, 30, Deed::Took(4, What::Channel)),
-    // a handle number that isn't the next one, a channel that isn't there yet, a removal that isn't
-    // refused, a second claim of a handle, an open that its own claim refuses
+    // a handle number that isn't the next one, a channel that isn't there yet, a removal that
+    // sees no handle, a second claim of a handle, an open that its own claim refuses
     (6, 0, Deed::Reg(Ask::Open(7))),
     (6, 1, Deed::Reg(Ask::Get(false))),
     (6, 3, Deed::Reg(Ask::Remove)),
@@ -388,11 +402,13 @@ const REFUSED: [(u32, usize, Deed); 51] = [
     (27, 4, Deed::Complete(0, Status::Success, None)),
     (27, 11, Deed::Complete(0, Status::Failed, None)),
     (28, 21, Deed::Complete(1, Status::Success, None)),
-    // destructed with a handle open, twice, a device that there isn't, without its digest
+    // destructed with a handle open, before its message came, twice, a device that there isn't, without
+    // its digest
     (31, 25, Deed::Destruct(0, Some(CONTENT))),
-    (31, 35, Deed::Destruct(0, Some(CONTENT))),
-    (31, 34, Deed::Destruct(1, None)),
-    (32, 34, Deed::Destruct(0, None)),
+    (31, 36, Deed::Destruct(0, Some(CONTENT))),
+    (31, 39, Deed::Destruct(0, Some(CONTENT))),
+    (31, 37, Deed::Destruct(1, None)),
+    (32, 37, Deed::Destruct(0, None)),
     // a line out of order, another outcome
     (33, 2, Deed::Script(2, Outcome::Done)),
     (34, 2, Deed::Script(1, Outcome::Errno(Errno::Exists))),
@@ -439,7 +455,7 @@ fn answer_after(
 #[test]
 fn first_path_is_a_complete_run(rt: HostRuntime) {
     let alloc = rt.alloc();
-    for row in &[(34, false), (35, true)] {
+    for row in &[(38, false), (39, true)] {
         let (n, complete) = *row;
         let is_complete = match played(alloc, n) {
             Ok(machine) => machine.is_complete() == Ok(complete),

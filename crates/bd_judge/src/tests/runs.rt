@@ -2,8 +2,8 @@
 //! machine's table.
 use crate::judging::{Verdict, judge};
 use bd_base::{
-    Act, Bytes, ClaimKind, DevRow, Entry, Fill, Job, Kind, Line, Name, Op, OutOfMemory, Rows,
-    Script, Setup,
+    Act, Bytes, ClaimKind, DevRow, Entry, Fill, Job, Kind, Line, Name, Op, OutOfMemory, RegEvent,
+    Rows, Script, Setup,
 };
 use bd_machine::guard::OUTCOME_DUE;
 use bd_outside::{MemHost, MemSink, OpenGate, StillClock};
@@ -245,13 +245,16 @@ fn histories_of_runs_are_complete(rt: HostRuntime) -> Result<(), Fail> {
     Ok(())
 }
 
-// The last entry destructs the device: without it the run isn't over.
+// The last entry tells the registry that the device was destructed: without it the run isn't over.
 #[test]
 fn without_its_end_a_run_is_unfinished(rt: HostRuntime) -> Result<(), Fail> {
     let alloc = rt.alloc();
     let mut trace = history(alloc, FIRST, &[])?;
     let last = trace.pop();
-    assert!(rt; last.is_some_and(|entry| matches!(entry.act, Act::Destruct { .. })));
+    let is_told = last.is_some_and(|entry| {
+        matches!(entry.act, Act::Reg { event: RegEvent::Destructed { .. }, .. })
+    });
+    assert!(rt; is_told);
     let setup = setup(alloc, &[&FIRST_WORDS])?;
     let judged = judge(alloc, &setup, trace.as_slice());
     assert!(rt; judged == Ok(Verdict::Unfinished), "{judged:?}");
