@@ -252,7 +252,13 @@ fn without_its_end_a_run_is_unfinished(rt: HostRuntime) -> Result<(), Fail> {
     let mut trace = history(alloc, FIRST, &[])?;
     let last = trace.pop();
     let is_told = last.is_some_and(|entry| {
-        matches!(entry.act, Act::Reg { event: RegEvent::Destructed { .. }, .. })
+        matches!(
+            entry.act,
+            Act::Reg {
+                event: RegEvent::Destructed { .. },
+                ..
+            }
+        )
     });
     assert!(rt; is_told);
     let setup = setup(alloc, &[&FIRST_WORDS])?;
