@@ -190,8 +190,13 @@ module _ (setup : Setup) (t : ℕ) (l : Local) (e : Entry) (n : ℕ) (positive :
   unfolding next
   extended fs l' rows h = record {
     entries_are = ap (λ (es : List Entry). entry_now ∷ es) h.entries_are;
-    accepts = (refl, still, unrefused, carries,
-        subst (λ (v : View). Accepts setup l.shared.shut t v rows l'.view) (sym view_is) (subst (λ b. Accepts setup b t (local_after setup t l e).view rows l'.view) shut_next h.accepts));
+    accepts = (
+      refl,
+      still,
+      unrefused,
+      carries,
+      subst (λ (v : View). Accepts setup l.shared.shut t v rows l'.view) (sym view_is) (subst (λ b. Accepts setup b t (local_after setup t l e).view rows l'.view) shut_next h.accepts),
+    );
     carry = (carried.one, h.carry);
     own_queue =
         append_assoc (took_in e.act (messages row)) (took_all rows) (l'.shared.queues t)
@@ -217,21 +222,25 @@ entry_eq : (t : ℕ) (e f : Entry) → f.thread ≡ t → f.act ≡ e.act → re
 entry_eq t e f thread act = ap₂ (λ (u : ℕ) (a : Act). let x : Entry = record { stamp = f.stamp; thread = u; act = a } in x) (sym thread) (sym act)
 
 pub turn_is_accepted : TurnIsAccepted
-turn_is_accepted setup t l l' [] [] leads same = ([], record {
-  entries_are = refl;
-  accepts = ap (λ (x : Local). x.view) leads;
-  carry = tt;
-  own_queue = ap (λ (x : Local). x.shared.queues t) (sym leads) ∙ sym (append-nil (l.shared.queues t));
-  other_queues = λ r ne. (ap (λ (x : Local). x.shared.queues r) (sym leads) ∙ sym (append-nil (l.shared.queues r)));
-  shut_is = ap (λ (x : Local). x.shared.shut) (sym leads);
-  registry_is = ap (λ (x : Local). x.shared.registry) (sym leads);
-  replay = tt;
-  followed = refl;
-})
+turn_is_accepted setup t l l' [] [] leads same = (
+  [],
+  record {
+    entries_are = refl;
+    accepts = ap (λ (x : Local). x.view) leads;
+    carry = tt;
+    own_queue = ap (λ (x : Local). x.shared.queues t) (sym leads) ∙ sym (append-nil (l.shared.queues t));
+    other_queues = λ r ne. (ap (λ (x : Local). x.shared.queues r) (sym leads) ∙ sym (append-nil (l.shared.queues r)));
+    shut_is = ap (λ (x : Local). x.shared.shut) (sym leads);
+    registry_is = ap (λ (x : Local). x.shared.registry) (sym leads);
+    replay = tt;
+    followed = refl;
+  },
+)
 turn_is_accepted setup t l l' [] (f ∷ fs) leads same = absurd same
 turn_is_accepted setup t l l' (e ∷ es) [] leads same = absurd same
 turn_is_accepted setup t l l' (e ∷ es) (f ∷ fs) leads same =
     let rest = turn_is_accepted setup t (local_after setup t l e) l' es fs leads.3 same.3 in
-    let f_is : record { stamp = f.stamp; thread = t; act = e.act } ≡ f = entry_eq t e f (same.0 ∙ leads.0) same.1 in
-    (row setup t l e f.stamp same.2 leads.1 leads.2 ∷ rest.0,
-        subst (λ (x : Entry). AreRowsOf setup t l (x ∷ fs) l' (row setup t l e f.stamp same.2 leads.1 leads.2 ∷ rest.0)) f_is (extended setup t l e f.stamp same.2 leads.1 leads.2 fs l' rest.0 rest.1))
+    let f_is : record { stamp = f.stamp; thread = t; act = e.act } ≡ f = entry_eq t e f (same.0 ∙ leads.0) same.1 in (
+      row setup t l e f.stamp same.2 leads.1 leads.2 ∷ rest.0,
+      subst (λ (x : Entry). AreRowsOf setup t l (x ∷ fs) l' (row setup t l e f.stamp same.2 leads.1 leads.2 ∷ rest.0)) f_is (extended setup t l e f.stamp same.2 leads.1 leads.2 fs l' rest.0 rest.1),
+    )

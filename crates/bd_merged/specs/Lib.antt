@@ -3,3 +3,4 @@ pub mod Journals
 pub mod Fits
 pub mod Laws
 pub mod Turning
+pub mod Loose
