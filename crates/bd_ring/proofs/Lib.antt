@@ -1,4 +1,4 @@
-pub mod Notes
+pub mod Posts
 pub mod RingSteps
 pub mod Accounts
 pub mod Views

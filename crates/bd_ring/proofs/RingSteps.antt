@@ -1,26 +1,25 @@
 -- Each kind of step keeps the rule of a ring.
-use Rattle.std.proofs.Common.{◌≡◌, ◌≢◌, ℕ, zero, suc, ◌+◌, ◌<◌, ◌≤◌, true, false, true≢false, List, [], ◌∷◌, ◌++◌, length, map, set, get_or, sym, refl, ap, ◌∙◌, subst, ⊎_elim, ◌⊎◌, arith}
+use Rattle.std.proofs.Common.{◌≡◌, ◌≢◌, ℕ, zero, suc, ◌+◌, ◌<◌, ◌≤◌, true, false, true≢false, List, [], ◌∷◌, ◌++◌, length, set, get_or, sym, refl, ap, ◌∙◌, subst, ⊎_elim, ◌⊎◌, arith}
 use Rattle.std.proofs.lemmas.List.{length-set, length-append, get_or_append_left, get_or_push}
 use mathlib.Core.Option.{some, some-ne-none, some-injective}
 use lib.ListN.{get_elem?}
 use Rattle.crossbeam_queue.specs.Fifo.{Pushes, Pops, Forks, Merges, Learns}
-use Rattle.bd_msg.specs.declared.message.Msg.{Msg}
-use Rattle.bd_ring.specs.declared.note.Note.{Note}
+use Rattle.bd_turns.specs.declared.queue.Post.{Post}
 use Rattle.bd_ring.specs.declared.ring_rule.View.{View}
-use Rattle.bd_ring.specs.Notes.{sent_by, note_of}
+use Rattle.bd_ring.specs.Posts.{sent_by}
 use Rattle.bd_ring.specs.RingRule.{receiver, sender, nobody, after_put, after_take, all_put, Fits, Rules, RingRule, HoldsLast, Delivers, IsTaken, IsNext}
 use Rattle.bd_ring.proofs.Views.{below, All, all_set, all_snoc, was_there}
-use Rattle.bd_ring.proofs.Notes.{sent_by-append, all_pop, sent_push_other, sent_push_own, is_made}
+use Rattle.bd_ring.proofs.Posts.{sent_by-append, all_pop, sent_push_other, sent_push_own, is_made}
 
 -- the rule, with the number of passes as a number of its own
-abbrev RulesAt : ℕ → ℕ → List (List Note) → List Note → List Msg → List View → Type 0
+abbrev RulesAt : ℕ → ℕ → List (List Post) → List Post → List Post → List View → Type 0
 RulesAt passes senders ended taken items views =
     ((k : ℕ) → k < length ended → get_or ended k [] ≡ sent_by k (all_put taken items))
     × ((k : ℕ) → passes ≤ k + 1 + senders → sent_by k (all_put taken items) ≡ [])
     × (passes ≤ senders + 1 + senders)
     × All (Fits passes senders ended taken items) views
 
-rules_at : (passes senders : ℕ) (ended : List (List Note)) (taken : List Note) (items : List Msg) (views : List View) → passes ≡ length views → RulesAt passes senders ended taken items views → Rules senders ended taken items views
+rules_at : (passes senders : ℕ) (ended : List (List Post)) (taken : List Post) (items : List Post) (views : List View) → passes ≡ length views → RulesAt passes senders ended taken items views → Rules senders ended taken items views
 rules_at passes senders ended taken items views e r = subst (λ n. RulesAt n senders ended taken items views) e r
 
 off : false ≡ true → ⊥
@@ -33,7 +32,7 @@ begins = (0, [], [], ((λ k h. absurd (omega arith)), (λ k h. refl), omega arit
     one zero v e = subst (Fits 1 0 [] [] [] 0) (some-injective _ _ e) ((λ s. absurd (off s)), (λ _. (refl, refl, refl, refl, refl)))
     one (suc pass) v e = absurd (some-ne-none v (sym e))
 
-pub puts : (n pass : ℕ) (v : View) (x : Msg) → v.sends ≡ true → x.from.0 ≡ v.from → Pushes RingRule n pass v x (λ w. w ≡ after_put v x)
+pub puts : (n pass : ℕ) (v : View) (x : Post) → v.sends ≡ true → x.message.sender ≡ v.from → Pushes RingRule n pass v x (λ w. w ≡ after_put v x)
 puts n pass v x sends from items views _ h at =
     let w : View = after_put v x in
     let senders = h.0 in
@@ -52,7 +51,7 @@ puts n pass v x sends from items views _ h at =
           (λ k le. sent_push_other k taken items x (λ e. absurd (let p = here.0 in omega arith)) ∙ h.3.1 k le),
           h.3.2,
           (all_set (Fits (length views) senders ended taken (items ++ x ∷ [])) views pass w
-              ((λ _. (here.0, here.1, ap (λ l. l ++ note_of x ∷ []) here.2 ∙ sym (sent_push_own v.from taken items x from), here.3)), mine.1)
+              ((λ _. (here.0, here.1, ap (λ l. l ++ x ∷ []) here.2 ∙ sym (sent_push_own v.from taken items x from), here.3)), mine.1)
               (λ j u other e.
               let theirs = h.3.3 j u e in (
                 (λ s. let f = theirs.0 s in (f.0, f.1, f.2 ∙ sym (sent_push_other u.from taken items x (λ same. absurd (other (f.0 ∙ let p = here.0 in omega arith)))), f.3)),
@@ -68,7 +67,7 @@ takes pass v may x items views h at =
     let w : View = after_take v x in
     let senders = h.0 in
     let ended = h.1 in
-    let taken : List Note = h.2 ++ note_of x ∷ [] in
+    let taken : List Post = h.2 ++ x ∷ [] in
     let mine = h.3.3 pass v at in
     let here = mine.1 may in
     let same : all_put h.2 (x ∷ items) ≡ all_put taken items = sym (all_pop h.2 x items) in (
@@ -82,7 +81,7 @@ takes pass v may x items views h at =
           (λ k le. ap (sent_by k) (sym same) ∙ h.3.1 k le),
           h.3.2,
           (all_set (Fits (length views) senders ended taken items) views pass w
-              ((λ s. let f = mine.0 s in (f.0, f.1, f.2 ∙ ap (sent_by v.from) same, f.3)), (λ _. (here.0, here.1, here.2, ap (λ l. l ++ note_of x ∷ []) here.3, here.4)))
+              ((λ s. let f = mine.0 s in (f.0, f.1, f.2 ∙ ap (sent_by v.from) same, f.3)), (λ _. (here.0, here.1, here.2, ap (λ l. l ++ x ∷ []) here.3, here.4)))
               (λ j u other e.
               let theirs = h.3.3 j u e in (
                 (λ s. let f = theirs.0 s in (f.0, f.1, f.2 ∙ ap (sent_by u.from) same, f.3)),
@@ -90,25 +89,25 @@ takes pass v may x items views h at =
               ))),
         ),
       ),
-      (refl, is_made v.made h.2 x items (λ le. h.3.1 x.from.0 (let m = here.1 in omega arith))),
+      (refl, is_made v.made h.2 x items (λ le. h.3.1 x.message.sender (let m = here.1 in omega arith))),
     )
 
 -- what the receiver learns at any moment
 pub delivers : (pass : ℕ) (v : View) → v.receives ≡ true → Learns RingRule pass v (Delivers v)
 delivers pass v may items views h at =
     let here = (h.3.3 pass v at).1 may in
-    let P : List (List Note) × List Note → Type 0 = λ y. ((k : ℕ) → k < length y.0 → get_or y.0 k [] ≡ sent_by k (all_put y.1 items)) × ((k : ℕ) → v.made ≤ k → sent_by k (all_put y.1 items) ≡ []) in
+    let P : List (List Post) × List Post → Type 0 = λ y. ((k : ℕ) → k < length y.0 → get_or y.0 k [] ≡ sent_by k (all_put y.1 items)) × ((k : ℕ) → v.made ≤ k → sent_by k (all_put y.1 items) ≡ []) in
     subst P (λ i. (sym here.2 i, sym here.3 i)) (h.3.0, (λ k le. h.3.1 k (let m = here.1 in omega arith)))
 
 -- what a sender learns at any moment
 pub holds_last : (pass : ℕ) (v : View) → v.sends ≡ true → Learns RingRule pass v (HoldsLast v)
 holds_last pass v sends items views h at =
     let here = (h.3.3 pass v at).0 sends in (
-      (sent_by v.from h.2, here.2 ∙ sent_by-append v.from h.2 (map note_of items)),
-      (λ k le. second_nil (sent_by k h.2) (sent_by k (map note_of items)) (sym (sent_by-append k h.2 (map note_of items)) ∙ h.3.1 k (let m = h.3.2 in let s = here.3 in omega arith))),
+      (sent_by v.from h.2, here.2 ∙ sent_by-append v.from h.2 items),
+      (λ k le. second_nil (sent_by k h.2) (sent_by k items) (sym (sent_by-append k h.2 items) ∙ h.3.1 k (let m = h.3.2 in let s = here.3 in omega arith))),
     )
   where
-    second_nil : (xs ys : List Note) → xs ++ ys ≡ [] → ys ≡ []
+    second_nil : (xs ys : List Post) → xs ++ ys ≡ [] → ys ≡ []
     second_nil [] ys e = e
     second_nil (x ∷ xs) ys e = absurd (cc)
 
@@ -182,7 +181,7 @@ merges pass v other u may sends next items views h at apart at' =
     let was : get_elem? views other ≡ some u = was_there views pass other both u apart at' in
     let theirs = (h.3.3 other u was).0 sends in
     let from_is : u.from ≡ length h.1 = next ∙ ap length here.2 in
-    let ended : List (List Note) = h.1 ++ u.put ∷ [] in
+    let ended : List (List Post) = h.1 ++ u.put ∷ [] in
     let longer : length ended ≡ length h.1 + 1 = omega (arith, length-append h.1 (u.put ∷ [])) in
     let n : ℕ = length views in
     let F : ℕ → View → Type 0 = Fits n h.0 ended h.2 items in
@@ -209,7 +208,7 @@ merges pass v other u may sends next items views h at apart at' =
     above_next : (a b from from' j other senders : ℕ) → b ≡ a + 1 → from ≡ a → other ≡ from + 1 + senders → j ≡ from' + 1 + senders → j ≢ other → a ≤ from' → b ≤ from'
     above_next a b from from' j other senders p q r s ne le = omega (arith)
 
-    settled_more : (ended : List (List Note)) (put all : List Note) → ((k : ℕ) → k < length ended → get_or ended k [] ≡ sent_by k all) → sent_by (length ended) all ≡ put
+    settled_more : (ended : List (List Post)) (put all : List Post) → ((k : ℕ) → k < length ended → get_or ended k [] ≡ sent_by k all) → sent_by (length ended) all ≡ put
         → (k : ℕ) → k < length (ended ++ put ∷ []) → get_or (ended ++ put ∷ []) k [] ≡ sent_by k all
     settled_more ended put all before own k lt = ⊎_elim
         (λ (less : k < length ended). get_or_append_left ended (put ∷ []) [] k less ∙ before k less)

@@ -1,4 +1,4 @@
--- Senders and threads that count: message and row n of each has number n.
+-- Senders and threads that count: post and row n of each has number n.
 use Rattle.std.specs.Prelude.{◌≡◌, ℕ, ◌<◌, List, [], ◌∷◌, ◌++◌, length, slice_index_or}
 use Prim.Native.Nat.{zero, suc}
 use Rattle.atomic_table.specs.Seated.{TableId}
@@ -7,31 +7,31 @@ use Rattle.bd_base.specs.declared.act.Entry.{Entry}
 use Rattle.bd_base.specs.declared.event.Answer.TheVariants.{ResetQueued}
 use Rattle.bd_base.specs.declared.event.RegEvent.TheVariants.{EndReset}
 use Rattle.bd_base.specs.declared.journal.Start.{Start}
-use Rattle.bd_msg.specs.declared.message.Body.TheVariants.{DropChannel}
-use Rattle.bd_msg.specs.declared.message.Msg.{Msg}
-use Rattle.bd_ring.specs.declared.note.Note.{Note}
-use Rattle.bd_ring.specs.Notes.{note_of}
+use Rattle.bd_base.specs.declared.act.Token.TheVariants as tokens
+use Rattle.bd_machine.specs.declared.state.Kept.TheVariants as keeps
+use Rattle.bd_machine.specs.declared.state.News.TheVariants as news
+use Rattle.bd_turns.specs.declared.queue.Post.{Post}
 use Rattle.bd_ring.specs.Rings.{Sender}
 
-abbrev pub message : ℕ → ℕ → Msg
-message from n = record { from = record { 0 = from }; stamp = n; number = n; body = DropChannel (record { 0 = n }) }
+abbrev pub post : ℕ → ℕ → Post
+post sender n = record { message = record { sender = sender; what = tokens.Channel (record { 0 = n }); kept = keeps.Notice (news.Channel (record { 0 = n })) }; stamp = n }
 
--- the first n messages of a sender
-abbrev pub first_messages : ℕ → ℕ → List Note
-first_messages from zero = []
-first_messages from (suc n) = first_messages from n ++ note_of (message from n) ∷ []
+-- the first n posts of a sender
+abbrev pub first_posts : ℕ → ℕ → List Post
+first_posts sender zero = []
+first_posts sender (suc n) = first_posts sender n ++ post sender n ∷ []
 
--- the sender, which was new, after it put this number of messages
-abbrev pub after_messages : Sender → ℕ → Sender
-after_messages s count = record s { put = first_messages s.number count }
+-- the sender, which was new, after it put this number of posts
+abbrev pub after_posts : Sender → ℕ → Sender
+after_posts s count = record s { put = first_posts s.number count }
 
 -- senders of this ring that have put nothing
 abbrev pub AreNew : TableId → List Sender → Type 0
 AreNew ring sends = (k : ℕ) (d : Sender) → k < length sends → let s = slice_index_or sends k d in (s.ring ≡ ring) × (s.put ≡ [])
 
--- each of these senders, which were new, put this number of messages
+-- each of these senders, which were new, put this number of posts
 abbrev pub HavePut : ℕ → List Sender → List Sender → Type 0
-HavePut count before after = (k : ℕ) (d : Sender) → k < length before → slice_index_or after k d ≡ after_messages (slice_index_or before k d) count
+HavePut count before after = (k : ℕ) (d : Sender) → k < length before → slice_index_or after k d ≡ after_posts (slice_index_or before k d) count
 
 abbrev pub row_at : ℕ → ℕ → Entry
 row_at thread n = record { stamp = n; thread = thread; act = Reg (EndReset (record { 0 = n })) ResetQueued }

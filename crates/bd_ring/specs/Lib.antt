@@ -1,4 +1,4 @@
-pub mod Notes
+pub mod Posts
 pub mod RingRule
 pub mod Rings
 pub mod SlotRule

@@ -1,10 +1,9 @@
 -- What contracts see of a ring and of its passes.
-use Rattle.std.specs.Prelude.{◌≡◌, ℕ, ◌<◌, ◌≤◌, List, [], ◌∷◌, ◌++◌, map, length, drop, Some, slice_get, slice_index_or}
+use Rattle.std.specs.Prelude.{◌≡◌, ℕ, ◌<◌, ◌≤◌, List, [], ◌∷◌, ◌++◌, length, drop, Some, slice_get, slice_index_or}
 use Prim.Native.Nat.{zero, suc}
 use Rattle.atomic_table.specs.Seated.{TableId}
-use Rattle.bd_msg.specs.declared.message.Msg.{Msg}
-use Rattle.bd_ring.specs.declared.note.Note.{Note}
-use Rattle.bd_ring.specs.Notes.{sent_by, note_of}
+use Rattle.bd_turns.specs.declared.queue.Post.{Post}
+use Rattle.bd_ring.specs.Posts.{sent_by}
 
 -- a ring: which one it is, and how many messages it has room for
 pub record Place : Type 0 where
@@ -16,33 +15,33 @@ pub record Sender : Type 0 where
   pub ring : TableId
   pub senders : ℕ
   pub number : ℕ
-  pub put : List Note
+  pub put : List Post
 
 -- the receiver's pass: its ring, how many senders there are, and what was taken
 pub record Receiver : Type 0 where
   pub ring : TableId
   pub senders : ℕ
-  pub taken : List Note
+  pub taken : List Post
 
-abbrev pub after_put : Sender → Msg → Sender
-after_put s m = record s { put = s.put ++ note_of m ∷ [] }
+abbrev pub after_put : Sender → Post → Sender
+after_put s m = record s { put = s.put ++ m ∷ [] }
 
-abbrev pub after_take : Receiver → Msg → Receiver
-after_take r m = record r { taken = r.taken ++ note_of m ∷ [] }
+abbrev pub after_take : Receiver → Post → Receiver
+after_take r m = record r { taken = r.taken ++ m ∷ [] }
 
 -- some full content of the ring, of messages of its senders alone, of which this one's are the last that it put
 abbrev pub WasFull : Place → Sender → Type 0
 WasFull place s =
-    (items : List Msg) × (length items ≡ place.capacity) × ((before : List Note) × (s.put ≡ before ++ sent_by s.number (map note_of items)))
-    × ((k : ℕ) → s.senders ≤ k → sent_by k (map note_of items) ≡ [])
+    (items : List Post) × (length items ≡ place.capacity) × ((before : List Post) × (s.put ≡ before ++ sent_by s.number items))
+    × ((k : ℕ) → s.senders ≤ k → sent_by k items ≡ [])
 
 -- some empty content of the ring; what was taken up to then came from its senders alone
 abbrev pub WasEmpty : Receiver → Type 0
-WasEmpty r = (items : List Msg) × (length items ≡ 0) × ((k : ℕ) → r.senders ≤ k → sent_by k (r.taken ++ map note_of items) ≡ [])
+WasEmpty r = (items : List Post) × (length items ≡ 0) × ((k : ℕ) → r.senders ≤ k → sent_by k (r.taken ++ items) ≡ [])
 
 -- the receiver took this message, which is of one of the senders
-abbrev pub Took : Receiver → Msg → Receiver → Type 0
-Took r m t = (t ≡ after_take r m) × (m.from.0 < r.senders)
+abbrev pub Took : Receiver → Post → Receiver → Type 0
+Took r m t = (t ≡ after_take r m) × (m.message.sender < r.senders)
 
 -- the first n of the senders, by number, which have put nothing
 abbrev pub first_senders : TableId → ℕ → ℕ → List Sender
@@ -61,16 +60,16 @@ AreSendersOf ring sends = (k : ℕ) (s : Sender) → slice_get sends k ≡ Some 
 pub record Closing : Type 0 where
   pub ring : TableId
   pub senders : ℕ
-  pub puts : List (List Note)
-  pub taken : List Note
+  pub puts : List (List Post)
+  pub taken : List Post
 
 -- a settled ring: what each sender put, and what was taken of all of them, in order
 pub record Account : Type 0 where
-  pub puts : List (List Note)
-  pub taken : List Note
+  pub puts : List (List Post)
+  pub taken : List Post
 
 -- what a sender put
-abbrev pub put_by : Account → ℕ → List Note
+abbrev pub put_by : Account → ℕ → List Post
 put_by a k = slice_index_or a.puts k []
 
 -- how many messages of a sender were taken
@@ -78,7 +77,7 @@ abbrev pub taken_of : Account → ℕ → ℕ
 taken_of a k = length (sent_by k a.taken)
 
 -- what a sender put and nobody took
-abbrev pub left_of : Account → ℕ → List Note
+abbrev pub left_of : Account → ℕ → List Post
 left_of a k = drop (taken_of a k) (put_by a k)
 
 -- of each sender, what was taken and then what is left is what it put
@@ -90,5 +89,5 @@ abbrev pub IsSpent : Account → Type 0
 IsSpent a = (k : ℕ) → k < length a.puts → sent_by k a.taken ≡ put_by a k
 
 -- this message was the first that was left of its sender
-abbrev pub HandsOut : Account → Msg → Account → Type 0
-HandsOut a m b = (b ≡ record a { taken = a.taken ++ note_of m ∷ [] }) × (m.from.0 < length a.puts) × (left_of a m.from.0 ≡ note_of m ∷ left_of b m.from.0) × IsSettled b
+abbrev pub HandsOut : Account → Post → Account → Type 0
+HandsOut a m b = (b ≡ record a { taken = a.taken ++ m ∷ [] }) × (m.message.sender < length a.puts) × (left_of a m.message.sender ≡ m ∷ left_of b m.message.sender) × IsSettled b

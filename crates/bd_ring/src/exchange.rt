@@ -1,47 +1,52 @@
 //! A ring at work: senders in threads of their own, and a receiver in another one.
-ghost use Rattle.std.specs.Prelude.{◌≡◌, ◌<◌, ℕ, [], map, vec_len, IfOk};
-ghost use Rattle.bd_ring.specs.Counting.{message as counted, first_messages, after_messages, HavePut, AreNew};
-ghost use Rattle.bd_ring.specs.Notes.{sent_by, note_of};
+ghost use Rattle.std.specs.Prelude.{◌≡◌, ◌<◌, ℕ, [], vec_len, IfOk};
+ghost use Rattle.bd_ring.specs.Counting.{post as counted, first_posts, after_posts, HavePut, AreNew};
+ghost use Rattle.bd_ring.specs.Posts.{Brings, sent_by};
 
 use crate::ring::{Ring, SendPass, TakePass};
-use bd_base::{DevId, OutOfMemory, ThreadId};
-use bd_msg::{Body, Msg};
+use bd_base::{DevId, OutOfMemory, Token};
+use bd_machine::{Kept, News};
+use bd_turns::{Message, Post};
 use std::alloc::Global;
 use std::sync::Wait;
 use std::thread;
 use std::thread::Threads;
 
-// The message with this number.
-pub(crate) fn message(from: u32, number: u32) -> Msg
-    ensures { result ≡ counted from number }
+// The post with this number: a channel of the device with this number is to be dropped.
+pub(crate) fn post(sender: u32, number: u32) -> Post
+    ensures post { result ≡ counted sender number }
+    ensures brings { Brings result }
 {
-    Msg {
-        from: ThreadId(from),
+    let dev = DevId(number);
+    Post {
+        message: Message {
+            sender,
+            what: Token::Channel(dev),
+            kept: Kept::Notice(News::Channel(dev)),
+        },
         stamp: u128::from(number),
-        number: u128::from(number),
-        body: Body::DropChannel { dev: DevId(number) },
     }
 }
 
-// Puts this number of messages. One that finds the ring full is tried again.
+// Puts this number of posts. One that finds the ring full is tried again.
 fn put_all<R: Wait>(rt: &R, ring: &Ring, pass: &mut SendPass, count: u32)
     requires { (pass.old.ring ≡ ring.now.ring) × (pass.old.put ≡ []) }
-    ensures { pass.new ≡ after_messages pass.old count }
+    ensures { pass.new ≡ after_posts pass.old count }
 {
-    let from = pass.number();
+    let sender = pass.number();
     let mut next = 0;
     for _ in rt.forever() {
         if next >= count {
             break;
         }
-        match ring.put(rt, pass, message(from, next)) {
+        match ring.put(rt, pass, post(sender, next)) {
             Ok(()) => next += 1,
             Err(_) => thread::yield_now(),
         }
     }
 }
 
-// Each sender puts this number of messages, in a thread of its own.
+// Each sender puts this number of posts, in a thread of its own.
 fn put_each<R: Threads + Wait + Sync>(
     rt: &R,
     ring: &Ring,
@@ -62,16 +67,16 @@ fn put_each<R: Threads + Wait + Sync>(
     sends
 }
 
-// Takes this number of messages, or fewer where memory runs out. An empty ring is tried again.
+// Takes this number of posts, or fewer where memory runs out. An empty ring is tried again.
 fn take_all<R: Wait>(
     rt: &R,
     alloc: Global,
     ring: &Ring,
     mut pass: TakePass,
     count: u32,
-) -> (TakePass, Vec<Msg>)
+) -> (TakePass, Vec<Post>)
     requires { (pass.ring ≡ ring.now.ring) × (pass.taken ≡ []) }
-    ensures { result.0 ≡ record { ring = ring.now.ring; senders = pass.senders; taken = map note_of result.1.items } }
+    ensures { result.0 ≡ record { ring = ring.now.ring; senders = pass.senders; taken = result.1.items } }
 {
     let mut taken = Vec::new(alloc);
     let mut left = count;
@@ -80,8 +85,8 @@ fn take_all<R: Wait>(
             break;
         }
         match ring.take(rt, &mut pass) {
-            Some(msg) => {
-                taken.push_reserved(msg);
+            Some(post) => {
+                taken.push_reserved(post);
                 left -= 1;
             }
             None => thread::yield_now(),
@@ -90,7 +95,7 @@ fn take_all<R: Wait>(
     (pass, taken)
 }
 
-/// All that the senders put, each `count` messages and in a thread of its own, as another thread
+/// All that the senders put, each `count` posts and in a thread of its own, as another thread
 /// took it meanwhile. What comes of each sender is what it put, in its order.
 pub fn exchange<R: Threads + Wait + Sync>(
     rt: &R,
@@ -98,9 +103,9 @@ pub fn exchange<R: Threads + Wait + Sync>(
     capacity: u32,
     senders: u32,
     count: u32,
-) -> Result<Vec<Msg>, OutOfMemory>
+) -> Result<Vec<Post>, OutOfMemory>
     requires { 0 < capacity }
-    ensures { IfOk result (λ v. (k : ℕ) → k < senders → sent_by k (map note_of v.items) ≡ first_messages k count) }
+    ensures { IfOk result (λ v. (k : ℕ) → k < senders → sent_by k v.items ≡ first_posts k count) }
 {
     let (ring, sends, take) = Ring::new(alloc, capacity, senders)?;
     let line = &ring;
@@ -110,15 +115,15 @@ pub fn exchange<R: Threads + Wait + Sync>(
             requires { AreNew line.now.ring sends.items }
             ensures { (vec_len result ≡ vec_len sends) × HavePut count sends.items result.items }
         { put_each(rt, line, sends, count) },
-        move || -> (TakePass, Vec<Msg>)
+        move || -> (TakePass, Vec<Post>)
             requires { (take.ring ≡ line.now.ring) × (take.taken ≡ []) }
-            ensures { result.0 ≡ record { ring = line.entry.now.ring; senders = take.senders; taken = map note_of result.1.items } }
+            ensures { result.0 ≡ record { ring = line.entry.now.ring; senders = take.senders; taken = result.1.items } }
         { take_all(rt, alloc, line, take, count.saturating_mul(senders)) },
     );
     let mut settled = ring.settle(take, sends);
     for _ in rt.forever() {
         match settled.next(rt) {
-            Some(msg) => taken.push(msg)?,
+            Some(post) => taken.push(post)?,
             None => return Ok(taken),
         }
     }

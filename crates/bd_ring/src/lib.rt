@@ -3,14 +3,13 @@
 #![tactic(auto)]
 
 pub mod exchange;
-mod note;
+mod letter;
 mod ring;
 mod ring_rule;
 mod slot;
 mod slot_rule;
 pub mod writers;
 
-pub use note::Note;
 pub use ring::{Full, Ring, SendPass, Settled, Settling, TakePass};
 pub use slot::{Slot, SlotPass, SlotSettling};
 

@@ -1,24 +1,26 @@
-//! A ring of messages, from many senders to one receiver.
-ghost use Rattle.std.specs.Prelude.{◌≡◌, ◌+◌, ◌<◌, ◌≤◌, [], ◌∷◌, ◌++◌, length, map, true, IfOk, IfErr, MatchResult, MatchOption, vec_len};
+//! A ring of posts, from many senders to one receiver.
+ghost use Rattle.std.specs.Prelude.{◌≡◌, ◌+◌, ◌<◌, ◌≤◌, [], ◌∷◌, ◌++◌, length, map, true, IfOk, IfErr, IfSome, MatchResult, MatchOption, vec_len};
 ghost use Rattle.crossbeam_queue.specs.Passes.{view as known, IsPassOf};
+ghost use Rattle.bd_ring.specs.Posts.{Brings};
 ghost use Rattle.bd_ring.specs.RingRule.{receiver};
 
+use crate::letter::Letter;
 use crate::ring_rule::{
     AddsSender, CountsSender, EndsSender, KeepsOrder, Puts, Takes, TakesRest, View,
 };
 use bd_base::OutOfMemory;
-use bd_msg::Msg;
+use bd_turns::Post;
 use crossbeam_queue::{Pass, RuledArrayQueue};
 use std::alloc::Global;
 use std::marker::Model;
 use std::sync::Wait;
 
-type Queue = RuledArrayQueue<Msg, View, KeepsOrder>;
+type Queue = RuledArrayQueue<Letter, View, KeepsOrder>;
 
-/// A bounded ring of messages, seen as which one it is and its capacity.
+/// A bounded ring of posts, seen as which one it is and its capacity.
 #[derive(Drop)]
 pub struct Ring {
-    queue: RuledArrayQueue<Msg, View, KeepsOrder>,
+    queue: RuledArrayQueue<Letter, View, KeepsOrder>,
 }
 
 impl Model for Ring {
@@ -29,11 +31,11 @@ impl Model for Ring {
     ghost view = { λ r. record { ring = r.queue.table.shared.table_id; capacity = r.queue.cap } };
 }
 
-/// The right to put messages as one sender, seen as its ring, how many senders
+/// The right to put posts as one sender, seen as its ring, how many senders
 /// that is for, its number, and what it put.
 #[derive(Drop)]
 pub struct SendPass {
-    pass: Pass<Msg, View>,
+    pass: Pass<Letter, View>,
     number: u32,
 }
 
@@ -49,10 +51,10 @@ impl Model for SendPass {
     ghost invariant = { λ s. (s.pass.me.1 ≡ []) × ((known s.pass).sends ≡ true) × ((known s.pass).from ≡ s.number) };
 }
 
-/// The right to take messages, seen as its ring, how many senders there are, and what was taken.
+/// The right to take posts, seen as its ring, how many senders there are, and what was taken.
 #[derive(Drop)]
 pub struct TakePass {
-    pass: Pass<Msg, View>,
+    pass: Pass<Letter, View>,
 }
 
 impl Model for TakePass {
@@ -71,8 +73,8 @@ impl Model for TakePass {
 /// there are, what the ended ones put, and what was taken.
 #[derive(Drop)]
 pub struct Settling {
-    queue: RuledArrayQueue<Msg, View, KeepsOrder>,
-    pass: Pass<Msg, View>,
+    queue: RuledArrayQueue<Letter, View, KeepsOrder>,
+    pass: Pass<Letter, View>,
 }
 
 impl Model for Settling {
@@ -90,8 +92,8 @@ impl Model for Settling {
 /// A ring whose senders have all ended, seen as what each put, and what was taken.
 #[derive(Drop)]
 pub struct Settled {
-    queue: RuledArrayQueue<Msg, View, KeepsOrder>,
-    pass: Pass<Msg, View>,
+    queue: RuledArrayQueue<Letter, View, KeepsOrder>,
+    pass: Pass<Letter, View>,
 }
 
 impl Model for Settled {
@@ -106,10 +108,10 @@ impl Model for Settled {
     ghost invariant = { λ s. IsPassOf s.queue s.pass × ((known s.pass).receives ≡ true) × ((known s.pass).made ≡ length (known s.pass).ended) };
 }
 
-/// A message that found the ring full.
+/// A post that found the ring full.
 #[derive(Debug, Drop)]
 pub struct Full {
-    pub msg: Msg,
+    pub post: Post,
 }
 
 impl SendPass {
@@ -122,7 +124,7 @@ impl SendPass {
 }
 
 // The ring is for one sender more.
-fn count_sender(queue: &Queue, pass: &mut Pass<Msg, View>)
+fn count_sender(queue: &Queue, pass: &mut Pass<Letter, View>)
     requires queue { IsPassOf queue.now pass.old }
     requires receiver { ((known pass.old).receives ≡ true) × ((known pass.old).made ≡ 0) }
     ensures queue { IsPassOf queue.now pass.new }
@@ -132,7 +134,7 @@ fn count_sender(queue: &Queue, pass: &mut Pass<Msg, View>)
 }
 
 // The pass of the next sender.
-fn next_sender(queue: &Queue, pass: &mut Pass<Msg, View>, number: u32) -> SendPass
+fn next_sender(queue: &Queue, pass: &mut Pass<Letter, View>, number: u32) -> SendPass
     requires queue { IsPassOf queue.now pass.old }
     requires receiver { ((known pass.old).receives ≡ true) × ((known pass.old).ended ≡ []) × ((known pass.old).made ≡ number) × (number < (known pass.old).senders) }
     ensures queue { IsPassOf queue.now pass.new }
@@ -146,7 +148,7 @@ fn next_sender(queue: &Queue, pass: &mut Pass<Msg, View>, number: u32) -> SendPa
 impl Ring {
     ghost use Rattle.bd_ring.specs.Rings.{after_put, Took, WasFull, WasEmpty, new_senders, AreSendersOf, IsSettled};
 
-    /// A ring of this capacity (in messages), a pass for each sender, and the receiver's pass.
+    /// A ring of this capacity (in posts), a pass for each sender, and the receiver's pass.
     pub fn new(
         alloc: Global,
         capacity: u32,
@@ -168,29 +170,37 @@ impl Ring {
         Ok((Ring { queue }, sends, TakePass { pass }))
     }
 
-    /// Puts a message after all that the ring holds. A full ring gives it back, and then the pass
-    /// is as before. It takes no memory.
-    pub fn put<R: Wait>(&self, rt: &R, pass: &mut SendPass, msg: Msg) -> Result<(), Full>
+    /// Puts a post after all that the ring holds. A full ring gives it back, and then the pass is as
+    /// before. It takes no memory.
+    pub fn put<R: Wait>(&self, rt: &R, pass: &mut SendPass, post: Post) -> Result<(), Full>
         requires ring { pass.old.ring ≡ self.now.ring }
-        requires sender { msg.from.0 ≡ pass.old.number }
+        requires sender { post.message.sender ≡ pass.old.number }
+        requires brings { Brings post }
         ensures put { MatchResult result
-            (λ _. pass.new ≡ after_put pass.old msg)
-            (λ full. (full.msg ≡ msg) × (pass.new ≡ pass.old) × WasFull self.now pass.old) }
+            (λ _. pass.new ≡ after_put pass.old post)
+            (λ full. (full.post ≡ post) × (pass.new ≡ pass.old) × WasFull self.now pass.old) }
         ensures alone { IfErr result (λ full. (pass.old.senders ≡ 1) × (pass.old.number ≡ 0) → self.now.capacity ≤ length pass.old.put) }
     {
-        match self.queue.push_as::<Puts, R>(rt, &mut pass.pass, msg) {
+        match self
+            .queue
+            .push_as::<Puts, R>(rt, &mut pass.pass, Letter::new(post))
+        {
             Ok(()) => Ok(()),
-            Err(msg) => Err(Full { msg }),
+            Err(letter) => Err(Full {
+                post: letter.open(),
+            }),
         }
     }
 
-    /// Takes the first message. An empty ring gives none, and then the pass is as
-    /// before. It takes no memory.
-    pub fn take<R: Wait>(&self, rt: &R, pass: &mut TakePass) -> Option<Msg>
+    /// Takes the first post, whose message brings the token that it names. An empty ring gives none,
+    /// and then the pass is as before. It takes no memory.
+    pub fn take<R: Wait>(&self, rt: &R, pass: &mut TakePass) -> Option<Post>
         requires ring { pass.old.ring ≡ self.now.ring }
-        ensures { MatchOption result ((pass.new ≡ pass.old) × WasEmpty pass.old) (λ msg. Took pass.old msg pass.new) }
+        ensures take { MatchOption result ((pass.new ≡ pass.old) × WasEmpty pass.old) (λ post. Took pass.old post pass.new) }
+        ensures brings { IfSome result (λ post. Brings post) }
     {
-        self.queue.pop_as::<Takes, R>(rt, &mut pass.pass)
+        let letter = self.queue.pop_as::<Takes, R>(rt, &mut pass.pass)?;
+        Some(letter.open())
     }
 
     /// Ends all senders at once. What they put and nobody took is still there to be handed out. It
@@ -249,11 +259,13 @@ impl Settling {
 impl Settled {
     ghost use Rattle.bd_ring.specs.Rings.{HandsOut, IsSpent};
 
-    /// Hands out the first message that was put and not taken. None exactly where nothing is left.
-    /// It takes no memory.
-    pub fn next<R: Wait>(&mut self, rt: &R) -> Option<Msg>
-        ensures { MatchOption result ((self.new ≡ self.old) × IsSpent self.old) (λ msg. HandsOut self.old msg self.new) }
+    /// Hands out the first post that was put and not taken, whose message brings the token that it
+    /// names. None exactly where nothing is left. It takes no memory.
+    pub fn next<R: Wait>(&mut self, rt: &R) -> Option<Post>
+        ensures next { MatchOption result ((self.new ≡ self.old) × IsSpent self.old) (λ post. HandsOut self.old post self.new) }
+        ensures brings { IfSome result (λ post. Brings post) }
     {
-        self.queue.pop_as::<TakesRest, R>(rt, &mut self.pass)
+        let letter = self.queue.pop_as::<TakesRest, R>(rt, &mut self.pass)?;
+        Some(letter.open())
     }
 }

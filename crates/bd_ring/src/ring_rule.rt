@@ -1,6 +1,6 @@
 //! The rule of a ring, and the kinds of step under it.
-use crate::note::Note;
-use bd_msg::Msg;
+use crate::letter::Letter;
+use bd_turns::Post;
 use crossbeam_queue::protocol::{Join, Lesson, Outcome, Protocol, Split};
 use std::collections::LinkedList;
 
@@ -12,17 +12,17 @@ pub struct View {
     pub senders: u64,
     pub receives: bool,
     pub made: u64,
-    pub ended: LinkedList<LinkedList<Note>>,
-    pub taken: LinkedList<Note>,
+    pub ended: LinkedList<LinkedList<Post>>,
+    pub taken: LinkedList<Post>,
     pub sends: bool,
     pub from: u32,
-    pub put: LinkedList<Note>,
+    pub put: LinkedList<Post>,
 }
 
 /// Of each sender, what was taken and then what the ring holds is what it put, in its order.
 pub struct KeepsOrder;
 
-impl Protocol<Msg, View> for KeepsOrder {
+impl Protocol<Letter, View> for KeepsOrder {
     ghost use Rattle.std.specs.Prelude.{[]};
     ghost use Rattle.bd_ring.specs.RingRule.{RingRule, receiver};
 
@@ -71,14 +71,14 @@ impl Join<View> for EndsSender {
 /// its senders alone, and of this one the last that it put.
 pub struct Puts;
 
-impl Outcome<Msg, View> for Puts {
+impl Outcome<Letter, View> for Puts {
     ghost use Rattle.std.specs.Prelude.{◌≡◌};
     ghost use Rattle.bd_ring.specs.RingRule.{after_put};
 
     ghost then = { λ v x w. w ≡ after_put v x };
 }
 
-impl Lesson<Msg, View> for Puts {
+impl Lesson<Letter, View> for Puts {
     ghost use Rattle.bd_ring.specs.RingRule.{HoldsLast};
 
     ghost fact = { HoldsLast };
@@ -87,13 +87,13 @@ impl Lesson<Msg, View> for Puts {
 /// A take: the message that stood first leaves.
 pub struct Takes;
 
-impl Outcome<Msg, View> for Takes {
+impl Outcome<Letter, View> for Takes {
     ghost use Rattle.bd_ring.specs.RingRule.{IsTaken};
 
     ghost then = { IsTaken };
 }
 
-impl Lesson<Msg, View> for Takes {
+impl Lesson<Letter, View> for Takes {
     ghost use Rattle.bd_ring.specs.RingRule.{Delivers};
 
     ghost fact = { Delivers };
@@ -102,13 +102,13 @@ impl Lesson<Msg, View> for Takes {
 /// A take after all senders have ended, which also tells what was left of them.
 pub struct TakesRest;
 
-impl Outcome<Msg, View> for TakesRest {
+impl Outcome<Letter, View> for TakesRest {
     ghost use Rattle.bd_ring.specs.RingRule.{IsNext};
 
     ghost then = { IsNext };
 }
 
-impl Lesson<Msg, View> for TakesRest {
+impl Lesson<Letter, View> for TakesRest {
     ghost use Rattle.bd_ring.specs.RingRule.{Delivers};
 
     ghost fact = { Delivers };

@@ -1,39 +1,29 @@
-use crate::exchange::{exchange, message};
+use crate::exchange::{exchange, post};
 use crate::ring::Ring;
 use crate::slot::Slot;
 use crate::writers::{Journal, two_writers};
-use bd_base::{DevId, Entry};
-use bd_msg::{Body, Msg};
+use bd_base::{DevId, Entry, Token};
+use bd_turns::Post;
 use std::test::Fail;
 
-fn device_of(msg: &Msg) -> Option<DevId> {
-    match &msg.body {
-        Body::DropChannel { dev } => Some(*dev),
+fn device_of(post: &Post) -> Option<DevId> {
+    match &post.message.what {
+        Token::Channel(dev) => Some(*dev),
         _ => None,
     }
 }
 
-// How many messages came from each of 16 senders, or None where one came out of its order.
-fn count_in_order(taken: &[Msg]) -> Option<[u32; 16]> {
+// How many posts came from each of 16 senders, or None where one came out of its order.
+fn count_in_order(taken: &[Post]) -> Option<[u32; 16]> {
     let mut next = [0u32; 16];
-    for msg in taken {
-        let from = msg.from.0 as usize;
-        if from >= 16 || device_of(msg) != Some(DevId(next[from])) {
+    for post in taken {
+        let sender = post.message.sender as usize;
+        if sender >= 16 || device_of(post) != Some(DevId(next[sender])) {
             return None;
         }
-        next[from] = next[from].wrapping_add(1);
+        next[sender] = next[sender].wrapping_add(1);
     }
     Some(next)
-}
-
-#[test]
-fn two_senders_and_one_receiver(rt: HostRuntime) -> Result<(), Fail> {
-    let taken = exchange(&rt, rt.alloc(), 4, 2, 1000)?;
-    let mut expected = [0; 16];
-    expected[0] = 1000;
-    expected[1] = 1000;
-    assert!(rt; count_in_order(taken.as_slice()) == Some(expected));
-    Ok(())
 }
 
 #[test]
@@ -69,43 +59,29 @@ fn two_threads_write_in_turn(rt: HostRuntime) -> Result<(), Fail> {
 
 #[test]
 fn capacity_of_one(rt: HostRuntime) -> Result<(), Fail> {
-    let (ring, mut sends, mut take) = Ring::new(rt.alloc(), 1, 1)?;
-    let Some(mut send) = sends.pop() else {
+    let (ring, mut sends, mut take) = Ring::new(rt.alloc(), 1, 2)?;
+    let (Some(mut second), Some(first)) = (sends.pop(), sends.pop()) else {
         unreachable!()
     };
     assert!(rt; ring.take(&rt, &mut take).is_none());
-    assert!(rt; ring.put(&rt, &mut send, message(0, 0)).is_ok());
-    let refused = match ring.put(&rt, &mut send, message(0, 1)) {
+    assert!(rt; ring.put(&rt, &mut second, post(1, 0)).is_ok());
+    let refused = match ring.put(&rt, &mut second, post(1, 1)) {
         Ok(()) => None,
-        Err(full) => device_of(&full.msg),
+        Err(full) => device_of(&full.post),
     };
     assert_eq!(rt; refused, Some(DevId(1)));
     let taken = ring.take(&rt, &mut take);
     assert_eq!(rt; taken.as_ref().and_then(device_of), Some(DevId(0)));
     assert!(rt; ring.take(&rt, &mut take).is_none());
-    assert!(rt; ring.put(&rt, &mut send, message(0, 2)).is_ok());
-    Ok(())
-}
-
-#[test]
-fn what_is_left_is_handed_out(rt: HostRuntime) -> Result<(), Fail> {
-    let (ring, mut sends, mut take) = Ring::new(rt.alloc(), 4, 2)?;
-    let (Some(mut second), Some(mut first)) = (sends.pop(), sends.pop()) else {
-        unreachable!()
-    };
-    assert!(rt; ring.put(&rt, &mut second, message(1, 0)).is_ok());
-    assert!(rt; ring.put(&rt, &mut first, message(0, 1)).is_ok());
-    assert!(rt; ring.put(&rt, &mut second, message(1, 2)).is_ok());
-    assert!(rt; ring.take(&rt, &mut take).is_some());
+    assert!(rt; ring.put(&rt, &mut second, post(1, 2)).is_ok());
 
     let mut settling = ring.close(take);
     settling.absorb(first);
     settling.absorb(second);
     let mut settled = settling.finish();
-    for expected in [Some(DevId(1)), Some(DevId(2)), None] {
-        let left = settled.next(&rt);
-        assert_eq!(rt; left.as_ref().and_then(device_of), expected);
-    }
+    let left = settled.next(&rt);
+    assert_eq!(rt; left.as_ref().and_then(device_of), Some(DevId(2)));
+    assert!(rt; settled.next(&rt).is_none());
     Ok(())
 }
 

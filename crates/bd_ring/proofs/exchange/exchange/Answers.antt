@@ -1,7 +1,7 @@
 use Rattle.std.proofs.Common.{◌≡◌, List, [], get_or, length, rules, ap, sym, ◌∙◌, arith}
 use Rattle.std.proofs.lemmas.List.{length-map}
-use Rattle.bd_ring.specs.declared.note.Note.{Note}
-use Rattle.bd_ring.specs.Notes.{sent_by}
+use Rattle.bd_turns.specs.declared.queue.Post.{Post}
+use Rattle.bd_ring.specs.Posts.{sent_by}
 use Rattle.bd_ring.specs.Rings.{Receiver}
 use Rattle.bd_ring.proofs.NewSenders.{length-first_senders, are_new, are_senders, put_of}
 use Rattle.bd_ring.proofs.exchange.exchange.Goals as goal
@@ -27,5 +27,5 @@ returns-in-None-next g c =
     let len : length c.join-sends.result.0.items ≡ length c.in_ok-ring.sends.items = sym c.join-sends.result.0.ok.0 ∙ first.0 ∙ c.in_ok-ring.sends.ok.0 in
     let puts = c.loop.invariant.puts ∙ c.settle-settled.ensures.puts in
     let n : length c.loop.settled.puts ≡ c.args.senders = ap length puts ∙ length-map c.join-sends.result.0.items (λ s. s.put) ∙ len ∙ ap length c.in_ok-ring.ensures.sends ∙ length-first_senders c.in_ok-ring.ring.ring c.args.senders c.args.senders in
-    λ k lt. ap (sent_by k) (sym c.loop.invariant.taken) ∙ c.in-None-next.ensures.1 k (omega arith) ∙ ap (λ (l : List (List Note)). get_or l k []) puts
+    λ k lt. ap (sent_by k) (sym c.loop.invariant.taken) ∙ c.in-None-next.ensures.next.1 k (omega arith) ∙ ap (λ (l : List (List Post)). get_or l k []) puts
     ∙ put_of c.in_ok-ring.ring.ring c.args.senders c.args.senders c.args.count c.in_ok-ring.sends.items c.join-sends.result.0.items c.in_ok-ring.ensures.sends len first.1 k lt

@@ -1,9 +1,8 @@
-use Rattle.std.proofs.Common.{◌≡◌, map}
-use Rattle.bd_ring.specs.Notes.{note_of}
+use Rattle.std.proofs.Common.{◌≡◌}
 use Rattle.bd_ring.proofs.exchange.exchange.Given as goal
 
 abbrev pub invariant-loop : goal.invariant-loop
 invariant-loop g l = record {
   puts : l.settled.puts ≡ l.initial.settled.puts;
-  taken : l.settled.taken ≡ map note_of l.taken.items;
+  taken : l.settled.taken ≡ l.taken.items;
 }
