@@ -1,6 +1,8 @@
 //! The laws of logs. Each function says one of them: its body is empty, and its clause is the law,
 //! which the definitions alone prove.
 ghost use Rattle.bd_merged.specs.Laws.{FollowedIsFound, LogsAreCompleteRun, LogsAreRun, LogsGiveOwn, MergeOfParts, OthersLeaveOwn, OwnIsFound};
+ghost use Rattle.bd_merged.specs.Loose.{LooseLogsAreCompleteRun};
+ghost use Rattle.bd_merged.specs.Turning.{TurnIsAccepted};
 
 /// Logs that the rules accept and that fit together are merged into a run.
 pub fn logs_are_run()
@@ -41,4 +43,16 @@ pub fn logs_give_own()
 /// The merge of parts, one for each thread with the entries of its log, is the merge of the logs.
 pub fn merge_of_parts()
     ensures { MergeOfParts }
+{}
+
+/// What a thread does by the local rules, over queues and a registry that it has for itself, are
+/// rows that the rules accept, whatever stamps from 1 on its log gives them.
+pub fn turn_is_accepted()
+    ensures { TurnIsAccepted }
+{}
+
+/// The same of logs that fit by their messages and by the stamps of their own entries, where no row
+/// knows the stamp of the Put whose message it took.
+pub fn loose_logs_are_complete_run()
+    ensures { LooseLogsAreCompleteRun }
 {}

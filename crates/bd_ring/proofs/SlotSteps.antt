@@ -10,7 +10,7 @@ use Rattle.crossbeam_queue.proofs.Lists.{set_here, set_else, at_longer}
 use Rattle.bd_base.specs.declared.act.Entry.{Entry}
 use Rattle.bd_base.specs.declared.journal.Start.{Start}
 use Rattle.bd_ring.specs.declared.slot_rule.SlotView.{SlotView}
-use Rattle.bd_ring.specs.SlotRule.{rows_of, StartsWith, AddsOwn, newcomer, opened_at, server, nobody, one_more, with_ended, after_give, after_take, IsTaken, IsAway, IsLast, Fits, Whereabouts, SlotRule}
+use Rattle.bd_ring.specs.SlotRule.{rows_of, StartsWith, BeginsWithEach, AddsOwn, newcomer, opened_at, server, nobody, one_more, with_ended, after_give, after_take, IsTaken, IsAway, IsLast, Fits, Whereabouts, SlotRule}
 use Rattle.bd_ring.proofs.Views.{below, same_view, All, all_set, all_snoc, was_there}
 
 off : false ≡ true → ⊥
@@ -51,6 +51,22 @@ settled_more ended wrote now before own k lt = ⊎_elim
     below_or_at : (k n : ℕ) → k < n + 1 → (k < n) ⊎ (k ≡ n)
     below_or_at k n h = grind arith
 
+seen_further : (now rows : List Entry) (viewed : List (List Entry)) → BeginsWithEach now viewed → BeginsWithEach (now ++ rows) viewed
+seen_further now rows viewed h k lt = further now rows (get_or viewed k []) (h k lt)
+
+seen_more : (now seen : List Entry) (viewed : List (List Entry)) → BeginsWithEach now viewed → StartsWith now seen → BeginsWithEach now (viewed ++ seen ∷ [])
+seen_more now seen viewed h s k lt = ⊎_elim
+    (λ (less : k < length viewed). subst (StartsWith now) (sym (get_or_append_left viewed (seen ∷ []) [] k less)) (h k less))
+    (λ (is : k ≡ length viewed). subst (StartsWith now) (sym (get_or_push viewed seen [] k (sym is))) s)
+    (below_or_at k (length viewed) (omega (arith, length-append viewed (seen ∷ []))))
+  where
+    below_or_at : (k n : ℕ) → k < n + 1 → (k < n) ⊎ (k ≡ n)
+    below_or_at k n h = grind arith
+
+seen_first : (now seen : List Entry) (viewed : List (List Entry)) → StartsWith now seen → BeginsWithEach now viewed → BeginsWithEach now (seen ∷ viewed)
+seen_first now seen viewed s h zero lt = s
+seen_first now seen viewed s h (suc k) lt = h k (omega arith)
+
 module _ {R : Type 0} (journal : R → List Entry) (begins : R → Start) where
   abbrev Rule : List R → List SlotView → Type 0
   Rule = SlotRule journal begins
@@ -85,7 +101,7 @@ module _ {R : Type 0} (journal : R → List Entry) (begins : R → Start) where
       one : All (Fits 1 newcomer.start [] [] (Some 0)) (newcomer ∷ [])
       one zero v e = subst (Fits 1 newcomer.start [] [] (Some 0) 0) (some-injective _ _ e) (
         (λ _. (refl, (λ n. absurd (n refl)), ([], refl), refl, (λ o. absurd (off o)))),
-        (λ _. (refl, refl, refl, refl)),
+        (λ _. (refl, refl, refl, refl, (λ k lt. absurd (omega arith)))),
         (λ _. (refl, refl, refl)),
       )
       one (suc pass) v e = absurd (some-ne-none v (sym e))
@@ -107,7 +123,7 @@ module _ {R : Type 0} (journal : R → List Entry) (begins : R → Start) where
             (λ k le. refl)
             (all_set (Fits (length views) (begins x) [] [] None) views pass w (
               (λ _. (leads.0, (λ o. absurd (o refl)), ([], refl), refl, (λ _. refl))),
-              (λ _. (leads.0, refl, leads.2, refl)),
+              (λ _. (leads.0, refl, leads.2, refl, (λ k lt. absurd (omega arith)))),
               (λ o. absurd (off o)),
             )
             (λ j u other e. absurd (other (let b = below views j u e in let z = leads.0 in omega arith)))),
@@ -140,7 +156,7 @@ module _ {R : Type 0} (journal : R → List Entry) (begins : R → Start) where
                 moved v.thread h.1 rows own.2 ∙ ap (λ l. l ++ rows) serves.3 ∙ ap (λ l. v.wrote ++ l) (sym added),
                 serves.4,
               )),
-              mine.1,
+              (λ o. let f = mine.1 o in (f.0, f.1, f.2, f.3, seen_further h.1 rows v.viewed f.4)),
               (λ o. absurd (off o)),
             )
             (λ j u other e.
@@ -153,7 +169,7 @@ module _ {R : Type 0} (journal : R → List Entry) (begins : R → Start) where
                     unmoved u.thread v.thread h.1 rows (λ same. other (f.0 ∙ same ∙ sym serves.0)) own.2 ∙ f.3,
                     f.4,
                   )),
-              theirs.1,
+              (λ o. let f = theirs.1 o in (f.0, f.1, f.2, f.3, seen_further h.1 rows u.viewed f.4)),
               (λ o. absurd (other (same_some j pass (sym (theirs.2 o).0 ∙ held.0)))),
             ))),
         refl,
@@ -216,7 +232,7 @@ module _ {R : Type 0} (journal : R → List Entry) (begins : R → Start) where
       (λ k le. h.4.2 k (omega arith))
       (all_snoc F vs right
       (all_set F views pass left
-      (mine.0, (λ _. (here.0, here.1, ap (λ n. n + 1) here.2, here.3)), mine.2)
+      (mine.0, (λ _. (here.0, here.1, ap (λ n. n + 1) here.2, here.3, here.4)), mine.2)
       (λ j u other e. let theirs = h.4.3 j u e in (theirs.0, (λ o. absurd (other ((theirs.1 o).0 ∙ sym here.0))), theirs.2))) (
         (λ _. (len ∙ sym here.2, (λ n. positive v.made (length h.2) n no_ended), (h.1, refl), h.4.2 v.made (let m = here.2 in omega arith), (λ _. serves.4 opened))),
         (λ o. absurd (off o)),
@@ -245,7 +261,7 @@ module _ {R : Type 0} (journal : R → List Entry) (begins : R → Start) where
       let serves' = mine.0 here.1 in
       let now : All G vs =
       all_set G views pass both
-      (λ _. ((λ s. (serves'.0, (λ z. absurd (z (sym serves'.0 ∙ here.0))), serves'.2, serves'.3, serves'.4)), (λ _. (here.0, here.1, here.2, ap (λ l. l ++ u.wrote ∷ []) here.3)), (λ o. absurd (on_off v.holds o free))))
+      (λ _. ((λ s. (serves'.0, (λ z. absurd (z (sym serves'.0 ∙ here.0))), serves'.2, serves'.3, serves'.4)), (λ _. (here.0, here.1, here.2, ap (λ l. l ++ u.wrote ∷ []) here.3, seen_more h.1 u.seen v.viewed here.4 theirs.2)), (λ o. absurd (on_off v.holds o free))))
       (λ j y away e there.
       let f = h.4.3 j y e in (
         (λ s. let q = f.0 s in (q.0, (λ z. above_next (length h.2) (length ended) u.thread y.thread j other longer thread_is theirs.0 q.0 there (q.1 z)), q.2, q.3, q.4)),
@@ -314,6 +330,7 @@ module _ {R : Type 0} (journal : R → List Entry) (begins : R → Start) where
           ap (λ k. rows_of k (journal x)) (sym first) ∙ t.2.2,
           (λ k lt. subst (λ (l : List (List Entry)). get_or l k [] ≡ rows_of (k + 1) (journal x)) (sym here.3) (h.4.1 k (subst (λ (l : List (List Entry)). k < length l) here.3 lt) ∙ ap (rows_of (k + 1)) (sym home.2))),
           (λ k le. ap (rows_of k) home.2 ∙ h.4.2 k (subst (λ n. n ≤ k) here.2 le)),
+          subst (λ l. BeginsWithEach l (v.seen ∷ v.viewed)) (sym home.2) (seen_first h.1 v.seen v.viewed (subst (λ l. StartsWith l v.seen) home.2 t.2.1) here.4),
         ),
       )
 

@@ -13,6 +13,10 @@ rows_of thread rows = filter (λ r. r.thread == thread) rows
 abbrev pub StartsWith : List Entry → List Entry → Type 0
 StartsWith rows front = (rest : List Entry) × (rows ≡ front ++ rest)
 
+-- the journal begins with each of these
+abbrev pub BeginsWithEach : List Entry → List (List Entry) → Type 0
+BeginsWithEach journal fronts = (k : ℕ) → k < length fronts → StartsWith journal (slice_index_or fronts k [])
+
 -- the rows after the earlier journal are of this thread alone
 abbrev pub AddsOwn : ℕ → List Entry → List Entry → Type 0
 AddsOwn thread before after = (rows : List Entry) × (after ≡ before ++ rows) × All (λ r. r.thread ≡ thread) rows
@@ -23,25 +27,25 @@ no_start = record { threads = 0; devices = []; rates = []; injections = [] }
 
 -- the leading pass, which has the value before the slot does
 abbrev pub newcomer : SlotView
-newcomer = record { serves = true; leads = true; opened = false; holds = true; thread = 0; made = 1; start = no_start; seen = []; wrote = []; ended = [] }
+newcomer = record { serves = true; leads = true; opened = false; holds = true; thread = 0; made = 1; start = no_start; seen = []; wrote = []; ended = []; viewed = [] }
 
 -- the leading pass, once the value is in the slot
 abbrev pub opened_at : Start → SlotView
-opened_at start = record { serves = true; leads = true; opened = true; holds = false; thread = 0; made = 1; start = start; seen = []; wrote = []; ended = [] }
+opened_at start = record { serves = true; leads = true; opened = true; holds = false; thread = 0; made = 1; start = start; seen = []; wrote = []; ended = []; viewed = [] }
 
 -- the new pass of another thread
 abbrev pub server : ℕ → Start → SlotView
-server thread start = record { serves = true; leads = false; opened = true; holds = false; thread = thread; made = 0; start = start; seen = []; wrote = []; ended = [] }
+server thread start = record { serves = true; leads = false; opened = true; holds = false; thread = thread; made = 0; start = start; seen = []; wrote = []; ended = []; viewed = [] }
 
 -- the pass of a thread that has ended
 abbrev pub nobody : SlotView
-nobody = record { serves = false; leads = false; opened = false; holds = false; thread = 0; made = 0; start = no_start; seen = []; wrote = []; ended = [] }
+nobody = record { serves = false; leads = false; opened = false; holds = false; thread = 0; made = 0; start = no_start; seen = []; wrote = []; ended = []; viewed = [] }
 
 abbrev pub one_more : SlotView → SlotView
 one_more v = record v { made = v.made + 1 }
 
 abbrev pub with_ended : SlotView → SlotView → SlotView
-with_ended v u = record v { ended = v.ended ++ u.wrote ∷ [] }
+with_ended v u = record v { ended = v.ended ++ u.wrote ∷ []; viewed = v.viewed ++ u.seen ∷ [] }
 
 abbrev pub after_give : SlotView → List Entry → SlotView
 after_give v journal = record v { holds = false; seen = journal; wrote = v.wrote ++ drop (length v.seen) journal }
@@ -63,22 +67,23 @@ IsLast v journal start =
     (start ≡ v.start) × (rows_of 0 journal ≡ v.wrote)
     × ((k : ℕ) → k < length v.ended → slice_index_or v.ended k [] ≡ rows_of (k + 1) journal)
     × ((k : ℕ) → v.made ≤ k → rows_of k journal ≡ [])
+    × BeginsWithEach journal (v.seen ∷ v.viewed)
 
 -- the pass of thread n is pass n, and has not ended; the journal begins with what it last saw, and has of its thread what it made
 abbrev pub FitsServer : Start → List Entry → ℕ → ℕ → SlotView → Type 0
 FitsServer start now ended pass v =
     v.serves ≡ true → (pass ≡ v.thread) × (v.thread ≢ 0 → ended < v.thread) × StartsWith now v.seen × (rows_of v.thread now ≡ v.wrote) × (v.opened ≡ true → v.start ≡ start)
 
--- the leading pass is that of thread 0, and knows how many there are and what the ended ones made
-abbrev pub FitsLeader : ℕ → List (List Entry) → ℕ → SlotView → Type 0
-FitsLeader passes ended pass v = v.leads ≡ true → (pass ≡ 0) × (v.serves ≡ true) × (v.made ≡ passes) × (v.ended ≡ ended)
+-- the leading pass is that of thread 0, and knows how many there are, what the ended ones made, and what they last saw
+abbrev pub FitsLeader : ℕ → List Entry → List (List Entry) → ℕ → SlotView → Type 0
+FitsLeader passes now ended pass v = v.leads ≡ true → (pass ≡ 0) × (v.serves ≡ true) × (v.made ≡ passes) × (v.ended ≡ ended) × BeginsWithEach now v.viewed
 
 -- a pass that has the value is the one that has it
 abbrev pub FitsHolder : List Entry → Option ℕ → ℕ → SlotView → Type 0
 FitsHolder now holder pass v = v.holds ≡ true → (holder ≡ Some pass) × (v.serves ≡ true) × (v.seen ≡ now)
 
 abbrev pub Fits : ℕ → Start → List Entry → List (List Entry) → Option ℕ → ℕ → SlotView → Type 0
-Fits passes start now ended holder pass v = FitsServer start now (length ended) pass v × FitsLeader passes ended pass v × FitsHolder now holder pass v
+Fits passes start now ended holder pass v = FitsServer start now (length ended) pass v × FitsLeader passes now ended pass v × FitsHolder now holder pass v
 
 module _ {R : Type 0} (journal : R → List Entry) (begins : R → Start) where
   -- in the slot, or with this pass

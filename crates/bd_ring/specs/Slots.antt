@@ -22,7 +22,7 @@ seen_as slot v = record { slot = slot; thread = v.thread; passes = v.made; holds
 
 -- the pass of a thread, with the value in the slot since; that of thread 0 leads
 abbrev pub IsSound : SlotView → Type 0
-IsSound v = (v.serves ≡ true) × (v.opened ≡ true) × (v.thread ≡ 0 → (v.leads ≡ true) × (v.ended ≡ []))
+IsSound v = (v.serves ≡ true) × (v.opened ≡ true) × (v.thread ≡ 0 → (v.leads ≡ true) × (v.ended ≡ []) × (v.viewed ≡ []))
 
 -- a new pass
 abbrev pub holder : TableId → Start → ℕ → ℕ → Holder
@@ -58,16 +58,17 @@ IsTakenBy p journal start q = (q ≡ after_take p journal) × StartsWith journal
 abbrev pub WasAway : Holder → Type 0
 WasAway p = (other : ℕ) × (other ≢ p.thread) × (p.thread ≡ 0 → other < p.passes) × ((now : List Entry) × StartsWith now p.seen × (rows_of p.thread now ≡ p.wrote))
 
--- a slot whose passes are being ended: which one it is, how many passes there are, the start, and the rows that the ended ones made
+-- a slot whose passes are being ended: which one it is, how many passes there are, the start, and the rows that the ended ones made, and those that they last saw
 pub record Ending : Type 0 where
   pub slot : TableId
   pub passes : ℕ
   pub start : Start
   pub wrote : List (List Entry)
+  pub seen : List (List Entry)
 
 -- the leading pass while the others are being ended
 abbrev pub IsEnding : SlotView → Type 0
 IsEnding v = (v.leads ≡ true) × (v.opened ≡ true) × (v.holds ≡ false) × (v.thread ≡ 0)
 
 abbrev pub ending_as : TableId → SlotView → Ending
-ending_as slot v = record { slot = slot; passes = v.made; start = v.start; wrote = v.wrote ∷ v.ended }
+ending_as slot v = record { slot = slot; passes = v.made; start = v.start; wrote = v.wrote ∷ v.ended; seen = v.seen ∷ v.viewed }

@@ -1,7 +1,7 @@
 //! A slot that lends one value to one thread at a time.
 ghost use Rattle.std.specs.Prelude.{◌≡◌, ◌+◌, ◌<◌, ◌≤◌, [], ◌∷◌, ◌++◌, true, false, length, IfOk, IfNone, MatchOption, vec_len, slice_get, slice_index_or, Some, ℕ};
 ghost use Rattle.crossbeam_queue.specs.Passes.{view as known, IsPassOf};
-ghost use Rattle.bd_ring.specs.SlotRule.{AddsOwn, one_more, rows_of};
+ghost use Rattle.bd_ring.specs.SlotRule.{AddsOwn, BeginsWithEach, one_more, rows_of};
 ghost use Rattle.bd_ring.specs.Slots.{Holder, holder, new_holders, AreHoldersOf, after_give, IsTakenBy, WasAway};
 
 use crate::slot_rule::{
@@ -53,7 +53,7 @@ impl<R> Model for SlotPass<R> {
 }
 
 /// A slot whose passes are being ended one by one, seen as which slot it is, how many passes there
-/// are, the start, and the rows that the ended ones made.
+/// are, the start, and the rows that the ended ones made, and those that they last saw.
 #[derive(Drop)]
 pub struct SlotSettling<R: Journaled> {
     queue: RuledArrayQueue<R, SlotView, OneHolder>,
@@ -75,7 +75,7 @@ impl<R: Journaled> Model for SlotSettling<R> {
 // The pass of one more thread.
 fn next_pass<R: Journaled>(queue: &Queue<R>, pass: &mut Pass<R, SlotView>) -> SlotPass<R>
     requires queue { IsPassOf queue.now pass.old }
-    requires leads { ((known pass.old).leads ≡ true) × ((known pass.old).opened ≡ true) × ((known pass.old).holds ≡ false) × ((known pass.old).ended ≡ []) × (0 < (known pass.old).made) }
+    requires leads { ((known pass.old).leads ≡ true) × ((known pass.old).opened ≡ true) × ((known pass.old).holds ≡ false) × ((known pass.old).ended ≡ []) × ((known pass.old).viewed ≡ []) × (0 < (known pass.old).made) }
     ensures queue { IsPassOf queue.now pass.new }
     ensures leads { known pass.new ≡ one_more (known pass.old) }
     ensures next { result ≡ holder queue.now.table.shared.table_id (known pass.old).start (known pass.old).made 0 }
@@ -166,7 +166,7 @@ impl<R: Drop + Journaled> Slot<R> {
         requires slot { first.slot ≡ self }
         requires first { first.thread ≡ 0 }
         requires free { first.holds ≡ false }
-        ensures { result ≡ record { slot = self; passes = first.passes; start = first.start; wrote = first.wrote ∷ [] } }
+        ensures { result ≡ record { slot = self; passes = first.passes; start = first.start; wrote = first.wrote ∷ []; seen = first.seen ∷ [] } }
     {
         let Slot { queue } = self;
         let SlotPass { pass } = first;
@@ -180,7 +180,7 @@ impl<R: Drop + Journaled> SlotSettling<R> {
         requires slot { other.slot ≡ self.old.slot }
         requires next { other.thread ≡ length self.old.wrote }
         requires free { other.holds ≡ false }
-        ensures { self.new ≡ record self.old { wrote = self.old.wrote ++ other.wrote ∷ [] } }
+        ensures { self.new ≡ record self.old { wrote = self.old.wrote ++ other.wrote ∷ []; seen = self.old.seen ++ other.seen ∷ [] } }
     {
         let SlotPass { pass } = other;
         self.queue.absorb::<EndsPass>(&mut self.pass, pass);
@@ -192,6 +192,7 @@ impl<R: Drop + Journaled> SlotSettling<R> {
         ensures start { R.start result ≡ self.start }
         ensures rows { (k : ℕ) → k < length self.wrote → rows_of k (R.journal result) ≡ slice_index_or self.wrote k [] }
         ensures others { (k : ℕ) → length self.wrote ≤ k → rows_of k (R.journal result) ≡ [] }
+        ensures seen { BeginsWithEach (R.journal result) self.seen }
     {
         let SlotSettling { queue, mut pass } = self;
         match queue.pop_as::<TakesLast, W>(rt, &mut pass) {

@@ -7,7 +7,7 @@ use std::collections::LinkedList;
 ///
 /// Every pass knows its thread, whether it has the value, the journal that it last saw, and the
 /// rows that it made. The pass of thread 0 leads: it also knows how many passes there are, and what
-/// those made that have ended.
+/// those made and last saw that have ended.
 pub struct SlotView {
     pub serves: bool,
     pub leads: bool,
@@ -19,6 +19,7 @@ pub struct SlotView {
     pub seen: LinkedList<Entry>,
     pub wrote: LinkedList<Entry>,
     pub ended: LinkedList<LinkedList<Entry>>,
+    pub viewed: LinkedList<LinkedList<Entry>>,
 }
 
 /// The value is in the slot or with one pass, and of each thread its journal has the rows that the
@@ -92,7 +93,7 @@ impl<R> Lesson<R, SlotView> for GivesValue {
     ghost fact = { λ v items. items ≡ [] };
 }
 
-/// A join: a thread's pass ends, and the leading one keeps the rows that it made.
+/// A join: a thread's pass ends, and the leading one keeps the rows that it made and those that it saw.
 pub struct EndsPass;
 
 impl Join<SlotView> for EndsPass {
