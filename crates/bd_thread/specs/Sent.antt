@@ -31,14 +31,6 @@ TakesBy old before new after id (Some m) =
 abbrev pub Takes : Thread → Links → Thread → Links → Option Id → Type 0
 Takes old before new after id = TakesBy old before new after id (first_brought (queues_of before.queues.items old.me))
 
--- what is kept of a token on its way, where this is kept of it here: a request or a piece is out, or on its way back; what is sent once is only told
-abbrev pub on_way : Option News → Option Kept → Option Kept
-on_way None here = option_map sent here
-on_way (Some told) here = Some (keeps.Notice told)
-
-abbrev pub kept_on_way : Token → Option Kept → Option Kept
-kept_on_way what here = on_way (news_of what) here
-
 -- there is a queue to this thread, the token is one that threads put as yet, and it may go there
 abbrev pub may_put : Thread → Links → ℕ → Token → Bool
 may_put t links to what = nat_lt to (vec_len links.queues) && is_built_token what && may_go t.setup.now t.me (local t links).view to what
