@@ -57,21 +57,17 @@ impl<'a> Thread<'a> {
     }
 
     // Aborts a request where the rules let it, and completes it where none of its pieces is out.
-    fn stop(
-        &mut self,
-        links: &mut Links,
-        req: ReqId,
-        cause: AbortCause,
-    ) -> Result<(), OutOfMemory>
+    fn stop(&mut self, links: &mut Links, req: ReqId, cause: AbortCause) -> Result<(), OutOfMemory>
         requires { self.old.me < vec_len links.old.queues }
         ensures acted { OnOk result (Acted self.old links.old self.new links.new) }
         ensures tickets { OnOk result (KeepsTickets self.old → KeepsTickets self.new) }
         ensures stops { OnOk result (Stops req cause self.old links.old self.new links.new) }
     {
-        if !self.abort(links, req, cause)? {
+        let stopped = self.abort(links, req, cause)?;
+        if !stopped {
             return Ok(());
         }
-        self.complete(links, req)?;
+        let _completed = self.complete(links, req)?;
         Ok(())
     }
 

@@ -85,12 +85,7 @@ impl<'a> Thread<'a> {
     }
 
     // Where a walk of this kind set the mark of a removal, what waits here is aborted.
-    fn stop_for(
-        &mut self,
-        links: &mut Links,
-        kind: WalkKind,
-        dev: DevId,
-    ) -> Result<(), OutOfMemory>
+    fn stop_for(&mut self, links: &mut Links, kind: WalkKind, dev: DevId) -> Result<(), OutOfMemory>
         requires { self.old.me < vec_len links.old.queues }
         ensures acted { OnOk result (Acted self.old links.old self.new links.new) }
         ensures tickets { OnOk result (KeepsTickets self.old → KeepsTickets self.new) }

@@ -1,7 +1,12 @@
-use Rattle.std.proofs.Common.{◌≡◌, Some, true, refl, sym, ◌∙◌, ap}
+use Rattle.std.proofs.Common.{◌≡◌, Some, true, refl, sym, ◌∙◌, ap, subst}
 use Rattle.bd_base.specs.declared.act.Act.TheVariants as acts
+use Rattle.bd_machine.specs.declared.state.Id.TheVariants as ids
+use Rattle.bd_machine.specs.declared.state.Kept.TheVariants as keeps
+use Rattle.bd_machine.specs.declared.state.OpenRequest.{OpenRequest}
 use Rattle.bd_machine.specs.Aborts.{stopped}
+use Rattle.bd_due.specs.Stopping.{without_unsent}
 use Rattle.bd_links.specs.Entries.{longer}
+use Rattle.bd_links.specs.Tokens.{here_in, Sets}
 use Rattle.bd_thread.specs.declared.links.Links.{Links}
 use Rattle.bd_thread.specs.declared.thread.Thread.{Thread}
 use Rattle.bd_thread.specs.Aborts.{abort_due, Aborts, IsAborted}
@@ -13,7 +18,7 @@ use Rattle.bd_thread.proofs.Going.{carried}
 use Rattle.bd_thread.proofs.thread.Thread.abort.Goals as goal
 
 pub returns-in_default-clause-aborts : goal.returns-in_default-clause-aborts
-returns-in_default-clause-aborts c = stays_open _ _ _ _ (sym c.abort_due.ensures ∙ c.in_default.is)
+returns-in_default-clause-aborts c = stays_open c.args.self.now c.args.links.now c.args.req c.args.cause (sym c.abort_due.ensures ∙ c.in_default.is)
 
 pub returns : goal.returns
 returns c =
@@ -27,8 +32,8 @@ returns c =
     let thread = c.in_ok-note.ensures.thread ∙ ap (λ p. let n : Thread = record new { part = untaken p } in n) c.stop_waiting.ensures in
     let is : IsAborted c.args.req c.args.cause r old before new after = record {
       thread = refl;
-      held = c.in_ok-hold.ensures;
-      outbox = c.drop_unsent.ensures;
+      held = subst (λ (x : OpenRequest). Sets old.held.items c.hold.new.tokens.items (ids.Request c.args.req) (Some (keeps.Request x))) c.aborted.ensures c.in_ok-hold.ensures;
+      outbox = c.drop_unsent.ensures ∙ ap (λ xs. without_unsent c.args.req (here_in xs) old.outbox.items) c.as_slice.ensures.value;
       links = refl;
     } in
     record {

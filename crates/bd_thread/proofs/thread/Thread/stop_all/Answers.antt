@@ -9,7 +9,7 @@ pub loop-request-init : goal.loop-request-init
 loop-request-init c = record {
   acted = acted_none _ _;
   tickets = λ keeps. keeps;
-  stops = λ n links each. subst (λ (os : List Open). StopsEach os c.args.cause c.args.self.now c.args.links.now n links) (c.as_slice.ensures ∙ c.in_ok-open.ensures) each;
+  stops = λ n links each. subst (λ (os : List Open). StopsEach os c.args.cause c.args.self.now c.args.links.now n links) (c.as_slice-request-items.ensures ∙ c.in_ok-open.ensures) each;
 }
 
 pub loop-request-preserved : goal.loop-request-preserved
@@ -21,8 +21,8 @@ loop-request-preserved c = record {
       (record { middle = c.stop.new.self; shared = c.stop.new.links; first = c.in_ok-stop.ensures.stops; second = each }));
 }
 
-pub returns-after-loop-request : goal.returns-after-loop-request
-returns-after-loop-request c = record {
+pub returns : goal.returns
+returns c = record {
   acted = c.loop-request.invariant.acted;
   tickets = c.loop-request.invariant.tickets;
   stops = c.loop-request.invariant.stops _ _
