@@ -1,14 +1,10 @@
 -- What a thread takes from its queue and puts into others', and the entries that say so.
 use Rattle.std.specs.Prelude.{◌≡◌, ℕ, Bool, true, false, cond, ◌&&◌, nat_lt, vec_len, List, [], ◌∷◌, Option, Some, None}
-use Rattle.std.specs.Option.{option_map}
 use Rattle.bd_base.specs.declared.act.Act.TheVariants as acts
 use Rattle.bd_base.specs.declared.act.Token.{Token}
 use Rattle.bd_machine.specs.declared.state.Id.{Id}
-use Rattle.bd_machine.specs.declared.state.Kept.{Kept}
-use Rattle.bd_machine.specs.declared.state.Kept.TheVariants as keeps
-use Rattle.bd_machine.specs.declared.state.News.{News}
 use Rattle.bd_machine.specs.Guards.{is_built_token}
-use Rattle.bd_machine.specs.Messages.{brings, count_at, may_go, news_of, sent}
+use Rattle.bd_machine.specs.Messages.{brings, count_at, may_go}
 use Rattle.bd_turns.specs.declared.queue.Message.{Message}
 use Rattle.bd_turns.specs.Tied.{id_next}
 use Rattle.bd_links.specs.Entries.{longer}

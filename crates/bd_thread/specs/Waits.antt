@@ -1,7 +1,6 @@
 -- What a thread waits for where its turn added no entry.
 use Rattle.std.specs.Prelude.{◌≡◌, ℕ, ◌<◌, ◌≤◌, ◌^◌, Bool, true, false, not, ◌&&◌, ◌||◌, nat_lt, List, [], ◌∷◌, length, find, vec_len, Option, Some, None, is_some}
 use Rattle.bd_base.specs.declared.act.Token.{Token}
-use Rattle.bd_base.specs.declared.act.Token.TheVariants as tokens
 use Rattle.bd_base.specs.declared.id.DevId.{DevId}
 use Rattle.bd_base.specs.declared.job.Job.{Job}
 use Rattle.bd_base.specs.declared.job.Job.TheVariants as jobs
@@ -9,8 +8,6 @@ use Rattle.bd_base.specs.declared.id.HandleId.{HandleId}
 use Rattle.bd_base.specs.declared.setup.Setup.{Setup}
 use Rattle.bd_blocks.specs.Digests.{digest_due}
 use Rattle.bd_machine.specs.declared.state.Due.{Due}
-use Rattle.bd_machine.specs.declared.state.News.{News}
-use Rattle.bd_machine.specs.declared.state.News.TheVariants as news
 use Rattle.bd_machine.specs.Admission.{has_range}
 use Rattle.bd_machine.specs.Asked.{bound_to, is_script_blocked, most_requests, undecided_job}
 use Rattle.bd_machine.specs.BlockMap.{is_malloc}

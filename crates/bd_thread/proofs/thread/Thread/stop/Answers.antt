@@ -1,4 +1,4 @@
-use Rattle.std.proofs.Common.{Bool, subst}
+use Rattle.std.proofs.Common.{subst}
 use Rattle.bd_thread.specs.Aborts.{Aborts}
 use Rattle.bd_thread.proofs.Aborting.{stops_none, stops_so}
 use Rattle.bd_thread.proofs.Going.{acted_then}

@@ -1,4 +1,4 @@
-use Rattle.std.proofs.Common.{List, [], drop, refl, sym, ◌∙◌, ap, subst, arith}
+use Rattle.std.proofs.Common.{List, refl, sym, ◌∙◌, subst, arith}
 use Rattle.std.proofs.lemmas.List.{drop_all, drop_more}
 use Rattle.bd_machine.specs.declared.state.Open.{Open}
 use Rattle.bd_thread.specs.Aborts.{StopsEach}
