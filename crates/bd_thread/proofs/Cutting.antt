@@ -1,5 +1,5 @@
 -- Cut, by the local rules.
-use Rattle.std.proofs.Common.{◌≡◌, ℕ, ◌+◌, Bool, true, false, cond, List, ◌∷◌, length, Option, Some, refl, sym, ◌∙◌, ap, ap₂, subst, eq-eqb}
+use Rattle.std.proofs.Common.{◌≡◌, ℕ, ◌+◌, Bool, true, false, List, length, Option, Some, refl, sym, ◌∙◌, ap, ap₂, subst, eq-eqb}
 use Rattle.bd_base.specs.declared.act.Act.TheVariants as acts
 use Rattle.bd_base.specs.declared.id.ReqId.{ReqId}
 use Rattle.bd_base.specs.declared.setup.Setup.{Setup}
@@ -8,14 +8,12 @@ use Rattle.bd_machine.specs.declared.state.Id.{Id}
 use Rattle.bd_machine.specs.declared.state.Id.TheVariants as ids
 use Rattle.bd_machine.specs.declared.state.Kept.{Kept}
 use Rattle.bd_machine.specs.declared.state.Kept.TheVariants as keeps
-use Rattle.bd_machine.specs.declared.state.OpenPiece.{OpenPiece}
 use Rattle.bd_machine.specs.declared.state.OpenRequest.{OpenRequest}
 use Rattle.bd_machine.specs.declared.state.Part.{Part}
 use Rattle.bd_machine.specs.declared.state.Registry.{Registry}
 use Rattle.bd_machine.specs.Alone.{held_after}
 use Rattle.bd_machine.specs.Kept.{as_request, request_here}
-use Rattle.bd_machine.specs.Requests.{cut_into, extents_of, has_extents, may_cut, new_piece, pieces_made}
-use Rattle.bd_machine.specs.Same.{same_id}
+use Rattle.bd_machine.specs.Requests.{cut_into, extents_of, has_extents, may_cut, pieces_made}
 use Rattle.bd_turns.specs.declared.queue.Message.{Message}
 use Rattle.bd_turns.specs.Local.{Local}
 use Rattle.bd_links.specs.Queues.{queues_of}
@@ -27,20 +25,6 @@ use Rattle.bd_thread.specs.Cuts.{may_cut_now, Cuts, CutsBy, IsCut}
 use Rattle.bd_thread.specs.Seen.{local_at, untaken, view_of}
 use Rattle.bd_thread.proofs.Going.{Steps, steps, still_shut}
 use Rattle.bd_thread.proofs.Submissions.{acted_into}
-
--- a piece is held, and those that are left come after it
-pub hold_step : (setup : Setup) (req : ReqId) (r : OpenRequest) (k more : ℕ) (extent : Extent) (left rest : List Extent) (p : OpenPiece) (old new : List (Id × Kept)) (total : Id → Option Kept)
-    → left ≡ extent ∷ rest
-    → p ≡ new_piece setup r k extent
-    → more ≡ k + 1
-    → Sets old new (ids.Piece req k) (Some (keeps.Piece p))
-    → held_after (pieces_made setup req r k left) (here_in old) ≡ total
-    → held_after (pieces_made setup req r more rest) (here_in new) ≡ total
-hold_step setup req r k more extent left rest p old new total is piece next sets all =
-    ap₂ (λ (n : ℕ) (here : Id → Option Kept). held_after (pieces_made setup req r n rest) here) next sets
-    ∙ ap (λ (q : OpenPiece). held_after (pieces_made setup req r (k + 1) rest) (λ j. cond (same_id (ids.Piece req k) j) (Some (keeps.Piece q)) (here_in old j))) piece
-    ∙ sym (ap (λ (es : List Extent). held_after (pieces_made setup req r k es) (here_in old)) is)
-    ∙ all
 
 -- the request by how many pieces it has, and then its pieces
 pub cut_held : (setup : Setup) (req : ReqId) (r : OpenRequest) (n : ℕ) (found : List Extent) (old cut new : List (Id × Kept))

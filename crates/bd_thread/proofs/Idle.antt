@@ -1,5 +1,5 @@
 -- What adds no entry changes nothing.
-use Rattle.std.proofs.Common.{◌≡◌, ℕ, ◌≤◌, Bool, true, false, ◌==◌, List, length, Option, Some, None, Result, Ok, Err, OnOk, IfOk, refl, ◌∙◌, ap, subst, arith, find}
+use Rattle.std.proofs.Common.{◌≡◌, ℕ, ◌≤◌, Bool, true, false, ◌==◌, List, [], ◌∷◌, length, Option, Some, None, Result, Ok, Err, OnOk, IfOk, refl, ◌∙◌, ap, subst, arith, find}
 use Rattle.std.proofs.lemmas.List.{length-append}
 use Rattle.bd_base.specs.declared.act.Act.{Act}
 use Rattle.bd_base.specs.declared.act.Act.TheVariants as acts
@@ -10,10 +10,16 @@ use Rattle.bd_base.specs.declared.event.RegEvent.TheVariants as events
 use Rattle.bd_base.specs.declared.id.DevId.{DevId}
 use Rattle.bd_base.specs.declared.id.ReqId.{ReqId}
 use Rattle.bd_base.specs.declared.id.WalkId.{WalkId}
+use Rattle.bd_base.specs.declared.request.AbortCause.{AbortCause}
+use Rattle.bd_base.specs.declared.request.AbortCause.TheVariants.{Removed}
+use Rattle.bd_base.specs.declared.request.WalkKind.{WalkKind}
+use Rattle.bd_base.specs.declared.request.WalkKind.TheVariants as kinds
 use Rattle.bd_machine.specs.declared.state.Between.{Between}
 use Rattle.bd_machine.specs.declared.state.Handle.{Handle}
 use Rattle.bd_machine.specs.declared.state.Id.{Id}
 use Rattle.bd_machine.specs.declared.state.Id.TheVariants as ids
+use Rattle.bd_machine.specs.declared.state.Open.{Open}
+use Rattle.bd_machine.specs.declared.state.OpenRequest.{OpenRequest}
 use Rattle.bd_machine.specs.declared.state.OpenWalk.{OpenWalk}
 use Rattle.bd_machine.specs.BlockMap.{is_malloc}
 use Rattle.bd_machine.specs.Homes.{is_base}
@@ -21,11 +27,13 @@ use Rattle.bd_machine.specs.Messages.{count_at}
 use Rattle.bd_turns.specs.declared.queue.Message.{Message}
 use Rattle.bd_links.specs.Entries.{longer}
 use Rattle.bd_links.specs.Queues.{queues_of}
-use Rattle.bd_thread.specs.declared.completion.Ending.{Ending}
+use Rattle.bd_due.specs.declared.completion.Ending.{Ending}
 use Rattle.bd_thread.specs.declared.links.Links.{Links}
 use Rattle.bd_thread.specs.declared.thread.Thread.{Thread}
+use Rattle.bd_thread.specs.Aborts.{abort_due, Stops, StopsBy, StopsEach}
 use Rattle.bd_thread.specs.Acted.{Acted}
-use Rattle.bd_thread.specs.Completions.{ending_of, Completes, CompletesBy}
+use Rattle.bd_due.specs.Completions.{ending_of}
+use Rattle.bd_thread.specs.Completions.{Completes, CompletesBy, MayComplete}
 use Rattle.bd_blocks.specs.Digests.{digest_due}
 use Rattle.bd_thread.specs.Destructs.{may_device_go, DestructAdded, Destructs}
 use Rattle.bd_thread.specs.Duties.{duty_asked, Discharges, NoDuty}
@@ -34,7 +42,7 @@ use Rattle.bd_thread.specs.Lines.{claim_asked, close_asked, close_due, get_due, 
 use Rattle.bd_thread.specs.Moves.{Comes, CompletesOwn}
 use Rattle.bd_thread.specs.Seen.{view_of}
 use Rattle.bd_thread.specs.Sent.{first_brought, may_put, Puts, PutsBy, Takes, TakesBy}
-use Rattle.bd_thread.specs.Walking.{visit_due, Visits, VisitsBy}
+use Rattle.bd_thread.specs.Walking.{visit_due, StopsFor, Visits, VisitsBy}
 use Rattle.bd_thread.specs.Waits.{Idles, IsIdle, NoDestructOn, NoHandleOn, NoLine, NoMessage, NoRemovalOn, NoSubmission}
 use Rattle.bd_links.proofs.Longer.{length-longer}
 use Rattle.bd_thread.proofs.Going.{acted_then}
@@ -94,12 +102,46 @@ completes_idle {P = P} req old before new after done p h few = go (ending_of old
     go None k = record { thread = k.1; links = k.2; waits = p }
     go (Some e) k = absurd (more old.me before after (acts.Complete req e.status e.shown) (ap (λ (l : Links). l.entries) k.1.links) few)
 
+-- ---- what a visit stops only adds entries
+
+same_grows : (before after : Links) → after ≡ before → length before.entries ≤ length after.entries
+same_grows before after same = omega (arith, ap (λ (l : Links). length l.entries) same)
+
+longer_grows : (me : ℕ) (before after : Links) (act : Act) → after ≡ record before { entries = longer me before.entries act } → length before.entries ≤ length after.entries
+longer_grows me before after act is = omega (arith, ap (λ (l : Links). length l.entries) is, length-longer me before.entries act)
+
+may_grow : (req : ReqId) (old : Thread) (before : Links) (new : Thread) (after : Links) → MayComplete req old before new after → length before.entries ≤ length after.entries
+may_grow req old before new after h = go (ending_of old.setup.now old.me (view_of old before) req) h.completes
+  where
+    go : (o : Option Ending) → CompletesBy req old before new after h.done o → length before.entries ≤ length after.entries
+    go None k = same_grows before after k.2
+    go (Some e) k = longer_grows old.me before after (acts.Complete req e.status e.shown) k.1.links
+
+stop_grows : (req : ReqId) (cause : AbortCause) (old : Thread) (before : Links) (new : Thread) (after : Links) → Stops req cause old before new after → length before.entries ≤ length after.entries
+stop_grows req cause old before new after h = go (abort_due old before req cause) h
+  where
+    go : (o : Option OpenRequest) → StopsBy req cause old before new after o → length before.entries ≤ length after.entries
+    go None k = same_grows before after k.1
+    go (Some r) k = omega (arith, longer_grows old.me before k.shared (acts.Abort req cause) k.first.links, may_grow req k.middle k.shared new after k.second)
+
+each_grows : (os : List Open) (cause : AbortCause) (old : Thread) (before : Links) (new : Thread) (after : Links) → StopsEach os cause old before new after → length before.entries ≤ length after.entries
+each_grows [] cause old before new after h = same_grows before after h.1
+each_grows (o ∷ os) cause old before new after h = omega (arith, stop_grows o.id cause old before h.middle h.shared h.first, each_grows os cause h.middle h.shared new after h.second)
+
+for_grows : (kind : WalkKind) (dev : DevId) (old : Thread) (before : Links) (new : Thread) (after : Links) → StopsFor kind dev old before new after → length before.entries ≤ length after.entries
+for_grows kinds.Removal dev old before new after h = each_grows old.part.requests (Removed dev) old before new after h
+for_grows kinds.Freeze dev old before new after h = same_grows before after h.1
+for_grows kinds.Drain dev old before new after h = same_grows before after h.1
+for_grows kinds.Thaw dev old before new after h = same_grows before after h.1
+
 pub visits_idle : {P : Thread → Links → Type 0} (walk : WalkId) (old : Thread) (before : Links) (new : Thread) (after : Links) (made : Bool) → P old before → Visits walk old before new after made → Idles P old before new after
 visits_idle {P = P} walk old before new after made p h few = go (visit_due old before walk) h
   where
     go : (o : Option OpenWalk) → VisitsBy walk old before new after made o → IsIdle P old before new after
     go None k = record { thread = k.1; links = k.2; waits = p }
-    go (Some w) k = absurd (more old.me before after (acts.Visit walk w.dev w.kind) (ap (λ (l : Links). l.entries) k.1.links) few)
+    go (Some w) k =
+        let grows = for_grows w.kind w.dev k.1.middle k.1.shared new after k.1.second in
+        absurd (more old.me before k.1.shared (acts.Visit walk w.dev w.kind) (ap (λ (l : Links). l.entries) k.1.first.links) (omega (arith, few, grows)))
 
 -- what a token brings about adds no entry, or something was done
 pub comes_idle : {P : Thread → Links → Type 0} (id : Id) (old : Thread) (before : Links) (new : Thread) (after : Links) → P old before → Comes id old before new after → Idles P old before new after

@@ -18,7 +18,7 @@ use Rattle.bd_machine.specs.View.{View}
 use Rattle.bd_view.specs.Came.{came_free}
 use Rattle.bd_thread.specs.declared.links.Links.{Links}
 use Rattle.bd_thread.specs.declared.thread.Thread.{Thread}
-use Rattle.bd_thread.specs.Duties.{removal_of}
+use Rattle.bd_due.specs.Duties.{removal_of}
 use Rattle.bd_thread.specs.Endings.{is_left, left_on, owes_nothing}
 use Rattle.bd_thread.specs.Lines.{if_asked, may_close}
 use Rattle.bd_thread.specs.Seen.{view_of}

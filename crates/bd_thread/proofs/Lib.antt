@@ -15,3 +15,4 @@ pub mod Leftovers
 pub mod Idle
 pub mod Waiting
 pub mod Walking
+pub mod Aborting

@@ -31,7 +31,8 @@ use Rattle.bd_turns.specs.Local.{Local, sent_by}
 use Rattle.bd_thread.specs.declared.links.Links.{Links}
 use Rattle.bd_thread.specs.declared.thread.Thread.{Thread}
 use Rattle.bd_thread.specs.Seen.{local, local_at, untaken}
-use Rattle.bd_thread.specs.Sent.{kept_on_way, may_put}
+use Rattle.bd_due.specs.Sending.{kept_on_way}
+use Rattle.bd_thread.specs.Sent.{may_put}
 use Rattle.bd_thread.proofs.Going.{Steps, steps, local_eq, still_shut}
 
 -- ---- what may go is here

@@ -35,7 +35,7 @@ use Rattle.bd_thread.proofs.Going.{Hold, Steps, acted_step, local_eq, steps, sti
 use Rattle.bd_thread.proofs.Tickets.{same_tickets}
 
 -- where no guard fails, each holds
-hold_all : (gs : List (ℕ × Bool)) → first_failing gs ≡ None → Hold gs
+pub hold_all : (gs : List (ℕ × Bool)) → first_failing gs ≡ None → Hold gs
 hold_all [] h = tt
 hold_all (g ∷ gs) h = go g.1 refl h (hold_all gs)
   where
@@ -43,7 +43,7 @@ hold_all (g ∷ gs) h = go g.1 refl h (hold_all gs)
     go true e k rest = (e, rest k)
     go false e k rest = cc
 
-none_is : {X : Type 0} (o : Option X) → is_none o ≡ true → o ≡ None
+pub none_is : {X : Type 0} (o : Option X) → is_none o ≡ true → o ≡ None
 none_is None h = refl
 none_is (Some x) h = cc
 

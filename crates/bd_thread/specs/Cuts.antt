@@ -1,27 +1,18 @@
 -- How a thread cuts a request.
-use Rattle.std.specs.Prelude.{◌≡◌, ℕ, Bool, true, List, ◌++◌, length, map, Option, Some}
-use Rattle.std.specs.List.{range_with_len}
+use Rattle.std.specs.Prelude.{◌≡◌, ℕ, Bool, true, ◌++◌, length, Option, Some}
 use Rattle.bd_base.specs.declared.act.Act.TheVariants as acts
-use Rattle.bd_base.specs.declared.act.Token.{Token}
-use Rattle.bd_base.specs.declared.act.Token.TheVariants as tokens
 use Rattle.bd_base.specs.declared.id.ReqId.{ReqId}
 use Rattle.bd_machine.specs.declared.state.OpenRequest.{OpenRequest}
 use Rattle.bd_machine.specs.Alone.{held_after}
 use Rattle.bd_machine.specs.BlockMap.{home}
 use Rattle.bd_machine.specs.Kept.{request_here}
 use Rattle.bd_machine.specs.Requests.{cut_into, extents_of, may_cut}
+use Rattle.bd_due.specs.Pieces.{pieces_to}
 use Rattle.bd_links.specs.Entries.{longer}
 use Rattle.bd_links.specs.Tokens.{here_in}
 use Rattle.bd_thread.specs.declared.links.Links.{Links}
 use Rattle.bd_thread.specs.declared.thread.Thread.{Thread}
 use Rattle.bd_thread.specs.Seen.{untaken, view_of}
-
--- a piece that is still to be put to a thread
-abbrev pub piece_to : ℕ → ReqId → ℕ → ℕ × Token
-piece_to to req k = (to, tokens.Piece req k)
-
-abbrev pub pieces_to : ℕ → ReqId → ℕ → List (ℕ × Token)
-pieces_to to req n = map (piece_to to req) (range_with_len 0 n)
 
 -- the request was cut where boundaries say: its pieces are here, to be put to their home in order, and the entry says so
 pub record IsCut (req : ReqId) (r : OpenRequest) (n : ℕ) (old : Thread) (before : Links) (new : Thread) (after : Links) : Type 0 where

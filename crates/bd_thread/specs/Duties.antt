@@ -1,43 +1,12 @@
--- What a thread owes and an event does: a channel whose count came to zero is dropped, and so on.
-use Rattle.std.specs.Prelude.{◌≡◌, Bool, true, false, List, find, Option, Some, None}
+-- What the thread owes and an event does, where it may ask it.
+use Rattle.std.specs.Prelude.{◌≡◌, Bool, Option, None}
 use Rattle.bd_base.specs.declared.event.RegEvent.{RegEvent}
-use Rattle.bd_base.specs.declared.event.RegEvent.TheVariants as events
-use Rattle.bd_base.specs.declared.device.DevRow.{DevRow}
-use Rattle.bd_base.specs.declared.setup.Setup.{Setup}
-use Rattle.bd_machine.specs.declared.state.Owed.{Owed}
-use Rattle.bd_machine.specs.declared.state.Owed.TheVariants as owes
-use Rattle.bd_machine.specs.BlockMap.{row_of}
+use Rattle.bd_due.specs.Duties.{duty_owed}
 use Rattle.bd_thread.specs.declared.links.Links.{Links}
 use Rattle.bd_thread.specs.declared.thread.Thread.{Thread}
 use Rattle.bd_thread.specs.Lines.{if_asked, AsksBy}
 
--- an event does it: any but the end of a device
-abbrev pub is_duty : Owed → Bool
-is_duty (owes.Destruct dev) = false
-is_duty _ = true
-
-abbrev pub removal_of : Option DevRow → Option RegEvent
-removal_of None = None
-removal_of (Some row) = Some (events.BeginRemove row.name)
-
--- the event that does it
-abbrev pub event_of : Setup → Owed → Option RegEvent
-event_of setup (owes.Drop dev) = Some (events.DropChannel dev)
-event_of setup (owes.Put dev) = Some (events.PutChannel dev false)
-event_of setup (owes.Close id) = Some (events.Close id)
-event_of setup (owes.Remove dev) = removal_of (row_of setup dev)
-event_of setup (owes.Report dev) = Some (events.Destructed dev)
-event_of setup (owes.Destruct dev) = None
-
-abbrev pub duty_of : Setup → Option Owed → Option RegEvent
-duty_of setup None = None
-duty_of setup (Some owed) = event_of setup owed
-
--- the event of the first duty
-abbrev pub duty_owed : Setup → List Owed → Option RegEvent
-duty_owed setup owed = duty_of setup (find is_duty owed)
-
--- that event, where the thread may ask it
+-- the event of the first duty, where the thread may ask it
 abbrev pub duty_asked : Thread → Links → Option RegEvent
 duty_asked t links = if_asked t links (duty_owed t.setup.now t.part.owed)
 

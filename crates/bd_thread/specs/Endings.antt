@@ -8,7 +8,7 @@ use Rattle.bd_machine.specs.BlockMap.{row_of}
 use Rattle.bd_machine.specs.Registry.{is_live, is_on}
 use Rattle.bd_thread.specs.declared.links.Links.{Links}
 use Rattle.bd_thread.specs.declared.thread.Thread.{Thread}
-use Rattle.bd_thread.specs.Duties.{removal_of}
+use Rattle.bd_due.specs.Duties.{removal_of}
 use Rattle.bd_thread.specs.Lines.{if_asked, may_close, AsksBy, ClosesBy}
 use Rattle.bd_thread.specs.Seen.{view_of}
 

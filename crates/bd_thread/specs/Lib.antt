@@ -3,6 +3,7 @@ pub mod Cuts
 pub mod Sent
 pub mod Seen
 pub mod Acted
+pub mod Aborts
 pub mod Walking
 pub mod Lines
 pub mod Duties

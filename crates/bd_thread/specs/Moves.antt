@@ -16,7 +16,7 @@ use Rattle.bd_thread.specs.declared.links.Links.{Links}
 use Rattle.bd_thread.specs.declared.thread.Thread.{Thread}
 use Rattle.bd_thread.specs.declared.turn.Turned.{Turned}
 use Rattle.bd_thread.specs.declared.turn.Turned.TheVariants.{Moved, Quiet}
-use Rattle.bd_thread.specs.Completions.{Completes}
+use Rattle.bd_thread.specs.Completions.{MayComplete}
 use Rattle.bd_thread.specs.Sent.{Takes}
 use Rattle.bd_thread.specs.Served.{next_due}
 use Rattle.bd_thread.specs.Waits.{may_send}
@@ -60,12 +60,7 @@ SendsFirst old before new after sent = SendsBy old before new after sent old.out
 
 -- ---- a message is taken
 
--- its request completes, where the rules let it
-pub record MayComplete (req : ReqId) (old : Thread) (before : Links) (new : Thread) (after : Links) : Type 0 where
-  pub done : Bool
-  pub completes : Completes req old before new after done
-
--- the walk visits the thread, where the rules let it
+-- the walk visits the thread, where the rules let it, and what a removal stops is stopped
 pub record MayVisit (walk : WalkId) (old : Thread) (before : Links) (new : Thread) (after : Links) : Type 0 where
   pub made : Bool
   pub visits : Visits walk old before new after made

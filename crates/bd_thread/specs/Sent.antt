@@ -1,14 +1,10 @@
 -- What a thread takes from its queue and puts into others', and the entries that say so.
 use Rattle.std.specs.Prelude.{◌≡◌, ℕ, Bool, true, false, cond, ◌&&◌, nat_lt, vec_len, List, [], ◌∷◌, Option, Some, None}
-use Rattle.std.specs.Option.{option_map}
 use Rattle.bd_base.specs.declared.act.Act.TheVariants as acts
 use Rattle.bd_base.specs.declared.act.Token.{Token}
 use Rattle.bd_machine.specs.declared.state.Id.{Id}
-use Rattle.bd_machine.specs.declared.state.Kept.{Kept}
-use Rattle.bd_machine.specs.declared.state.Kept.TheVariants as keeps
-use Rattle.bd_machine.specs.declared.state.News.{News}
 use Rattle.bd_machine.specs.Guards.{is_built_token}
-use Rattle.bd_machine.specs.Messages.{brings, count_at, may_go, news_of, sent}
+use Rattle.bd_machine.specs.Messages.{brings, count_at, may_go}
 use Rattle.bd_turns.specs.declared.queue.Message.{Message}
 use Rattle.bd_turns.specs.Tied.{id_next}
 use Rattle.bd_links.specs.Entries.{longer}
@@ -30,14 +26,6 @@ TakesBy old before new after id (Some m) =
 
 abbrev pub Takes : Thread → Links → Thread → Links → Option Id → Type 0
 Takes old before new after id = TakesBy old before new after id (first_brought (queues_of before.queues.items old.me))
-
--- what is kept of a token on its way, where this is kept of it here: a request or a piece is out, or on its way back; what is sent once is only told
-abbrev pub on_way : Option News → Option Kept → Option Kept
-on_way None here = option_map sent here
-on_way (Some told) here = Some (keeps.Notice told)
-
-abbrev pub kept_on_way : Token → Option Kept → Option Kept
-kept_on_way what here = on_way (news_of what) here
 
 -- there is a queue to this thread, the token is one that threads put as yet, and it may go there
 abbrev pub may_put : Thread → Links → ℕ → Token → Bool

@@ -1,7 +1,6 @@
 -- What a thread waits for where its turn added no entry.
 use Rattle.std.specs.Prelude.{◌≡◌, ℕ, ◌<◌, ◌≤◌, ◌^◌, Bool, true, false, not, ◌&&◌, ◌||◌, nat_lt, List, [], ◌∷◌, length, find, vec_len, Option, Some, None, is_some}
 use Rattle.bd_base.specs.declared.act.Token.{Token}
-use Rattle.bd_base.specs.declared.act.Token.TheVariants as tokens
 use Rattle.bd_base.specs.declared.id.DevId.{DevId}
 use Rattle.bd_base.specs.declared.job.Job.{Job}
 use Rattle.bd_base.specs.declared.job.Job.TheVariants as jobs
@@ -9,8 +8,6 @@ use Rattle.bd_base.specs.declared.id.HandleId.{HandleId}
 use Rattle.bd_base.specs.declared.setup.Setup.{Setup}
 use Rattle.bd_blocks.specs.Digests.{digest_due}
 use Rattle.bd_machine.specs.declared.state.Due.{Due}
-use Rattle.bd_machine.specs.declared.state.News.{News}
-use Rattle.bd_machine.specs.declared.state.News.TheVariants as news
 use Rattle.bd_machine.specs.Admission.{has_range}
 use Rattle.bd_machine.specs.Asked.{bound_to, is_script_blocked, most_requests, undecided_job}
 use Rattle.bd_machine.specs.BlockMap.{is_malloc}
@@ -19,6 +16,7 @@ use Rattle.bd_machine.specs.Homes.{is_base}
 use Rattle.bd_machine.specs.Messages.{may_go}
 use Rattle.bd_machine.specs.Users.{is_base_handle}
 use Rattle.bd_machine.specs.View.{View}
+use Rattle.bd_due.specs.Sending.{token_of}
 use Rattle.bd_links.specs.Queues.{is_full, queues_of}
 use Rattle.bd_thread.specs.declared.links.Links.{Links}
 use Rattle.bd_thread.specs.declared.thread.Thread.{Thread}
@@ -157,13 +155,6 @@ may_send t links (x ∷ xs) = has_room links x.0 && is_built_token x.1 && may_go
 abbrev pub NothingToSend : Thread → Links → Type 0
 NothingToSend t links = may_send t links t.outbox.items ≡ false
 
-abbrev pub token_of : News → Token
-token_of (news.Mark mark) = tokens.Mark mark
-token_of (news.Gone handle) = tokens.Gone handle
-token_of (news.Channel dev) = tokens.Channel dev
-token_of (news.Device dev) = tokens.Device dev
-token_of (news.Go req threads) = tokens.Go req threads
-
 -- the first message that is due is one that threads put as yet, and there is room where it is to go
 abbrev pub may_post : Links → List Due → Bool
 may_post links [] = false
@@ -171,11 +162,6 @@ may_post links (d ∷ ds) = has_room links d.receiver && is_built_token (token_o
 
 abbrev pub NothingToPost : Thread → Links → Type 0
 NothingToPost t links = may_post links t.part.due ≡ false
-
--- the first message that is due, and where it is to go
-abbrev pub first_due : List Due → Option (ℕ × Token)
-first_due [] = None
-first_due (d ∷ ds) = Some (d.receiver, token_of d.news)
 
 -- ---- a turn
 

@@ -1,28 +1,28 @@
 -- How a thread carries walks on: where each goes next, and what a visit leaves.
-use Rattle.std.specs.Prelude.{◌≡◌, ℕ, Bool, true, false, cond, List, [], ◌∷◌, ◌++◌, Option, Some, None, is_none, unwrap_or}
+use Rattle.std.specs.Prelude.{◌≡◌, ℕ, Bool, true, false, cond, List, [], ◌++◌, Option, Some, None, is_none}
 use Rattle.bd_base.specs.declared.act.Act.TheVariants as acts
 use Rattle.bd_base.specs.declared.act.Token.{Token}
-use Rattle.bd_base.specs.declared.act.Token.TheVariants as tokens
+use Rattle.bd_base.specs.declared.id.DevId.{DevId}
 use Rattle.bd_base.specs.declared.id.WalkId.{WalkId}
+use Rattle.bd_base.specs.declared.request.AbortCause.TheVariants.{Removed}
+use Rattle.bd_base.specs.declared.request.WalkKind.{WalkKind}
+use Rattle.bd_base.specs.declared.request.WalkKind.TheVariants.{Removal}
 use Rattle.bd_machine.specs.declared.state.OpenWalk.{OpenWalk}
 use Rattle.bd_machine.specs.Alone.{held_after}
 use Rattle.bd_machine.specs.Kept.{walk_here}
 use Rattle.bd_machine.specs.Step.{first_failing}
-use Rattle.bd_machine.specs.Threads.{first_of}
 use Rattle.bd_machine.specs.View.{Change}
-use Rattle.bd_machine.specs.Walks.{change_visit, guards_visit, is_at_end, visited}
+use Rattle.bd_machine.specs.Walks.{change_visit, guards_visit, visited}
 use Rattle.bd_changes.specs.Begun.{begun}
+use Rattle.bd_due.specs.Sending.{bound_for, goes_on}
 use Rattle.bd_links.specs.Entries.{longer}
 use Rattle.bd_links.specs.Tokens.{here_in}
 use Rattle.bd_thread.specs.declared.links.Links.{Links}
 use Rattle.bd_thread.specs.declared.thread.Thread.{Thread}
+use Rattle.bd_thread.specs.Aborts.{StopsAll, Then}
 use Rattle.bd_thread.specs.Seen.{untaken, view_of}
 
--- a walk is to be put to the least thread left, and then back to the one that began it
-abbrev pub bound_for : WalkId → OpenWalk → List (ℕ × Token)
-bound_for walk w = (unwrap_or (first_of w.left) walk.thread, tokens.Walk walk) ∷ []
-
--- so is a walk that begins, if one does
+-- a walk that begins is to be put to where it goes first
 abbrev pub sent_off : Option (WalkId × OpenWalk) → List (ℕ × Token)
 sent_off None = []
 sent_off (Some walk) = bound_for walk.0 walk.1
@@ -50,10 +50,6 @@ visit_due t links walk = if_visited t links walk (walk_here (view_of t links) wa
 abbrev pub visit_change : Thread → Links → WalkId → OpenWalk → Change
 visit_change t links walk w = change_visit t.setup.now t.me (view_of t links) walk w.dev w.kind
 
--- a walk that goes on is to be put; one that ends isn't
-abbrev pub goes_on : ℕ → WalkId → OpenWalk → List (ℕ × Token)
-goes_on me walk w = cond (is_at_end me walk w) [] (bound_for walk w)
-
 -- one Visit: the marks are set, the walk ends or is to be put to where it goes next, and so is another that begins by its end
 pub record IsVisited (walk : WalkId) (w : OpenWalk) (old : Thread) (before : Links) (new : Thread) (after : Links) : Type 0 where
   pub next : Option (WalkId × OpenWalk)
@@ -62,10 +58,15 @@ pub record IsVisited (walk : WalkId) (w : OpenWalk) (old : Thread) (before : Lin
   pub outbox : new.outbox.items ≡ (old.outbox.items ++ sent_off next) ++ goes_on old.me walk (visited old.me w)
   pub links : after ≡ record before { entries = longer old.me before.entries (acts.Visit walk w.dev w.kind) }
 
--- true where a visit is due, and it was made; else nothing changes
+-- where the mark of a removal was set, what it stops is stopped; another walk stops nothing
+abbrev pub StopsFor : WalkKind → DevId → Thread → Links → Thread → Links → Type 0
+StopsFor Removal dev old before new after = StopsAll (Removed dev) old before new after
+StopsFor _ dev old before new after = (new ≡ old) × (after ≡ before)
+
+-- true where a visit is due: it was made, and then what it stops was stopped; else nothing changes
 abbrev pub VisitsBy : WalkId → Thread → Links → Thread → Links → Bool → Option OpenWalk → Type 0
 VisitsBy walk old before new after made None = (made ≡ false) × (new ≡ old) × (after ≡ before)
-VisitsBy walk old before new after made (Some w) = (made ≡ true) × IsVisited walk w old before new after
+VisitsBy walk old before new after made (Some w) = (made ≡ true) × Then (λ t links. IsVisited walk w old before t links) (λ t links. StopsFor w.kind w.dev t links new after)
 
 abbrev pub Visits : WalkId → Thread → Links → Thread → Links → Bool → Type 0
 Visits walk old before new after made = VisitsBy walk old before new after made (visit_due old before walk)

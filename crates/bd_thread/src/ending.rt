@@ -7,11 +7,11 @@ ghost use Rattle.bd_thread.specs.Requests.{KeepsTickets};
 ghost use Rattle.bd_thread.specs.Waits.{Idles, NoDestruct, NoHandle, NoHandleOn, NoRemoval, NothingLeft, NothingOwn};
 ghost use Rattle.bd_registry.specs.State.{rows_of};
 
-use crate::duties::removal_of;
 use crate::links::Links;
 use crate::thread::Thread;
 use bd_answers::is_live;
 use bd_base::{DevId, OutOfMemory, RegEvent};
+use bd_due::removal_of;
 use bd_machine::Handle;
 use bd_rules::is_gone;
 

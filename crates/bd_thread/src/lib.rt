@@ -1,7 +1,7 @@
 //! One thread of the layer: what it holds, and its turn.
 #![tactic(auto)]
 
-mod completion;
+mod aborts;
 mod duties;
 mod ending;
 mod homes;
@@ -9,7 +9,6 @@ pub mod law;
 mod lines;
 mod links;
 mod messages;
-mod pieces;
 mod requests;
 mod resting;
 mod thread;

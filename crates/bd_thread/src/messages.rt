@@ -1,17 +1,17 @@
 //! Messages of a thread: those that it takes, and those that it puts.
-ghost use Rattle.std.specs.Prelude.{◌≡◌, ◌<◌, true, is_some, length, vec_len, IfOk, OnOk, Some, None};
+ghost use Rattle.std.specs.Prelude.{◌≡◌, ◌<◌, is_some, length, vec_len, IfOk, OnOk};
 ghost use Rattle.bd_links.specs.Queues.{queues_of};
-ghost use Rattle.bd_links.specs.Tokens.{here_in, Sets};
 ghost use Rattle.bd_thread.specs.Acted.{Acted};
 ghost use Rattle.bd_thread.specs.Requests.{KeepsTickets};
-ghost use Rattle.bd_thread.specs.Sent.{first_brought, kept_on_way, may_put, KeepsRequests, Puts, Takes};
+ghost use Rattle.bd_thread.specs.Sent.{first_brought, may_put, KeepsRequests, Puts, Takes};
 
 use crate::links::Links;
 use crate::thread::Thread;
 use bd_base::{Act, OutOfMemory, Token};
-use bd_changes::{arrived, news_of, sent, took};
-use bd_links::{Queue, hold_begun, land, let_go, pop, push, take_out};
-use bd_machine::{Id, Kept};
+use bd_changes::{arrived, took};
+use bd_due::{copy_of, leave};
+use bd_links::{Queue, hold_begun, land, pop, push};
+use bd_machine::Id;
 use bd_rules::{brings, count_at, id_of, may_go};
 use bd_turns::Message;
 use bd_view::is_built_token;
@@ -27,37 +27,6 @@ fn may_take(queues: &[Queue], me: usize) -> bool
             is_built_token(&message.what) && brings(&message.what, Some(&message.kept))
         }
         None => false,
-    }
-}
-
-// The token leaves this thread: what is kept of it on its way.
-fn leave(tokens: &mut Vec<(Id, Kept)>, id: Id, what: &Token) -> Result<Kept, OutOfMemory>
-    requires { is_some (kept_on_way what.now (here_in tokens.old.items id)) ≡ true }
-    ensures kept { IfOk result (λ kept. kept_on_way what.now (here_in tokens.old.items id) ≡ Some kept) }
-    ensures gone { OnOk result (Sets tokens.old.items tokens.new.items id None) }
-{
-    if let Some(told) = news_of(what)? {
-        let_go(tokens, id);
-        return Ok(Kept::Notice(told));
-    }
-    match take_out(tokens, id) {
-        Some(kept) => Ok(sent(kept)),
-        None => unreachable!(),
-    }
-}
-
-fn copy_of(what: &Token) -> Result<Token, OutOfMemory>
-    ensures { IfOk result (λ token. token ≡ what.now) }
-{
-    match what {
-        Token::Request(req) => Ok(Token::Request(*req)),
-        Token::Piece(req, k) => Ok(Token::Piece(*req, *k)),
-        Token::Walk(walk) => Ok(Token::Walk(*walk)),
-        Token::Go(req, threads) => Ok(Token::Go(*req, *threads)),
-        Token::Gone(handle) => Ok(Token::Gone(*handle)),
-        Token::Channel(dev) => Ok(Token::Channel(*dev)),
-        Token::Device(dev) => Ok(Token::Device(*dev)),
-        Token::Mark(mark) => Ok(Token::Mark(mark.copy()?)),
     }
 }
 

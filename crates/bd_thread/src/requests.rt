@@ -6,19 +6,19 @@ ghost use Rattle.bd_machine.specs.Kept.{request_here};
 ghost use Rattle.bd_machine.specs.Registry.{handle_of};
 ghost use Rattle.bd_machine.specs.Requests.{may_cut};
 ghost use Rattle.bd_thread.specs.Acted.{Acted};
-ghost use Rattle.bd_thread.specs.Completions.{ending_of, Completes, IsCompleted};
+ghost use Rattle.bd_due.specs.Completions.{ending_of};
+ghost use Rattle.bd_thread.specs.Completions.{Completes, IsCompleted};
 ghost use Rattle.bd_thread.specs.Cuts.{Cuts, IsCut};
 ghost use Rattle.bd_thread.specs.Requests.{refusal, IsAccepted, IsAsked, IsFresh, IsOpened, IsRefused, KeepsTickets, Refuses};
 ghost use Rattle.bd_thread.specs.Seen.{number_of, view_of};
 
-use crate::completion::{Ending, drop_request, ending_of};
 use crate::links::Links;
-use crate::pieces::{hold_pieces, send_pieces};
 use crate::thread::Thread;
 use bd_asked::{MOST_REQUESTS, next_line};
 use bd_base::{Act, DevId, Errno, HandleId, OutOfMemory, ReqId, Rows, Status};
 use bd_blocks::{extents, home};
 use bd_changes::{accepted, completed};
+use bd_due::{Ending, drop_request, ending_of, hold_pieces, send_pieces};
 use bd_links::hold;
 use bd_machine::{Decided, Extent, Id, Kept, Open, OpenRequest};
 use bd_msg::{Purse, Ticket};
@@ -225,12 +225,12 @@ impl<'a> Thread<'a> {
         Ok(n)
     }
 
-    /// Completes a request that is here and cut, where every piece of it is back with its end and the
-    /// rules let it complete: on its own thread, with no walk of its reset under way and no delay left.
-    /// It fails where a piece has a fault or a failure was injected, and is aborted where an abort
-    /// reached it. A read that succeeds shows the first 8 bytes and the digest of its data, and
-    /// completes only where there are as many. Its ticket is spent. Else the answer is false, and
-    /// nothing changed.
+    /// Completes a request that is here, where every piece of it is back with its end, or it was aborted and
+    /// none of its pieces is out, and the rules let it complete: on its own thread, with no walk of its
+    /// reset under way and no delay left. It fails where a piece has a fault or a failure was injected, and
+    /// is aborted where an abort reached it. A read that succeeds shows the first 8 bytes and the digest of
+    /// its data, and completes only where there are as many. Its ticket is spent. Else the answer is false,
+    /// and nothing changed.
     pub fn complete(&mut self, links: &mut Links, req: ReqId) -> Result<bool, OutOfMemory>
         requires me { number_of self.old < vec_len links.old.queues }
         ensures acted { OnOk result (Acted self.old links.old self.new links.new) }

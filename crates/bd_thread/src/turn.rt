@@ -4,7 +4,7 @@ ghost use Rattle.bd_thread.specs.Acted.{Acted};
 ghost use Rattle.bd_thread.specs.Seen.{number_of, setup_of};
 ghost use Rattle.bd_thread.specs.Requests.{IsAsked, IsFresh, KeepsTickets};
 ghost use Rattle.bd_thread.specs.Moves.{turned_of, AddsMore, Comes, IsNextTicket, Receives, SendsFirst, Serves};
-ghost use Rattle.bd_thread.specs.Waits.{first_due, may_send, token_of, Idles, IsFilled, NoLine, NoMessage, NoPiece, NoPieceOn, NoSubmission, NothingToPost, NothingToSend, Quiets};
+ghost use Rattle.bd_thread.specs.Waits.{may_send, Idles, IsFilled, NoLine, NoMessage, NoPiece, NoPieceOn, NoSubmission, NothingToPost, NothingToSend, Quiets};
 ghost use Rattle.bd_registry.specs.State.{rows_of};
 
 use crate::links::Links;
@@ -12,8 +12,9 @@ use crate::requests::Refused;
 use crate::thread::Thread;
 use bd_asked::{MOST_REQUESTS, bound_to, undecided_job};
 use bd_base::{DevId, Errno, HandleId, Job, OutOfMemory, ReqId, ThreadId, Token};
+use bd_due::first_due;
 use bd_links::is_full;
-use bd_machine::{Id, News};
+use bd_machine::Id;
 use bd_msg::{Mint, Ticket};
 use bd_rules::has_range;
 use bd_view::Submission;
@@ -54,19 +55,6 @@ pub(crate) fn next_ticket(thread: u32, next: u64) -> Option<Ticket>
         mint.meet(next - 1);
     }
     Some(mint.issue())
-}
-
-// The token that tells the news.
-fn token_of(news: &News) -> Result<Token, OutOfMemory>
-    ensures { IfOk result (λ what. what ≡ token_of news.now) }
-{
-    match news {
-        News::Mark(mark) => Ok(Token::Mark(mark.copy()?)),
-        News::Gone(handle) => Ok(Token::Gone(*handle)),
-        News::Channel(dev) => Ok(Token::Channel(*dev)),
-        News::Device(dev) => Ok(Token::Device(*dev)),
-        News::Go(req, threads) => Ok(Token::Go(*req, *threads)),
-    }
 }
 
 impl<'a> Thread<'a> {
@@ -141,7 +129,7 @@ impl<'a> Thread<'a> {
     }
 
     // What a token that came brings about: its request completes where it was the last of its pieces, and
-    // a walk visits this thread.
+    // a walk visits this thread, where the mark of a removal stops what waits.
     fn came(&mut self, links: &mut Links, id: Id) -> Result<(), OutOfMemory>
         requires { self.old.me < vec_len links.old.queues }
         ensures acted { OnOk result (Acted self.old links.old self.new links.new) }
@@ -297,19 +285,6 @@ impl<'a> Thread<'a> {
         }
     }
 
-    // The first message that is due, and its receiver.
-    fn first_due(&self) -> Result<Option<(u32, Token)>, OutOfMemory>
-        ensures { IfOk result (λ due. due ≡ first_due self.now.part.due) }
-    {
-        match self.part.due.as_slice().first() {
-            Some(due) => {
-                let what = token_of(&due.news)?;
-                Ok(Some((due.receiver, what)))
-            }
-            None => Ok(None),
-        }
-    }
-
     // Puts the first message that is due on its way, where it is one that threads put, unless the queue
     // that it goes to is full.
     fn put_due(&mut self, links: &mut Links) -> Result<bool, OutOfMemory>
@@ -318,7 +293,7 @@ impl<'a> Thread<'a> {
         ensures tickets { OnOk result (KeepsTickets self.old → KeepsTickets self.new) }
         ensures quiet { OnOk result (Idles NothingToPost self.old links.old self.new links.new) }
     {
-        let Some((to, what)) = self.first_due()? else {
+        let Some((to, what)) = first_due(self.part.due.as_slice())? else {
             return Ok(false);
         };
         if is_full(links.queues.as_slice(), to) {

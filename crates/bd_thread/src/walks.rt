@@ -1,52 +1,19 @@
 //! Walks over the threads: those that begin here, and those that visit this thread.
-ghost use Rattle.std.specs.Prelude.{◌≡◌, ◌++◌, IfOk, OnOk};
+ghost use Rattle.std.specs.Prelude.{◌≡◌, ◌<◌, vec_len, IfOk, OnOk, Some};
 ghost use Rattle.bd_thread.specs.Acted.{Acted};
 ghost use Rattle.bd_thread.specs.Requests.{KeepsTickets};
-ghost use Rattle.bd_thread.specs.Walking.{bound_for, goes_on, if_visited, may_visit, visit_due, Begins, Visits};
+ghost use Rattle.bd_thread.specs.Walking.{if_visited, may_visit, visit_due, Begins, IsVisited, StopsFor, Visits};
 
 use crate::links::Links;
 use crate::thread::Thread;
-use bd_base::{Act, OutOfMemory, Token, WalkId};
-use bd_blocks::first_of;
-use bd_changes::{is_at_end, walk_on};
+use bd_base::{AbortCause, Act, DevId, OutOfMemory, WalkId, WalkKind};
+use bd_changes::walk_on;
+use bd_due::{send_off, send_on};
 use bd_links::{hold_begun, hold_walk};
 use bd_machine::OpenWalk;
 use bd_rules::walk_here;
 use bd_view::Sees;
 use bd_walks::{mark, refused_visit, visited};
-use std::collections::VecDeque;
-
-// A walk is to be put to the least thread left, or back to the one that began it.
-fn send_off(
-    outbox: &mut VecDeque<(u32, Token)>,
-    id: WalkId,
-    walk: OpenWalk,
-) -> Result<(), OutOfMemory>
-    ensures { OnOk result (outbox.new.items ≡ outbox.old.items ++ bound_for id walk) }
-{
-    let to = match first_of(walk.left) {
-        Some(first) => first,
-        None => id.thread,
-    };
-    outbox.push_back((to, Token::Walk(id)))?;
-    Ok(())
-}
-
-// A walk that goes on is to be put; one that ends isn't.
-fn send_on(
-    outbox: &mut VecDeque<(u32, Token)>,
-    me: u32,
-    id: WalkId,
-    walk: OpenWalk,
-) -> Result<(), OutOfMemory>
-    ensures { OnOk result (outbox.new.items ≡ outbox.old.items ++ goes_on me id walk) }
-{
-    if is_at_end(me, id, walk) {
-        Ok(())
-    } else {
-        send_off(outbox, id, walk)
-    }
-}
 
 impl<'a> Thread<'a> {
     /// A walk that begins is here, and to be put to the first thread that it visits.
@@ -90,17 +57,14 @@ impl<'a> Thread<'a> {
         self.if_visited(links, id, walk_here(&self.seen(links), id))
     }
 
-    /// A walk that is here visits this thread, where that is the next one it visits and, for a drain, no
-    /// request stands against it: true, the marks of its device are set or taken, and it ends, or is to be
-    /// put to where it goes next. Else nothing changes.
-    pub(crate) fn visit(&mut self, links: &mut Links, id: WalkId) -> Result<bool, OutOfMemory>
+    // The walk visits this thread: the marks of its device are set or taken, and it ends, or is to be put to
+    // where it goes next.
+    fn pass(&mut self, links: &mut Links, id: WalkId, walk: OpenWalk) -> Result<(), OutOfMemory>
+        requires { visit_due self.old links.old id ≡ Some walk }
         ensures acted { OnOk result (Acted self.old links.old self.new links.new) }
         ensures tickets { OnOk result (KeepsTickets self.old → KeepsTickets self.new) }
-        ensures visits { IfOk result (Visits id self.old links.old self.new links.new) }
+        ensures visited { OnOk result (IsVisited id walk self.old links.old self.new links.new) }
     {
-        let Some(walk) = self.visit_due(links, id) else {
-            return Ok(false);
-        };
         let OpenWalk { dev, kind, .. } = walk;
         let channel = self.seen(links).channels(dev);
         let after = visited(self.me, walk);
@@ -117,6 +81,36 @@ impl<'a> Thread<'a> {
                 kind,
             },
         )?;
+        Ok(())
+    }
+
+    // Where a walk of this kind set the mark of a removal, what waits here is aborted.
+    fn stop_for(&mut self, links: &mut Links, kind: WalkKind, dev: DevId) -> Result<(), OutOfMemory>
+        requires { self.old.me < vec_len links.old.queues }
+        ensures acted { OnOk result (Acted self.old links.old self.new links.new) }
+        ensures tickets { OnOk result (KeepsTickets self.old → KeepsTickets self.new) }
+        ensures stops { OnOk result (StopsFor kind dev self.old links.old self.new links.new) }
+    {
+        match kind {
+            WalkKind::Removal => self.stop_all(links, AbortCause::Removed(dev)),
+            _ => Ok(()),
+        }
+    }
+
+    /// A walk that is here visits this thread, where that is the next one it visits and, for a drain, no
+    /// request stands against it: true, the marks of its device are set or taken, it ends, or is to be put
+    /// to where it goes next, and what the mark of a removal stops is aborted. Else nothing changes.
+    pub(crate) fn visit(&mut self, links: &mut Links, id: WalkId) -> Result<bool, OutOfMemory>
+        requires { self.old.me < vec_len links.old.queues }
+        ensures acted { OnOk result (Acted self.old links.old self.new links.new) }
+        ensures tickets { OnOk result (KeepsTickets self.old → KeepsTickets self.new) }
+        ensures visits { IfOk result (Visits id self.old links.old self.new links.new) }
+    {
+        let Some(walk) = self.visit_due(links, id) else {
+            return Ok(false);
+        };
+        self.pass(links, id, walk)?;
+        self.stop_for(links, walk.kind, walk.dev)?;
         Ok(true)
     }
 }

@@ -1,0 +1,197 @@
+-- How a request completes, and what is here after it.
+use Rattle.std.proofs.Common.{◌≡◌, ℕ, suc, zero, ◌+◌, Bool, true, false, cond, not, ◌&&◌, ◌||◌, nat_eq, nat_le, List, [], ◌∷◌, length, map, find, take, Option, Some, None, IfSome, IfNone, is_some, unwrap_or, refl, sym, ◌∙◌, ap, subst, eq-eqb}
+use Rattle.std.specs.List.{list_all, range_with_len}
+use Rattle.std.specs.Cmp.Lexicographic.{pointwise}
+use Rattle.std.proofs.lemmas.Bool.{and_from, and_parts}
+use Rattle.sha2.specs.Sha256.{sha256}
+use Rattle.bd_base.specs.declared.id.ReqId.{ReqId}
+use Rattle.bd_base.specs.declared.request.Shown.{Shown}
+use Rattle.bd_base.specs.declared.request.Status.{Status}
+use Rattle.bd_base.specs.declared.request.Status.TheVariants.{Success, Failed, Aborted}
+use Rattle.bd_base.specs.declared.setup.Setup.{Setup}
+use Rattle.bd_machine.specs.declared.state.Id.{Id}
+use Rattle.bd_machine.specs.declared.state.Id.TheVariants as ids
+use Rattle.bd_machine.specs.declared.state.Kept.{Kept}
+use Rattle.bd_machine.specs.declared.state.OpenPiece.{OpenPiece}
+use Rattle.bd_machine.specs.declared.state.OpenRequest.{OpenRequest}
+use Rattle.bd_machine.specs.Alone.{held_after}
+use Rattle.bd_machine.specs.Completion.{has_end, is_back, is_shown, is_success, may_show, pieces_of}
+use Rattle.bd_machine.specs.Effect.{is_read}
+use Rattle.bd_machine.specs.Kept.{is_at_own, pieces_here, request_here}
+use Rattle.bd_machine.specs.Requests.{is_walking, may_complete, pieces_closed}
+use Rattle.bd_machine.specs.Same.{same_id}
+use Rattle.bd_machine.specs.Statuses.{is_delay_left, is_failed, is_success_due, may_be_status}
+use Rattle.bd_machine.specs.View.{View}
+use Rattle.bd_machine.specs.Walks.{reset_of}
+use Rattle.bd_links.specs.Tokens.{here_in, Sets}
+use Rattle.bd_due.specs.declared.completion.Ending.{Ending}
+use Rattle.bd_due.specs.Completions.{data_read, ending_in, ending_of, ends_as, gone, may_end, read_as, shown_by, shown_of, status_now}
+
+-- ---- what it shows
+
+list_self : (xs : List ℕ) → pointwise nat_eq xs xs ≡ true
+list_self [] = refl
+list_self (x ∷ xs) = and_from (nat_eq x x) (pointwise nat_eq xs xs) (eq-eqb x x refl) (list_self xs)
+
+some_is : {X : Type 0} (b : Bool) (x y : X) → cond b (Some x) None ≡ Some y → x ≡ y
+some_is true x y h = cc
+some_is false x y h = cc
+
+shows_data : (bytes : List ℕ) (shown : Shown) → shown_by bytes ≡ Some shown → is_shown (Some bytes) (Some shown) ≡ true
+shows_data bytes shown h =
+    let full : Shown = record { first = take 8 bytes; digest = sha256 bytes } in
+    subst (λ (s : Shown). is_shown (Some bytes) (Some s) ≡ true) (some_is (nat_le 8 (length bytes)) full shown h)
+    (and_from (pointwise nat_eq (take 8 bytes) (take 8 bytes)) (pointwise nat_eq (sha256 bytes) (sha256 bytes)) (list_self (take 8 bytes)) (list_self (sha256 bytes)))
+
+shows_all : (o : Option (List ℕ)) (shown : Shown) → shown_of o ≡ Some shown → is_shown o (Some shown) ≡ true
+shows_all None shown h = cc
+shows_all (Some bytes) shown h = shows_data bytes shown h
+
+-- ---- how it completes
+
+some_of : {X : Type 0} (x y : X) → Some x ≡ Some y → x ≡ y
+some_of x y h = cc
+
+-- what is found passes the test
+found_passes : {X : Type 0} (is : X → Bool) (xs : List X) (x : X) → find is xs ≡ Some x → is x ≡ true
+found_passes is [] x h = cc
+found_passes is (y ∷ ys) x h = go (is y) refl h (found_passes is ys x)
+  where
+    go : (b : Bool) → is y ≡ b → cond b (Some y) (find is ys) ≡ Some x → (find is ys ≡ Some x → is x ≡ true) → is x ≡ true
+    go true e h rest = subst (λ z. is z ≡ true) (some_of y x h) e
+    go false e h rest = rest h
+
+-- the first status that may be
+abbrev first_status : (Status → Bool) → Option Status
+first_status may = find may (Failed ∷ Aborted ∷ Success ∷ [])
+
+-- whether a status may be, where delays are left, where it failed, was aborted, and where its success is due
+abbrev status_by : Bool → Bool → Bool → Bool → Status → Bool
+status_by left failed aborted due Failed = not left && failed
+status_by left failed aborted due Aborted = not left && (not failed && aborted)
+status_by left failed aborted due Success = not left && (not failed && not aborted && due)
+
+-- no other status may be beside it
+only_status : (left failed aborted due : Bool) (s : Status) → status_by left failed aborted due s ≡ true → Some s ≡ first_status (status_by left failed aborted due)
+only_status true failed aborted due Failed h = cc
+only_status true failed aborted due Aborted h = cc
+only_status true failed aborted due Success h = cc
+only_status false true aborted due Failed h = refl
+only_status false true aborted due Aborted h = cc
+only_status false true aborted due Success h = cc
+only_status false false aborted due Failed h = cc
+only_status false false true due Aborted h = refl
+only_status false false false due Aborted h = cc
+only_status false false true due Success h = cc
+only_status false false false true Success h = refl
+only_status false false false false Success h = cc
+
+no_status : (may : Status → Bool) → ((s : Status) → may s ≡ false) → None ≡ first_status may
+no_status may none =
+    sym (ap (λ b. cond b (Some Failed) (find may (Aborted ∷ Success ∷ []))) (none Failed)
+    ∙ ap (λ b. cond b (Some Aborted) (find may (Success ∷ []))) (none Aborted)
+    ∙ ap (λ b. cond b (Some Success) None) (none Success))
+
+-- the status that may be is the first that may be
+pub status_is : (setup : Setup) (v : View) (req : ReqId) (r : OpenRequest) (o : Option Status)
+    → IfSome o (λ s. may_be_status setup v req r s ≡ true)
+    → IfNone o ((s : Status) → may_be_status setup v req r s ≡ false)
+    → o ≡ status_now setup v req r
+status_is setup v req r None some none = no_status (may_be_status setup v req r) none
+status_is setup v req r (Some s) some none = go s some
+  where
+    go : (s : Status) → may_be_status setup v req r s ≡ true → Some s ≡ status_now setup v req r
+    go Failed h = only_status (is_delay_left setup r) (is_failed r (pieces_of v req r)) (is_some r.aborted) (is_success_due v req r r.op) Failed h
+    go Aborted h = only_status (is_delay_left setup r) (is_failed r (pieces_of v req r)) (is_some r.aborted) (is_success_due v req r r.op) Aborted h
+    go Success h = only_status (is_delay_left setup r) (is_failed r (pieces_of v req r)) (is_some r.aborted) (is_success_due v req r r.op) Success h
+
+-- it ends with these pieces and this status, and shows what is due
+pub record IsDue (v : View) (req : ReqId) (r : OpenRequest) (n : ℕ) (status : Status) (ending : Ending) : Type 0 where
+  pub number : n ≡ ending.pieces
+  pub status_is : status ≡ ending.status
+  pub shown : may_show r ending.status (pieces_of v req r) ending.shown ≡ true
+
+module _ (v : View) (req : ReqId) (r : OpenRequest) (n : ℕ) (status : Status) where
+  read_due : (s : Option Shown) (ending : Ending) → shown_of (data_read v req r) ≡ s → is_read r.op && is_success status ≡ true → read_as n status s ≡ Some ending → IsDue v req r n status ending
+  read_due None ending is read h = cc
+  read_due (Some shown) ending is read h =
+      subst (IsDue v req r n status) (some_of (record { pieces = n; status = status; shown = Some shown }) ending h) (record {
+        number = refl;
+        status_is = refl;
+        shown = ap (λ b. cond b (is_shown (data_read v req r) (Some shown)) false) read ∙ shows_all (data_read v req r) shown is;
+      })
+
+  due_by : (b : Bool) (ending : Ending) → is_read r.op && is_success status ≡ b → cond b (read_as n status (shown_of (data_read v req r))) (Some (record { pieces = n; status = status; shown = None })) ≡ Some ending → IsDue v req r n status ending
+  due_by true ending read h = read_due (shown_of (data_read v req r)) ending refl read h
+  due_by false ending read h =
+      subst (IsDue v req r n status) (some_of (record { pieces = n; status = status; shown = None }) ending h) (record {
+        number = refl;
+        status_is = refl;
+        shown = ap (λ b. cond b (is_shown (data_read v req r) None) true) read;
+      })
+
+-- the request is here, each of its pieces is back, and it may complete so
+pub record Ends (setup : Setup) (me : ℕ) (v : View) (req : ReqId) (ending : Ending) : Type 0 where
+  pub request : OpenRequest
+  pub is : request_here v req ≡ Some request
+  pub number : unwrap_or request.pieces 0 ≡ ending.pieces
+  pub back : list_all is_back (pieces_here v req ending.pieces) ≡ true
+  pub may : may_complete me v req (request_here v req) ≡ true
+  pub status : may_be_status setup v req request ending.status ≡ true
+  pub shown : may_show request ending.status (pieces_of v req request) ending.shown ≡ true
+
+-- a request that may complete has every piece back
+all_back : (me : ℕ) (v : View) (req : ReqId) (r : OpenRequest) → may_complete me v req (Some r) ≡ true → list_all is_back (pieces_of v req r) ≡ true
+all_back me v req r may =
+    let both = and_parts (is_at_own me req r && list_all is_back (pieces_of v req r)) (not (is_walking (reset_of v.part req))) may in
+    (and_parts (is_at_own me req r) (list_all is_back (pieces_of v req r)) both.0).1
+
+module _ (setup : Setup) (me : ℕ) (v : View) (req : ReqId) (ending : Ending) where
+  ends_so : (r : OpenRequest) → request_here v req ≡ Some r → may_end me v req r ≡ true
+      → (s : Option Status) → status_now setup v req r ≡ s → ends_as v req r (unwrap_or r.pieces 0) s ≡ Some ending → Ends setup me v req ending
+  ends_so r is may None found h = cc
+  ends_so r is may (Some status) found h =
+      let n = unwrap_or r.pieces 0 in
+      let both = and_parts (is_some r.aborted || list_all has_end (pieces_of v req r)) (may_complete me v req (request_here v req)) may in
+      let due : IsDue v req r n status ending = due_by v req r n status (is_read r.op && is_success status) ending refl h in
+      record {
+        request = r;
+        is = is;
+        number = due.number;
+        back = subst (λ (m : ℕ). list_all is_back (pieces_here v req m) ≡ true) due.number (all_back me v req r (sym (ap (may_complete me v req) is) ∙ both.1));
+        may = both.1;
+        status = subst (λ (s : Status). may_be_status setup v req r s ≡ true) due.status_is (found_passes (may_be_status setup v req r) (Failed ∷ Aborted ∷ Success ∷ []) status found);
+        shown = due.shown;
+      }
+
+  ends_here : (o : Option OpenRequest) → request_here v req ≡ o → ending_in setup me v req o ≡ Some ending → Ends setup me v req ending
+  ends_here None is h = cc
+  ends_here (Some r) is h = go (may_end me v req r) refl h
+    where
+      go : (b : Bool) → may_end me v req r ≡ b → cond b (ends_as v req r (unwrap_or r.pieces 0) (status_now setup v req r)) None ≡ Some ending → Ends setup me v req ending
+      go false may h = cc
+      go true may h = ends_so r is may (status_now setup v req r) refl h
+
+  pub ends_now : ending_of setup me v req ≡ Some ending → Ends setup me v req ending
+  ends_now h = ends_here (request_here v req) refl h
+
+-- ---- what is here after it
+
+pub gone_closed : (piece : ℕ → Option OpenPiece) (req : ReqId) (k n : ℕ) (here : Id → Option Kept) → list_all is_back (map piece (range_with_len k n)) ≡ true
+    → held_after (pieces_closed req k (map piece (range_with_len k n))) here ≡ gone req (range_with_len k n) here
+gone_closed piece req k zero here h = refl
+gone_closed piece req k (suc n) here h = go (piece k) h (gone_closed piece req (k + 1) n)
+  where
+    go : (o : Option OpenPiece) → (is_back o && list_all is_back (map piece (range_with_len (k + 1) n))) ≡ true
+        → ((now : Id → Option Kept) → list_all is_back (map piece (range_with_len (k + 1) n)) ≡ true → held_after (pieces_closed req (k + 1) (map piece (range_with_len (k + 1) n))) now ≡ gone req (range_with_len (k + 1) n) now)
+        → held_after (pieces_closed req k (o ∷ map piece (range_with_len (k + 1) n))) here ≡ gone req (range_with_len (k + 1) n) (λ j. cond (same_id (ids.Piece req k) j) None (here j))
+    go None h rest = cc
+    go (Some p) h rest = rest (λ j. cond (same_id (ids.Piece req k) j) None (here j)) (and_parts (is_back (Some p)) (list_all is_back (map piece (range_with_len (k + 1) n))) h).1
+
+-- a piece is let go, and those that are left come after it
+pub gone_step : (req : ReqId) (k : ℕ) (left rest : List ℕ) (old new : List (Id × Kept)) (total : Id → Option Kept)
+    → left ≡ k ∷ rest
+    → Sets old new (ids.Piece req k) None
+    → gone req left (here_in old) ≡ total
+    → gone req rest (here_in new) ≡ total
+gone_step req k left rest old new total is sets all = ap (gone req rest) sets ∙ sym (ap (λ (ks : List ℕ). gone req ks (here_in old)) is) ∙ all

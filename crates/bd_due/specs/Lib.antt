@@ -1,0 +1,5 @@
+pub mod Completions
+pub mod Pieces
+pub mod Stopping
+pub mod Sending
+pub mod Duties

@@ -1,0 +1,47 @@
+-- Where a walk goes next, and what is kept of a token on its way.
+use Rattle.std.specs.Prelude.{ℕ, cond, List, [], ◌∷◌, Option, Some, None, unwrap_or}
+use Rattle.std.specs.Option.{option_map}
+use Rattle.bd_base.specs.declared.act.Token.{Token}
+use Rattle.bd_base.specs.declared.act.Token.TheVariants as tokens
+use Rattle.bd_base.specs.declared.id.WalkId.{WalkId}
+use Rattle.bd_machine.specs.declared.state.Due.{Due}
+use Rattle.bd_machine.specs.declared.state.Kept.{Kept}
+use Rattle.bd_machine.specs.declared.state.Kept.TheVariants as keeps
+use Rattle.bd_machine.specs.declared.state.News.{News}
+use Rattle.bd_machine.specs.declared.state.News.TheVariants as news
+use Rattle.bd_machine.specs.declared.state.OpenWalk.{OpenWalk}
+use Rattle.bd_machine.specs.Messages.{news_of, sent}
+use Rattle.bd_machine.specs.Threads.{first_of}
+use Rattle.bd_machine.specs.Walks.{is_at_end}
+
+-- ---- walks
+
+-- a walk is to be put to the least thread left, and then back to the one that began it
+abbrev pub bound_for : WalkId → OpenWalk → List (ℕ × Token)
+bound_for walk w = (unwrap_or (first_of w.left) walk.thread, tokens.Walk walk) ∷ []
+
+-- a walk that goes on is to be put; one that ends isn't
+abbrev pub goes_on : ℕ → WalkId → OpenWalk → List (ℕ × Token)
+goes_on me walk w = cond (is_at_end me walk w) [] (bound_for walk w)
+
+-- ---- messages
+
+-- what is kept of a token on its way, where this is kept of it here: a request or a piece is out, or on its way back; what is sent once is only told
+abbrev pub on_way : Option News → Option Kept → Option Kept
+on_way None here = option_map sent here
+on_way (Some told) here = Some (keeps.Notice told)
+
+abbrev pub kept_on_way : Token → Option Kept → Option Kept
+kept_on_way what here = on_way (news_of what) here
+
+abbrev pub token_of : News → Token
+token_of (news.Mark mark) = tokens.Mark mark
+token_of (news.Gone handle) = tokens.Gone handle
+token_of (news.Channel dev) = tokens.Channel dev
+token_of (news.Device dev) = tokens.Device dev
+token_of (news.Go req threads) = tokens.Go req threads
+
+-- the first message that is due, and where it is to go
+abbrev pub first_due : List Due → Option (ℕ × Token)
+first_due [] = None
+first_due (d ∷ ds) = Some (d.receiver, token_of d.news)

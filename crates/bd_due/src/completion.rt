@@ -1,0 +1,150 @@
+//! When a request completes, and how.
+ghost use Rattle.std.specs.Prelude.{◌≡◌, IfOk, Some};
+ghost use Rattle.std.specs.List.{range_with_len};
+ghost use Rattle.bd_links.specs.Tokens.{here_in};
+ghost use Rattle.bd_due.specs.Completions.{ended, ending_in, ending_of, ends_as, gone, may_end, read_as, shown_by, shown_of, status_now};
+
+use bd_base::{Bytes, Op, OutOfMemory, ReqId, Setup, Shown, Status, digest_of};
+use bd_links::let_go;
+use bd_machine::{Id, Kept, OpenRequest};
+use bd_rules::{all_ended, data_read, may_complete, request_here, status_due};
+use bd_view::Sees;
+use std::alloc::Global;
+
+/// How a request with this number of pieces completes; a read with success shows its data.
+#[derive(Clone, Copy)]
+pub struct Ending {
+    pub pieces: u32,
+    pub status: Status,
+    pub shown: Option<Shown>,
+}
+
+// The first 8 bytes and the digest, where there are as many.
+fn shown_by(bytes: &[u8]) -> Option<Shown>
+    ensures { result ≡ shown_by bytes.now }
+{
+    if bytes.len() < 8 {
+        return None;
+    }
+    let mut first = [0u8; 8];
+    first.copy_from_slice(&bytes[..8]);
+    Some(Shown {
+        first,
+        digest: digest_of(bytes),
+    })
+}
+
+fn shown_of(bytes: &Option<Bytes>) -> Option<Shown>
+    ensures { result ≡ shown_of bytes.now }
+{
+    match bytes {
+        Some(b) => shown_by(b.as_slice()),
+        None => None,
+    }
+}
+
+fn read_as(pieces: u32, status: Status, shown: Option<Shown>) -> Option<Ending>
+    ensures { result ≡ read_as pieces status shown }
+{
+    match shown {
+        Some(s) => Some(Ending {
+            pieces,
+            status,
+            shown: Some(s),
+        }),
+        None => None,
+    }
+}
+
+// How a request completes with this status.
+fn ends_as<S: Sees>(
+    alloc: Global,
+    seen: &S,
+    req: ReqId,
+    r: OpenRequest,
+    n: u32,
+    status: Status,
+) -> Result<Option<Ending>, OutOfMemory>
+    ensures { IfOk result (λ e. e ≡ ends_as (S.view_of seen.now) req r n (Some status)) }
+{
+    if !(matches!(r.op, Op::Read) && matches!(status, Status::Success)) {
+        return Ok(Some(Ending {
+            pieces: n,
+            status,
+            shown: None,
+        }));
+    }
+    let data = data_read(alloc, seen, req, r)?;
+    Ok(read_as(n, status, shown_of(&data)))
+}
+
+// The status that the rules let the request have, if they let it complete.
+fn status_now<S: Sees>(seen: &S, setup: &Setup, req: ReqId, r: OpenRequest) -> Option<Status>
+    ensures { result ≡ status_now setup.now (S.view_of seen.now) req r }
+{
+    status_due(seen, setup, req, r)
+}
+
+// Whether every piece of the request has its end, or it was aborted, and the rules let it complete.
+fn may_end<S: Sees>(seen: &S, me: u32, req: ReqId, r: OpenRequest) -> bool
+    ensures { result ≡ may_end me (S.view_of seen.now) req r }
+{
+    let is_over = r.aborted.is_some() || all_ended(seen, req, r.pieces.unwrap_or(0));
+    is_over && may_complete(seen, me, req)
+}
+
+// How this request completes, where it may end.
+fn ending_in<S: Sees>(
+    alloc: Global,
+    seen: &S,
+    setup: &Setup,
+    me: u32,
+    req: ReqId,
+    r: OpenRequest,
+) -> Result<Option<Ending>, OutOfMemory>
+    ensures { IfOk result (λ e. e ≡ ending_in setup.now me (S.view_of seen.now) req (Some r)) }
+{
+    if !may_end(seen, me, req, r) {
+        return Ok(None);
+    }
+    match status_now(seen, setup, req, r) {
+        Some(status) => ends_as(alloc, seen, req, r, r.pieces.unwrap_or(0), status),
+        None => Ok(None),
+    }
+}
+
+/// How a request completes that is here, where every piece of it is back with its end, or it was aborted
+/// and no piece of it is out, and the rules let it complete with a status. A read that succeeds only where
+/// it has 8 bytes to show.
+pub fn ending_of<S: Sees>(
+    alloc: Global,
+    seen: &S,
+    setup: &Setup,
+    me: u32,
+    req: ReqId,
+) -> Result<Option<Ending>, OutOfMemory>
+    ensures { IfOk result (λ e. e ≡ ending_of setup.now me (S.view_of seen.now) req) }
+{
+    match request_here(seen, req) {
+        Some(r) => ending_in(alloc, seen, setup, me, req, r),
+        None => Ok(None),
+    }
+}
+
+// Lets the first n pieces of a request go.
+#[tactic(auto, using(crate::proofs::Left::left_from))]
+fn drop_pieces(tokens: &mut Vec<(Id, Kept)>, req: ReqId, n: u32)
+    ensures { here_in tokens.new.items ≡ gone req (range_with_len 0 n) (here_in tokens.old.items) }
+{
+    for k in 0..n {
+        let_go(tokens, Id::Piece(req, k));
+    }
+}
+
+/// Lets a request and its first n pieces go.
+pub fn drop_request(tokens: &mut Vec<(Id, Kept)>, req: ReqId, n: u32)
+    ensures { here_in tokens.new.items ≡ ended req n (here_in tokens.old.items) }
+{
+    let_go(tokens, Id::Request(req));
+    drop_pieces(tokens, req, n);
+}

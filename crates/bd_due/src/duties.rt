@@ -1,0 +1,64 @@
+//! What a thread owes, and the event by which it does it: a channel whose count came to zero is dropped,
+//! that of a limited device put, a base handle closed, a device removed that stands on one that is being
+//! removed, and the registry told of a device that was destructed.
+ghost use Rattle.std.specs.Prelude.{◌≡◌, find, IfOk};
+ghost use Rattle.bd_machine.specs.BlockMap.{row_of};
+ghost use Rattle.bd_due.specs.Duties.{duty_owed, event_of, is_duty, removal_of};
+
+use bd_base::{DevId, OutOfMemory, RegEvent, Setup};
+use bd_blocks::row_of;
+use bd_machine::Owed;
+
+// Whether an event does it: any but the end of a device.
+fn is_duty(owed: &Owed) -> bool
+    ensures { result ≡ is_duty owed.now }
+{
+    !matches!(owed, Owed::Destruct(_))
+}
+
+fn first_duty(owed: &[Owed]) -> Option<Owed>
+    ensures { result ≡ find is_duty owed.now }
+{
+    owed.iter().copied().find(|o| is_duty(o))
+}
+
+/// The event that removes a device; none where the setup doesn't have it.
+pub fn removal_of(setup: &Setup, dev: DevId) -> Result<Option<RegEvent>, OutOfMemory>
+    ensures { IfOk result (λ event. event ≡ removal_of (row_of setup.now dev)) }
+{
+    match row_of(setup, dev) {
+        Some(row) => Ok(Some(RegEvent::BeginRemove {
+            name: row.name.copy()?,
+        })),
+        None => Ok(None),
+    }
+}
+
+// The event by which a thread does what it owes. None for the end of a device, and for the removal of one
+// that isn't in the setup.
+fn event_of(setup: &Setup, owed: Owed) -> Result<Option<RegEvent>, OutOfMemory>
+    ensures { IfOk result (λ event. event ≡ event_of setup.now owed) }
+{
+    match owed {
+        Owed::Drop(dev) => Ok(Some(RegEvent::DropChannel { dev })),
+        Owed::Put(dev) => Ok(Some(RegEvent::PutChannel {
+            dev,
+            closing: false,
+        })),
+        Owed::Close(handle) => Ok(Some(RegEvent::Close { handle })),
+        Owed::Remove(dev) => removal_of(setup, dev),
+        Owed::Report(dev) => Ok(Some(RegEvent::Destructed { dev })),
+        Owed::Destruct(_) => Ok(None),
+    }
+}
+
+/// The event of the first thing that a thread owes and an event does. None where it owes none, and for the
+/// removal of a device that isn't in the setup.
+pub fn duty_owed(setup: &Setup, owed: &[Owed]) -> Result<Option<RegEvent>, OutOfMemory>
+    ensures { IfOk result (λ event. event ≡ duty_owed setup.now owed.now) }
+{
+    match first_duty(owed) {
+        Some(first) => event_of(setup, first),
+        None => Ok(None),
+    }
+}

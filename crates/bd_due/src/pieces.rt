@@ -1,0 +1,50 @@
+//! The pieces of a request that was cut: held, and to be put.
+ghost use Rattle.std.specs.Prelude.{◌≡◌, ◌++◌, OnOk};
+ghost use Rattle.bd_machine.specs.Alone.{held_after};
+ghost use Rattle.bd_machine.specs.Requests.{pieces_made};
+ghost use Rattle.bd_links.specs.Tokens.{here_in};
+ghost use Rattle.bd_due.specs.Pieces.{pieces_to};
+
+use bd_base::{OutOfMemory, ReqId, Setup, Token};
+use bd_blocks::new_piece;
+use bd_links::hold;
+use bd_machine::{Extent, Id, Kept, OpenRequest};
+use std::collections::VecDeque;
+
+/// Holds the pieces of a request, one for each extent.
+pub fn hold_pieces(
+    tokens: &mut Vec<(Id, Kept)>,
+    setup: &Setup,
+    req: ReqId,
+    r: OpenRequest,
+    extents: &[Extent],
+) -> Result<(), OutOfMemory>
+    ensures { OnOk result (here_in tokens.new.items ≡ held_after (pieces_made setup.now req r 0 extents.now) (here_in tokens.old.items)) }
+{
+    let mut k: u32 = 0;
+    for extent in extents {
+        let piece = new_piece(setup, r, k, *extent)?;
+        hold(tokens, Id::Piece(req, k), Kept::Piece(piece))?;
+        let Some(more) = k.checked_add(1) else {
+            return Err(OutOfMemory);
+        };
+        k = more;
+    }
+    Ok(())
+}
+
+/// The first n pieces of a request are to be put to a thread.
+#[tactic(auto, using(crate::proofs::Left::left_from))]
+pub fn send_pieces(
+    outbox: &mut VecDeque<(u32, Token)>,
+    to: u32,
+    req: ReqId,
+    n: u32,
+) -> Result<(), OutOfMemory>
+    ensures { OnOk result (outbox.new.items ≡ outbox.old.items ++ pieces_to to req n) }
+{
+    for k in 0..n {
+        outbox.push_back((to, Token::Piece(req, k)))?;
+    }
+    Ok(())
+}

@@ -1,0 +1,101 @@
+//! Where a walk goes next, and what leaves a thread with a token.
+ghost use Rattle.std.specs.Prelude.{◌≡◌, ◌++◌, true, is_some, IfOk, OnOk, Some, None};
+ghost use Rattle.bd_links.specs.Tokens.{here_in, Sets};
+ghost use Rattle.bd_due.specs.Sending.{bound_for, first_due, goes_on, kept_on_way, token_of};
+
+use bd_base::{OutOfMemory, Token, WalkId};
+use bd_blocks::first_of;
+use bd_changes::{is_at_end, news_of, sent};
+use bd_links::{let_go, take_out};
+use bd_machine::{Due, Id, Kept, News, OpenWalk};
+use std::collections::VecDeque;
+
+/// A walk is to be put to the least thread left, or back to the one that began it.
+pub fn send_off(
+    outbox: &mut VecDeque<(u32, Token)>,
+    id: WalkId,
+    walk: OpenWalk,
+) -> Result<(), OutOfMemory>
+    ensures { OnOk result (outbox.new.items ≡ outbox.old.items ++ bound_for id walk) }
+{
+    let to = match first_of(walk.left) {
+        Some(first) => first,
+        None => id.thread,
+    };
+    outbox.push_back((to, Token::Walk(id)))?;
+    Ok(())
+}
+
+/// A walk that goes on is to be put; one that ends isn't.
+pub fn send_on(
+    outbox: &mut VecDeque<(u32, Token)>,
+    me: u32,
+    id: WalkId,
+    walk: OpenWalk,
+) -> Result<(), OutOfMemory>
+    ensures { OnOk result (outbox.new.items ≡ outbox.old.items ++ goes_on me id walk) }
+{
+    if is_at_end(me, id, walk) {
+        Ok(())
+    } else {
+        send_off(outbox, id, walk)
+    }
+}
+
+/// The token leaves this thread: what is kept of it on its way.
+pub fn leave(tokens: &mut Vec<(Id, Kept)>, id: Id, what: &Token) -> Result<Kept, OutOfMemory>
+    requires { is_some (kept_on_way what.now (here_in tokens.old.items id)) ≡ true }
+    ensures kept { IfOk result (λ kept. kept_on_way what.now (here_in tokens.old.items id) ≡ Some kept) }
+    ensures gone { OnOk result (Sets tokens.old.items tokens.new.items id None) }
+{
+    if let Some(told) = news_of(what)? {
+        let_go(tokens, id);
+        return Ok(Kept::Notice(told));
+    }
+    match take_out(tokens, id) {
+        Some(kept) => Ok(sent(kept)),
+        None => unreachable!(),
+    }
+}
+
+/// The same token once more.
+pub fn copy_of(what: &Token) -> Result<Token, OutOfMemory>
+    ensures { IfOk result (λ token. token ≡ what.now) }
+{
+    match what {
+        Token::Request(req) => Ok(Token::Request(*req)),
+        Token::Piece(req, k) => Ok(Token::Piece(*req, *k)),
+        Token::Walk(walk) => Ok(Token::Walk(*walk)),
+        Token::Go(req, threads) => Ok(Token::Go(*req, *threads)),
+        Token::Gone(handle) => Ok(Token::Gone(*handle)),
+        Token::Channel(dev) => Ok(Token::Channel(*dev)),
+        Token::Device(dev) => Ok(Token::Device(*dev)),
+        Token::Mark(mark) => Ok(Token::Mark(mark.copy()?)),
+    }
+}
+
+// The token that tells the news.
+fn token_of(news: &News) -> Result<Token, OutOfMemory>
+    ensures { IfOk result (λ what. what ≡ token_of news.now) }
+{
+    match news {
+        News::Mark(mark) => Ok(Token::Mark(mark.copy()?)),
+        News::Gone(handle) => Ok(Token::Gone(*handle)),
+        News::Channel(dev) => Ok(Token::Channel(*dev)),
+        News::Device(dev) => Ok(Token::Device(*dev)),
+        News::Go(req, threads) => Ok(Token::Go(*req, *threads)),
+    }
+}
+
+/// The first message that is due, and its receiver; none where none is due.
+pub fn first_due(due: &[Due]) -> Result<Option<(u32, Token)>, OutOfMemory>
+    ensures { IfOk result (λ first. first ≡ first_due due.now) }
+{
+    match due.first() {
+        Some(d) => {
+            let what = token_of(&d.news)?;
+            Ok(Some((d.receiver, what)))
+        }
+        None => Ok(None),
+    }
+}

@@ -1,0 +1,55 @@
+//! What an abort stops: the request waits at no limited device, and its pieces that wait unsent are no longer
+//! to be put.
+ghost use Rattle.std.specs.Prelude.{◌≡◌, option_copied, Some};
+ghost use Rattle.bd_machine.specs.Aborts.{stopped};
+ghost use Rattle.bd_machine.specs.Completion.{waits_unsent};
+ghost use Rattle.bd_machine.specs.Kept.{as_piece};
+ghost use Rattle.bd_links.specs.Tokens.{here_in};
+ghost use Rattle.bd_due.specs.Stopping.{is_unsent, without_unsent};
+
+use bd_base::{ReqId, Setup, Token};
+use bd_course::depart;
+use bd_machine::{Id, Kept, OpenRequest, Part, Progress};
+use bd_rules::next_limited;
+use bd_view::{look_up, same_request};
+use std::alloc::Global;
+use std::collections::VecDeque;
+
+// Whether it is a piece without an end, and not out.
+fn waits_unsent(kept: Option<&Kept>) -> bool
+    ensures { result ≡ waits_unsent (as_piece (option_copied kept.entry)) }
+{
+    match kept {
+        Some(Kept::Piece(p)) => p.end.is_none() && matches!(p.progress, Progress::Held),
+        _ => false,
+    }
+}
+
+// Whether it is a piece of this request that waits here unsent.
+fn is_unsent(held: &[(Id, Kept)], req: ReqId, what: &Token) -> bool
+    ensures { result ≡ is_unsent req (here_in held.now) what.now }
+{
+    match what {
+        Token::Piece(of, k) => {
+            same_request(*of, req) && waits_unsent(look_up(held, Id::Piece(*of, *k)))
+        }
+        _ => false,
+    }
+}
+
+/// The pieces of a request that wait here unsent are no longer to be put; all else is, in its order.
+pub fn drop_unsent(outbox: &mut VecDeque<(u32, Token)>, held: &[(Id, Kept)], req: ReqId)
+    ensures { outbox.new.items ≡ without_unsent req (here_in held.now) outbox.old.items }
+{
+    outbox.retain(|x| !is_unsent(held, req, &x.1));
+}
+
+/// A request that is aborted waits no longer at the home of its next limited device, if it has one.
+pub fn stop_waiting(alloc: Global, part: &mut Part, setup: &Setup, req: ReqId, r: OpenRequest)
+    ensures { part.new ≡ stopped setup.now part.old req (Some r) }
+{
+    match next_limited(setup, r) {
+        Some(dev) => depart(alloc, &mut part.limited, req, dev),
+        None => {}
+    }
+}

@@ -1,0 +1,43 @@
+use Rattle.std.proofs.Common.{◌≡◌, Some, true, refl, sym, ◌∙◌, ap, subst}
+use Rattle.bd_base.specs.declared.act.Act.TheVariants as acts
+use Rattle.bd_machine.specs.declared.state.Id.TheVariants as ids
+use Rattle.bd_machine.specs.declared.state.Kept.TheVariants as keeps
+use Rattle.bd_machine.specs.declared.state.OpenRequest.{OpenRequest}
+use Rattle.bd_machine.specs.Aborts.{stopped}
+use Rattle.bd_due.specs.Stopping.{without_unsent}
+use Rattle.bd_links.specs.Entries.{longer}
+use Rattle.bd_links.specs.Tokens.{here_in, Sets}
+use Rattle.bd_thread.specs.declared.links.Links.{Links}
+use Rattle.bd_thread.specs.declared.thread.Thread.{Thread}
+use Rattle.bd_thread.specs.Aborts.{abort_due, Aborts, IsAborted}
+use Rattle.bd_thread.specs.Acted.{Acted}
+use Rattle.bd_thread.specs.Requests.{KeepsTickets}
+use Rattle.bd_thread.specs.Seen.{untaken}
+use Rattle.bd_thread.proofs.Aborting.{aborted_acted, aborted_tickets, aborts_so, stays_open}
+use Rattle.bd_thread.proofs.Going.{carried}
+use Rattle.bd_thread.proofs.thread.Thread.abort.Goals as goal
+
+pub returns-in_default-clause-aborts : goal.returns-in_default-clause-aborts
+returns-in_default-clause-aborts c = stays_open c.args.self.now c.args.links.now c.args.req c.args.cause (sym c.abort_due.ensures ∙ c.in_default.is)
+
+pub returns : goal.returns
+returns c =
+    let old = c.args.self.now in
+    let before = c.args.links.now in
+    let r = c.in-Some.r in
+    let due : abort_due old before c.args.req c.args.cause ≡ Some r = sym c.abort_due.ensures ∙ c.in-Some.is in
+    let part = untaken (stopped old.setup.now old.part c.args.req (Some r)) in
+    let new : Thread = record old { part = part; held = c.hold.new.tokens; outbox = c.drop_unsent.new.outbox } in
+    let after : Links = record before { entries = longer old.me before.entries (acts.Abort c.args.req c.args.cause) } in
+    let thread = c.in_ok-note.ensures.thread ∙ ap (λ p. let n : Thread = record new { part = untaken p } in n) c.stop_waiting.ensures in
+    let is : IsAborted c.args.req c.args.cause r old before new after = record {
+      thread = refl;
+      held = subst (λ (x : OpenRequest). Sets old.held.items c.hold.new.tokens.items (ids.Request c.args.req) (Some (keeps.Request x))) c.aborted.ensures c.in_ok-hold.ensures;
+      outbox = c.drop_unsent.ensures ∙ ap (λ xs. without_unsent c.args.req (here_in xs) old.outbox.items) c.as_slice.ensures.value;
+      links = refl;
+    } in
+    record {
+      acted = carried (Acted old before) new after _ _ thread c.in_ok-note.ensures.links (aborted_acted old before new after c.args.req c.args.cause r due is);
+      tickets = carried (λ t l. KeepsTickets old → KeepsTickets t) new after _ _ thread c.in_ok-note.ensures.links (aborted_tickets old before new after c.args.req c.args.cause r is);
+      aborts = carried (λ t l. Aborts c.args.req c.args.cause old before t l true) new after _ _ thread c.in_ok-note.ensures.links (aborts_so old before new after c.args.req c.args.cause r due is);
+    }

@@ -1,0 +1,71 @@
+use Rattle.std.proofs.Common.{◌≡◌, ℕ, List, ◌++◌, Option, Some, refl, sym, ◌∙◌, ap}
+use Rattle.bd_base.specs.declared.act.Act.TheVariants as acts
+use Rattle.bd_machine.specs.declared.state.OpenWalk.{OpenWalk}
+use Rattle.bd_machine.specs.declared.state.Part.{Part}
+use Rattle.bd_machine.specs.Alone.{held_after}
+use Rattle.bd_machine.specs.View.{Change, Move, View}
+use Rattle.bd_machine.specs.Walks.{marked_by, walked}
+use Rattle.bd_changes.specs.Begun.{begun, walk_moved}
+use Rattle.bd_walks.specs.Walking.{with_channel}
+use Rattle.bd_links.specs.Entries.{longer}
+use Rattle.bd_links.specs.Tokens.{here_in}
+use Rattle.bd_thread.specs.declared.links.Links.{Links}
+use Rattle.bd_thread.specs.declared.thread.Thread.{Thread}
+use Rattle.bd_thread.specs.Acted.{Acted}
+use Rattle.bd_thread.specs.Requests.{KeepsTickets}
+use Rattle.bd_thread.specs.Seen.{untaken, view_of}
+use Rattle.bd_due.specs.Sending.{goes_on}
+use Rattle.bd_thread.specs.Walking.{sent_off, visit_change, visit_due, IsVisited}
+use Rattle.bd_thread.proofs.Going.{carried}
+use Rattle.bd_thread.proofs.Took.{held_then}
+use Rattle.bd_thread.proofs.Walking.{change_is, marked_as, visit_may, visited_acted, visited_tickets}
+use Rattle.bd_thread.proofs.thread.Thread.pass.Goals as goal
+
+pub returns : goal.returns
+returns c =
+    let t = c.args.self.now in
+    let links = c.args.links.now in
+    let id = c.args.id in
+    let w = c.args.walk in
+    let me = t.me in
+    let setup = t.setup.now in
+    let due : visit_due t links id ≡ Some w = c.requires in
+    let may = visit_may t links id w due in
+    let after = c.visited-after.result in
+    let marks : Part = marked_by setup me (view_of t links) w.dev w.kind in
+    let changed : visit_change t links id w ≡ walked me id after marks =
+    change_is t links id w may.here ∙ ap (λ (x : OpenWalk). walked me id x marks) (sym c.visited-after.ensures) in
+    let marked : c.mark.new.part ≡ marks = c.in_ok-mark.ensures
+    ∙ ap (λ (channel : Option ℕ). marked_by setup me (with_channel t.part channel) w.dev w.kind) (c.channels-channel.ensures ∙ ap (λ (v : View). v.channels w.dev) c.seen.ensures)
+    ∙ marked_as setup me (view_of t links) w.dev w.kind in
+    let part : c.walk_on.new.part ≡ (visit_change t links id w).part =
+    c.in_ok-next.ensures.part ∙ ap (λ (p : Part). (walked me id after p).part) marked ∙ sym (ap (λ (x : Change). x.part) changed) in
+    let moves : walk_moved me id after ++ begun c.in_ok-next.next ≡ (visit_change t links id w).moves =
+    sym c.in_ok-next.ensures.moves ∙ ap (λ (p : Part). (walked me id after p).moves) marked ∙ sym (ap (λ (x : Change). x.moves) changed) in
+    let began = c.in_ok-begin.ensures in
+    let held : here_in c.begin.new.self.held.items ≡ held_after (visit_change t links id w).moves (here_in t.held.items) =
+    began.held ∙ ap (held_after (begun c.in_ok-next.next)) c.in_ok-hold_walk.ensures
+    ∙ sym (held_then (walk_moved me id after) (begun c.in_ok-next.next) (here_in t.held.items))
+    ∙ ap (λ (ms : List Move). held_after ms (here_in t.held.items)) moves in
+    let new : Thread = record t { part = untaken (visit_change t links id w).part; held = c.begin.new.self.held; outbox = c.send_on.new.outbox } in
+    let shared : Links = record links { entries = longer me links.entries (acts.Visit id w.dev w.kind) } in
+    let left : c.begin.new.self ≡ record t { part = c.walk_on.new.part; held = c.begin.new.self.held; outbox = c.begin.new.self.outbox } = began.thread in
+    let thread = c.in_ok-note.ensures.thread
+    ∙ ap (λ (n : Thread). let m : Thread = record n { part = untaken n.part; outbox = c.send_on.new.outbox } in m) left
+    ∙ ap (λ (p : Part). let m : Thread = record new { part = untaken p } in m) part in
+    let entries = c.in_ok-note.ensures.links ∙ ap (λ (n : Thread). let l : Links = record links { entries = longer n.me links.entries (acts.Visit id w.dev w.kind) } in l) left in
+    let is : IsVisited id w t links new shared = record {
+      next = c.in_ok-next.next;
+      thread = refl;
+      held = held;
+      outbox = c.in_ok-send_on.ensures
+          ∙ ap (λ (n : Thread). c.begin.new.self.outbox.items ++ goes_on n.me id after) left
+          ∙ ap (λ xs. xs ++ goes_on me id after) began.outbox
+          ∙ ap (λ (x : OpenWalk). (t.outbox.items ++ sent_off c.in_ok-next.next) ++ goes_on me id x) c.visited-after.ensures;
+      links = refl;
+    } in
+    record {
+      acted = carried (Acted t links) new shared _ _ thread entries (visited_acted t links new shared id w due is);
+      tickets = carried (λ n l. KeepsTickets t → KeepsTickets n) new shared _ _ thread entries (visited_tickets t links new shared id w is);
+      visited = carried (IsVisited id w t links) new shared _ _ thread entries is;
+    }

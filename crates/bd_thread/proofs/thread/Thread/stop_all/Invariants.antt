@@ -1,0 +1,15 @@
+use Rattle.std.proofs.Common.{drop}
+use Rattle.bd_thread.specs.declared.links.Links.{Links}
+use Rattle.bd_thread.specs.declared.thread.Thread.{Thread}
+use Rattle.bd_thread.specs.Aborts.{StopsAll, StopsEach}
+use Rattle.bd_thread.specs.Acted.{Acted}
+use Rattle.bd_thread.specs.Requests.{KeepsTickets}
+use Rattle.bd_thread.proofs.thread.Thread.stop_all.Given as goal
+
+-- once those that are left are stopped, all are
+abbrev pub invariant-loop-request : goal.invariant-loop-request
+invariant-loop-request l = record {
+  acted : Acted l.initial.self l.initial.links l.self l.links;
+  tickets : KeepsTickets l.initial.self → KeepsTickets l.self;
+  stops : (n : Thread) (links : Links) → StopsEach (drop l.request-index l.request-items) l.cause l.self l.links n links → StopsAll l.cause l.initial.self l.initial.links n links;
+}

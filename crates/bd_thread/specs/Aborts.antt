@@ -1,0 +1,71 @@
+-- When a thread aborts a request, what that leaves, and what a mark stops.
+use Rattle.std.specs.Prelude.{◌≡◌, Bool, true, false, cond, List, [], ◌∷◌, Option, Some, None, is_none}
+use Rattle.bd_base.specs.declared.act.Act.TheVariants as acts
+use Rattle.bd_base.specs.declared.id.ReqId.{ReqId}
+use Rattle.bd_base.specs.declared.request.AbortCause.{AbortCause}
+use Rattle.bd_machine.specs.declared.state.Id.TheVariants as ids
+use Rattle.bd_machine.specs.declared.state.Kept.TheVariants as keeps
+use Rattle.bd_machine.specs.declared.state.Open.{Open}
+use Rattle.bd_machine.specs.declared.state.OpenRequest.{OpenRequest}
+use Rattle.bd_machine.specs.Aborts.{aborted, guards_abort, stopped}
+use Rattle.bd_machine.specs.Kept.{request_here}
+use Rattle.bd_machine.specs.Step.{first_failing}
+use Rattle.bd_due.specs.Stopping.{without_unsent}
+use Rattle.bd_links.specs.Entries.{longer}
+use Rattle.bd_links.specs.Tokens.{here_in, Sets}
+use Rattle.bd_thread.specs.declared.links.Links.{Links}
+use Rattle.bd_thread.specs.declared.thread.Thread.{Thread}
+use Rattle.bd_thread.specs.Completions.{MayComplete}
+use Rattle.bd_thread.specs.Seen.{untaken, view_of}
+
+-- ---- an abort
+
+-- the rules let the thread abort the request for this cause
+abbrev pub may_abort : Thread → Links → ReqId → AbortCause → Bool
+may_abort t links req cause = is_none (first_failing (guards_abort t.setup.now t.me (view_of t links) req cause))
+
+-- the request, where it is here and may be aborted
+abbrev pub abort_due : Thread → Links → ReqId → AbortCause → Option OpenRequest
+abort_due t links req cause = cond (may_abort t links req cause) (request_here (view_of t links) req) None
+
+-- one Abort: the request is aborted and waits at no limited device, and its pieces that wait unsent are no longer to be put
+pub record IsAborted (req : ReqId) (cause : AbortCause) (r : OpenRequest) (old : Thread) (before : Links) (new : Thread) (after : Links) : Type 0 where
+  pub thread : new ≡ record old { part = untaken (stopped old.setup.now old.part req (Some r)); held = new.held; outbox = new.outbox }
+  pub held : Sets old.held.items new.held.items (ids.Request req) (Some (keeps.Request (aborted cause r)))
+  pub outbox : new.outbox.items ≡ without_unsent req (here_in old.held.items) old.outbox.items
+  pub links : after ≡ record before { entries = longer old.me before.entries (acts.Abort req cause) }
+
+abbrev pub AbortsBy : ReqId → AbortCause → Thread → Links → Thread → Links → Bool → Option OpenRequest → Type 0
+AbortsBy req cause old before new after done None = (done ≡ false) × (new ≡ old) × (after ≡ before)
+AbortsBy req cause old before new after done (Some r) = (done ≡ true) × IsAborted req cause r old before new after
+
+-- where the request may be aborted, it is; else nothing changes
+abbrev pub Aborts : ReqId → AbortCause → Thread → Links → Thread → Links → Bool → Type 0
+Aborts req cause old before new after done = AbortsBy req cause old before new after done (abort_due old before req cause)
+
+-- ---- what a mark stops
+
+-- it went one way, and then another
+pub record Then (First Second : Thread → Links → Type 0) : Type 0 where
+  pub middle : Thread
+  pub shared : Links
+  pub first : First middle shared
+  pub second : Second middle shared
+
+-- it is aborted, and completes where no piece of it is out
+abbrev pub StopsBy : ReqId → AbortCause → Thread → Links → Thread → Links → Option OpenRequest → Type 0
+StopsBy req cause old before new after None = (new ≡ old) × (after ≡ before)
+StopsBy req cause old before new after (Some r) = Then (λ t links. IsAborted req cause r old before t links) (λ t links. MayComplete req t links new after)
+
+-- a request is stopped, where it may be aborted; else nothing changes
+abbrev pub Stops : ReqId → AbortCause → Thread → Links → Thread → Links → Type 0
+Stops req cause old before new after = StopsBy req cause old before new after (abort_due old before req cause)
+
+-- each of these requests is stopped, one after another
+abbrev pub StopsEach : List Open → AbortCause → Thread → Links → Thread → Links → Type 0
+StopsEach [] cause old before new after = (new ≡ old) × (after ≡ before)
+StopsEach (o ∷ os) cause old before new after = Then (λ t links. Stops o.id cause old before t links) (λ t links. StopsEach os cause t links new after)
+
+-- each open request of the thread is stopped, in order of acceptance
+abbrev pub StopsAll : AbortCause → Thread → Links → Thread → Links → Type 0
+StopsAll cause old before new after = StopsEach old.part.requests cause old before new after

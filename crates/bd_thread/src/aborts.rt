@@ -1,0 +1,91 @@
+//! Aborts: a request of the thread that a mark stops, and all that a mark stops.
+ghost use Rattle.std.specs.Prelude.{◌≡◌, ◌<◌, vec_len, IfOk, OnOk};
+ghost use Rattle.bd_thread.specs.Aborts.{abort_due, may_abort, Aborts, Stops, StopsAll};
+ghost use Rattle.bd_thread.specs.Acted.{Acted};
+ghost use Rattle.bd_thread.specs.Requests.{KeepsTickets};
+
+use crate::links::Links;
+use crate::thread::Thread;
+use bd_base::{AbortCause, Act, OutOfMemory, ReqId};
+use bd_course::{aborted, refused_abort};
+use bd_due::{drop_unsent, stop_waiting};
+use bd_links::hold;
+use bd_machine::{Id, Kept, OpenRequest};
+use bd_rules::request_here;
+
+impl<'a> Thread<'a> {
+    // Whether the rules let the request be aborted for this cause.
+    fn may_abort(&self, links: &Links, req: ReqId, cause: AbortCause) -> bool
+        ensures { result ≡ may_abort self.now links.now req cause }
+    {
+        refused_abort(&self.seen(links), self.setup, self.me, req, cause).is_none()
+    }
+
+    // The request, where it is here and the rules let it be aborted for this cause.
+    fn abort_due(&self, links: &Links, req: ReqId, cause: AbortCause) -> Option<OpenRequest>
+        ensures { result ≡ abort_due self.now links.now req cause }
+    {
+        if self.may_abort(links, req, cause) {
+            request_here(&self.seen(links), req)
+        } else {
+            None
+        }
+    }
+
+    /// Aborts a request that is here, where the rules let it for this cause (it has a range, is neither
+    /// aborted nor to fail, and isn't cut, or a piece of it waits here unsent, or it is held): true, and
+    /// its pieces that wait unsent are no longer to be put. Else the answer is false, and nothing changed.
+    pub(crate) fn abort(
+        &mut self,
+        links: &mut Links,
+        req: ReqId,
+        cause: AbortCause,
+    ) -> Result<bool, OutOfMemory>
+        ensures acted { OnOk result (Acted self.old links.old self.new links.new) }
+        ensures tickets { OnOk result (KeepsTickets self.old → KeepsTickets self.new) }
+        ensures aborts { IfOk result (Aborts req cause self.old links.old self.new links.new) }
+    {
+        let Some(r) = self.abort_due(links, req, cause) else {
+            return Ok(false);
+        };
+        drop_unsent(&mut self.outbox, self.held.as_slice(), req);
+        stop_waiting(self.alloc, &mut self.part, self.setup, req, r);
+        let kept = Kept::Request(aborted(cause, r));
+        hold(&mut self.held, Id::Request(req), kept)?;
+        self.note(links, Act::Abort { req, cause })?;
+        Ok(true)
+    }
+
+    // Aborts a request where the rules let it, and completes it where none of its pieces is out.
+    fn stop(&mut self, links: &mut Links, req: ReqId, cause: AbortCause) -> Result<(), OutOfMemory>
+        requires { self.old.me < vec_len links.old.queues }
+        ensures acted { OnOk result (Acted self.old links.old self.new links.new) }
+        ensures tickets { OnOk result (KeepsTickets self.old → KeepsTickets self.new) }
+        ensures stops { OnOk result (Stops req cause self.old links.old self.new links.new) }
+    {
+        let stopped = self.abort(links, req, cause)?;
+        if !stopped {
+            return Ok(());
+        }
+        let _completed = self.complete(links, req)?;
+        Ok(())
+    }
+
+    /// Stops each open request of the thread, in order of acceptance, that may be aborted for this cause.
+    pub(crate) fn stop_all(
+        &mut self,
+        links: &mut Links,
+        cause: AbortCause,
+    ) -> Result<(), OutOfMemory>
+        requires { self.old.me < vec_len links.old.queues }
+        ensures acted { OnOk result (Acted self.old links.old self.new links.new) }
+        ensures tickets { OnOk result (KeepsTickets self.old → KeepsTickets self.new) }
+        ensures stops { OnOk result (StopsAll cause self.old links.old self.new links.new) }
+    {
+        let open = self.part.requests.copy()?;
+        for request in open.as_slice() {
+            self.stop(links, request.id, cause)?;
+        }
+        Ok(())
+    }
+}
