@@ -1,0 +1,4 @@
+pub mod Rows
+pub mod Journals
+pub mod Fits
+pub mod Laws

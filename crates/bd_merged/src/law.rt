@@ -1,0 +1,25 @@
+//! The laws of logs. Each function says one of them: its body is empty, and its clause is the law,
+//! which the definitions alone prove.
+ghost use Rattle.bd_merged.specs.Laws.{FollowedIsFound, LogsAreCompleteRun, LogsAreRun, MergeOfParts};
+
+/// Logs that the rules accept and that fit together are merged into a run.
+pub fn logs_are_run()
+    ensures { LogsAreRun }
+{}
+
+/// Logs that the rules accept before and after a Shutdown at rest, whose threads are done at the
+/// end, and that fit together, are merged into a complete run.
+pub fn logs_are_complete_run()
+    ensures { LogsAreCompleteRun }
+{}
+
+/// Where each row of the registry's journal names what had to follow in the registry when it was
+/// asked, and the rows of the logs name the same, each log's rows name what had to follow.
+pub fn followed_is_found()
+    ensures { FollowedIsFound }
+{}
+
+/// The merge of parts, one for each thread with the entries of its log, is the merge of the logs.
+pub fn merge_of_parts()
+    ensures { MergeOfParts }
+{}
