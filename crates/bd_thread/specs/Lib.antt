@@ -15,3 +15,4 @@ pub mod Starts
 pub mod Endings
 pub mod Resting
 pub mod Waits
+pub mod Work

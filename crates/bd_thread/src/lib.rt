@@ -16,6 +16,7 @@ mod thread;
 mod turn;
 mod view;
 mod walks;
+mod work;
 
 pub use links::Links;
 pub use requests::Refused;

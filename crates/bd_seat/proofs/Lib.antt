@@ -1,0 +1,4 @@
+mod Fetching
+mod Flushing
+mod SameAnswers
+mod TakenOver
