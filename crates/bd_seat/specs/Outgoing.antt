@@ -1,5 +1,5 @@
 -- What a thread puts to another: the messages of its queue to that thread, put into the ring.
-use Rattle.std.specs.Prelude.{◌≡◌, ℕ, Bool, true, false, ◌&&◌, ◌==◌, ◌⊎◌, List, [], ◌∷◌, ◌++◌, Some}
+use Rattle.std.specs.Prelude.{◌≡◌, ℕ, ◌<◌, Bool, true, false, ◌&&◌, ◌==◌, ◌⊎◌, List, [], ◌∷◌, ◌++◌, length, slice_index_or, Some}
 use Rattle.std.specs.List.{AllByRecursion}
 use Rattle.bd_machine.specs.Messages.{brings}
 use Rattle.bd_turns.specs.declared.queue.Message.{Message}
@@ -30,3 +30,17 @@ pub record Flushed (stamp : ℕ) (pass : Sender) (queue : List Message) (pass' :
 -- no first message can be put, or the ring was found full
 abbrev pub HasFlushedAll : Place → Sender → List Message → Type 0
 HasFlushedAll place pass queue = (has_next pass.number queue ≡ false) ⊎ WasFull place pass
+
+-- each pass is for the ring at its place
+abbrev pub AreSendsTo : List Place → List Sender → Type 0
+AreSendsTo rings sends = (k : ℕ) (d : Place) (e : Sender) → k < length rings → (slice_index_or sends k e).ring ≡ (slice_index_or rings k d).ring
+
+-- what goes to another thread was flushed; what goes to the thread itself stayed
+abbrev pub FlushedIf : Bool → ℕ → Sender → List Message → Sender → List Message → Type 0
+FlushedIf true stamp pass queue pass' queue' = (pass' ≡ pass) × (queue' ≡ queue)
+FlushedIf false stamp pass queue pass' queue' = Flushed stamp pass queue pass' queue'
+
+-- so it is with each queue
+abbrev pub FlushedAll : ℕ → ℕ → List Sender → List (List Message) → List Sender → List (List Message) → Type 0
+FlushedAll me stamp sends queues sends' queues' =
+    (k : ℕ) (d : Sender) → k < length queues → FlushedIf (k == me) stamp (slice_index_or sends k d) (slice_index_or queues k []) (slice_index_or sends' k d) (slice_index_or queues' k [])

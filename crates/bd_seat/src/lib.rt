@@ -8,6 +8,6 @@ mod replica;
 mod taking;
 
 pub use incoming::fetch;
-pub use outgoing::flush;
+pub use outgoing::{flush, flush_all};
 pub use replica::follow;
 pub use taking::{append_all, take_over};

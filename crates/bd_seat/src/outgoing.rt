@@ -1,6 +1,6 @@
 //! What a thread puts to another: the messages of its queue to that thread, put into the ring.
-ghost use Rattle.std.specs.Prelude.{◌≡◌, IfOk, OnOk};
-ghost use Rattle.bd_seat.specs.Outgoing.{has_next, Flushed, FlushedOne, HasFlushedAll};
+ghost use Rattle.std.specs.Prelude.{◌≡◌, length, vec_len, IfOk, OnOk};
+ghost use Rattle.bd_seat.specs.Outgoing.{has_next, AreSendsTo, Flushed, FlushedAll, FlushedOne, HasFlushedAll};
 
 use bd_base::OutOfMemory;
 use bd_links::Queue;
@@ -69,4 +69,30 @@ pub fn flush<W: Wait>(
         }
     }
     unreachable!()
+}
+
+/// Puts what goes to other threads into their rings, queue by queue as `flush` does. A ring that is full
+/// holds up no other; what the thread put to itself stays in its queue. Out of memory a message may be
+/// lost, and the thread has to halt.
+pub fn flush_all<W: Wait>(
+    rt: &W,
+    rings: &[Ring],
+    sends: &mut Vec<SendPass>,
+    queues: &mut Vec<Queue>,
+    me: usize,
+    stamp: u128,
+) -> Result<(), OutOfMemory>
+    requires rings { length rings.now ≡ vec_len queues.old }
+    requires sends { vec_len sends.old ≡ vec_len queues.old }
+    requires each { AreSendsTo rings.now sends.old.items }
+    ensures flushed { OnOk result (FlushedAll me stamp sends.old.items queues.old.items sends.new.items queues.new.items) }
+    ensures queues { vec_len queues.new ≡ vec_len queues.old }
+    ensures sends { vec_len sends.new ≡ vec_len sends.old }
+{
+    for to in 0..queues.len() {
+        if to != me {
+            flush(rt, &rings[to], &mut sends[to], &mut queues[to], stamp)?;
+        }
+    }
+    Ok(())
 }
