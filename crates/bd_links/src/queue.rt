@@ -50,7 +50,16 @@ impl Queue {
         Ok(())
     }
 
-    fn pop(&mut self) -> Option<Message>
+    /// Puts a message before all others.
+    pub fn push_first(&mut self, message: Message) -> Result<(), OutOfMemory>
+        ensures { OnOk result (self.new ≡ message ∷ self.old) }
+    {
+        self.messages.push_front(message)?;
+        Ok(())
+    }
+
+    /// Takes the first message. None where there is none.
+    pub fn pop(&mut self) -> Option<Message>
         ensures some { IfSome result (λ m. self.old ≡ m ∷ self.new) }
         ensures none { IfNone result (self.new ≡ self.old) }
         ensures empty { IfNone result (self.old ≡ []) }

@@ -1,0 +1,5 @@
+mod Fetching
+mod Flushing
+mod FlushingAll
+mod SameAnswers
+mod TakenOver

@@ -1,0 +1,46 @@
+-- What a thread puts to another: the messages of its queue to that thread, put into the ring.
+use Rattle.std.specs.Prelude.{◌≡◌, ℕ, ◌<◌, Bool, true, false, ◌&&◌, ◌==◌, ◌⊎◌, List, [], ◌∷◌, ◌++◌, length, slice_index_or, Some}
+use Rattle.std.specs.List.{AllByRecursion}
+use Rattle.bd_machine.specs.Messages.{brings}
+use Rattle.bd_turns.specs.declared.queue.Message.{Message}
+use Rattle.bd_turns.specs.declared.queue.Post.{Post}
+use Rattle.bd_ring.specs.Rings.{Place, Sender, WasFull, after_put}
+use Rattle.bd_seat.specs.Incoming.{messages_of}
+
+-- there is a first message, which is of this sender and brings the token that it names
+abbrev pub has_next : ℕ → List Message → Bool
+has_next sender [] = false
+has_next sender (m ∷ ms) = (m.sender == sender) && brings m.what (Some m.kept)
+
+abbrev pub post_of : ℕ → Message → Post
+post_of stamp m = record { message = m; stamp = stamp }
+
+-- the first message was put, or nothing changed, since none can be put or the ring was full
+abbrev pub FlushedOne : ℕ → Place → Sender → List Message → Sender → List Message → Bool → Type 0
+FlushedOne stamp place pass queue pass' queue' true = (m : Message) × (queue ≡ m ∷ queue') × (pass' ≡ after_put pass (post_of stamp m))
+FlushedOne stamp place pass queue pass' queue' false = (pass' ≡ pass) × (queue' ≡ queue) × ((has_next pass.number queue ≡ false) ⊎ WasFull place pass)
+
+-- the messages of these posts, which have this stamp, were the first of the queue, in order; they were put, and the others stayed
+pub record Flushed (stamp : ℕ) (pass : Sender) (queue : List Message) (pass' : Sender) (queue' : List Message) : Type 0 where
+  pub posts : List Post
+  pub put : pass' ≡ record pass { put = pass.put ++ posts }
+  pub queue_is : messages_of posts ++ queue' ≡ queue
+  pub stamped : AllByRecursion (λ p. p.stamp ≡ stamp) posts
+
+-- no first message can be put, or the ring was found full
+abbrev pub HasFlushedAll : Place → Sender → List Message → Type 0
+HasFlushedAll place pass queue = (has_next pass.number queue ≡ false) ⊎ WasFull place pass
+
+-- each pass is for the ring at its place
+abbrev pub AreSendsTo : List Place → List Sender → Type 0
+AreSendsTo rings sends = (k : ℕ) (d : Place) (e : Sender) → k < length rings → (slice_index_or sends k e).ring ≡ (slice_index_or rings k d).ring
+
+-- what goes to another thread was flushed; what goes to the thread itself stayed
+abbrev pub FlushedIf : Bool → ℕ → Sender → List Message → Sender → List Message → Type 0
+FlushedIf true stamp pass queue pass' queue' = (pass' ≡ pass) × (queue' ≡ queue)
+FlushedIf false stamp pass queue pass' queue' = Flushed stamp pass queue pass' queue'
+
+-- so it is with each queue
+abbrev pub FlushedAll : ℕ → ℕ → List Sender → List (List Message) → List Sender → List (List Message) → Type 0
+FlushedAll me stamp sends queues sends' queues' =
+    (k : ℕ) (d : Sender) → k < length queues → FlushedIf (k == me) stamp (slice_index_or sends k d) (slice_index_or queues k []) (slice_index_or sends' k d) (slice_index_or queues' k [])

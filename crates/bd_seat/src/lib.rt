@@ -1,0 +1,13 @@
+//! What stands round a thread that runs beside others: how messages come to it and go out, how its
+//! registry follows the shared one, and how what it did goes into its log.
+#![tactic(auto)]
+
+mod incoming;
+mod outgoing;
+mod replica;
+mod taking;
+
+pub use incoming::fetch;
+pub use outgoing::{flush, flush_all};
+pub use replica::follow;
+pub use taking::{append_all, take_over};
