@@ -3,16 +3,11 @@
 #![tactic(auto)]
 
 mod answer;
-mod clock;
-mod host;
-mod output;
 
 use answer::answer_to;
 use bd_outside::OpenGate;
+use bd_real::{Output, SystemClock, SystemHost};
 use bd_top::{Fault, run};
-use clock::SystemClock;
-use host::SystemHost;
-use output::Output;
 use std::env;
 use std::io::{self, ErrorKind};
 use std::process::ExitCode;

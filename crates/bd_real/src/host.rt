@@ -1,5 +1,5 @@
 //! Files of the system, which tell nothing to a contract.
-ghost use Rattle.std.specs.Prelude.{◌≤◌, length, IfOk};
+ghost use Rattle.std.specs.Prelude.{◌≡◌, ◌≤◌, length, None, IfOk};
 
 use bd_outside::{Host, HostNo, MemDisk};
 use std::alloc::Global;
@@ -65,7 +65,7 @@ impl<R: Files> OpenFiles<'_, R> {
 
 /// The files of a runtime as a host.
 #[derive(Drop)]
-pub(crate) struct SystemHost<'a, R: Files> {
+pub struct SystemHost<'a, R: Files> {
     files: OpenFiles<'a, R>,
     faults: u64,
     absences: u64,
@@ -73,7 +73,12 @@ pub(crate) struct SystemHost<'a, R: Files> {
 
 impl<'a, R: Files> SystemHost<'a, R> {
     /// A host with no file open and both counts at 0.
-    pub(crate) fn new(alloc: Global, rt: &'a R) -> SystemHost<'a, R> {
+    pub fn new(alloc: Global, rt: &'a R) -> SystemHost<'a, R>
+        ensures rt { result.files.rt.now ≡ rt.now }
+        ensures closed { result.files.last ≡ None }
+        ensures faults { result.faults ≡ 0 }
+        ensures absences { result.absences ≡ 0 }
+    {
         let files = OpenFiles {
             alloc,
             rt,
@@ -123,4 +128,31 @@ impl<R: Files> Host for SystemHost<'_, R> {
     }
 
     fn close_disk(&mut self, _name: &str, _disk: MemDisk) {}
+}
+
+#[cfg(test)]
+mod tests {
+    use super::*;
+
+    // Files that each Linux system has or hasn't, or that are folders; what reading one gives, and how often the host
+    // failed and found no file by then.
+    const READS: [(&str, u64, Result<usize, HostNo>, u64, u64); 5] = [
+        ("/dev/zero", 0, Ok(4), 0, 0),
+        ("/dev/null", 0, Ok(0), 0, 0),
+        ("no/such-file", 0, Err(HostNo::Absent), 0, 1),
+        ("/dev", 0, Err(HostNo::Failed), 1, 1),
+        ("/dev/null/x", 0, Err(HostNo::Failed), 2, 1),
+    ];
+
+    #[test]
+    fn reads_and_counts(rt: HostRuntime) {
+        let mut host = SystemHost::new(rt.alloc(), &rt);
+        let mut buffer = [7u8; 4];
+        for (name, at, read, faults, absences) in &READS {
+            assert!(rt; host.read_at(name, *at, &mut buffer) == *read, "{name}");
+            assert_eq!(rt; host.faults, *faults, "faults after {name}");
+            assert_eq!(rt; host.absences, *absences, "absences after {name}");
+        }
+        assert!(rt; buffer == [0; 4]);
+    }
 }
