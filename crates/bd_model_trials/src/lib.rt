@@ -14,3 +14,5 @@ mod registry;
 mod setups;
 #[cfg(test)]
 mod stack;
+#[cfg(test)]
+mod tokens;

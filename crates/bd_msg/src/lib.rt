@@ -1,16 +1,14 @@
-//! What threads tell each other, and the tickets of the requests that they accepted.
+//! The tickets of the requests that a thread accepted, and types of requests, pieces and walks.
 #![tactic(auto)]
 
-mod message;
 mod mint;
 mod purse;
 mod request;
 mod ticket;
 mod walk;
 
-pub use message::{Body, Msg, Verdict};
 pub use mint::Mint;
 pub use purse::Purse;
-pub use request::{Piece, PieceEnd, Request};
+pub use request::{Piece, Request};
 pub use ticket::{Finished, Ticket};
 pub use walk::Walk;

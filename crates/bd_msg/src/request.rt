@@ -1,7 +1,7 @@
 //! Requests and the pieces that they are cut into.
-use bd_base::{Bytes, DevId, HandleId, Op, ReqId};
+use bd_base::{DevId, HandleId, Op, ReqId};
 
-/// What was asked of a device. It carries no ticket, so it may be dropped with a message.
+/// What was asked of a device. It carries no ticket, so it may be dropped.
 #[derive(Clone, Copy, Debug, PartialEq, Eq)]
 pub struct Request {
     pub id: ReqId,
@@ -29,17 +29,4 @@ pub struct Piece {
     pub first: u64,
     /// The request's type. The `flip` of a write stands in piece 0 alone.
     pub op: Op,
-}
-
-/// How a piece came back.
-#[derive(Debug, Drop)]
-pub enum PieceEnd {
-    /// It was done, and gave no data.
-    Done,
-    /// It was read, and these are its bytes.
-    Data(Bytes),
-    /// The disk failed.
-    Fault,
-    /// The home's work queue was full: the piece was not done, and has to go again.
-    NoMem,
 }

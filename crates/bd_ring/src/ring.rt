@@ -181,10 +181,8 @@ impl Ring {
             (λ full. (full.post ≡ post) × (pass.new ≡ pass.old) × WasFull self.now pass.old) }
         ensures alone { IfErr result (λ full. (pass.old.senders ≡ 1) × (pass.old.number ≡ 0) → self.now.capacity ≤ length pass.old.put) }
     {
-        match self
-            .queue
-            .push_as::<Puts, R>(rt, &mut pass.pass, Letter::new(post))
-        {
+        let letter = Letter::new(post);
+        match self.queue.push_as::<Puts, R>(rt, &mut pass.pass, letter) {
             Ok(()) => Ok(()),
             Err(letter) => Err(Full {
                 post: letter.open(),

@@ -1,9 +1,12 @@
+ghost use Rattle.std.specs.Prelude.{◌≡◌};
+
 use crate::exchange::{exchange, post};
-use crate::ring::Ring;
+use crate::ring::{Ring, SendPass, Settled, TakePass};
 use crate::slot::Slot;
 use crate::writers::{Journal, two_writers};
 use bd_base::{DevId, Entry, Token};
 use bd_turns::Post;
+use std::sync::Wait;
 use std::test::Fail;
 
 fn device_of(post: &Post) -> Option<DevId> {
@@ -57,23 +60,51 @@ fn two_threads_write_in_turn(rt: HostRuntime) -> Result<(), Fail> {
     Ok(())
 }
 
+// Puts the post with this number: the device that it names, where the ring is full and gives it back.
+fn refused<R: Wait>(rt: &R, ring: &Ring, pass: &mut SendPass, number: u32) -> Option<DevId>
+    requires { pass.old.ring ≡ ring.now.ring }
+    ensures { (pass.new.ring ≡ pass.old.ring) × (pass.new.number ≡ pass.old.number) }
+{
+    match ring.put(rt, pass, post(pass.number(), number)) {
+        Ok(()) => None,
+        Err(full) => device_of(&full.post),
+    }
+}
+
+// Takes the first post: the device that it names.
+fn taken<R: Wait>(rt: &R, ring: &Ring, pass: &mut TakePass) -> Option<DevId>
+    requires { pass.old.ring ≡ ring.now.ring }
+    ensures { (pass.new.ring ≡ pass.old.ring) × (pass.new.senders ≡ pass.old.senders) }
+{
+    let post = ring.take(rt, pass)?;
+    device_of(&post)
+}
+
+// The device of the first post that is left.
+fn left<R: Wait>(rt: &R, settled: &mut Settled) -> Option<DevId> {
+    let post = settled.next(rt)?;
+    device_of(&post)
+}
+
 #[test]
 fn capacity_of_one(rt: HostRuntime) -> Result<(), Fail> {
     let (ring, mut sends, mut take) = Ring::new(rt.alloc(), 1, 2)?;
-    let Some(mut second) = sends.pop() else {
+    let (Some(mut second), Some(first)) = (sends.pop(), sends.pop()) else {
         unreachable!()
     };
-    assert!(rt; ring.take(&rt, &mut take).is_none());
-    assert!(rt; ring.put(&rt, &mut second, post(1, 0)).is_ok());
-    let refused = match ring.put(&rt, &mut second, post(1, 1)) {
-        Ok(()) => None,
-        Err(full) => device_of(&full.post),
-    };
-    assert_eq!(rt; refused, Some(DevId(1)));
-    let taken = ring.take(&rt, &mut take);
-    assert_eq!(rt; taken.as_ref().and_then(device_of), Some(DevId(0)));
-    assert!(rt; ring.take(&rt, &mut take).is_none());
-    assert!(rt; ring.put(&rt, &mut second, post(1, 2)).is_ok());
+    assert_eq!(rt; taken(&rt, &ring, &mut take), None);
+    assert_eq!(rt; refused(&rt, &ring, &mut second, 1), None);
+    assert_eq!(rt; refused(&rt, &ring, &mut second, 2), Some(DevId(2)));
+    assert_eq!(rt; taken(&rt, &ring, &mut take), Some(DevId(1)));
+    assert_eq!(rt; taken(&rt, &ring, &mut take), None);
+    assert_eq!(rt; refused(&rt, &ring, &mut second, 3), None);
+
+    let mut settling = ring.close(take);
+    settling.absorb(first);
+    settling.absorb(second);
+    let mut settled = settling.finish();
+    assert_eq!(rt; left(&rt, &mut settled), Some(DevId(3)));
+    assert_eq!(rt; left(&rt, &mut settled), None);
     Ok(())
 }
 

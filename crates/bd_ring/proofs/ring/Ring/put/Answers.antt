@@ -8,7 +8,7 @@ use Rattle.bd_ring.proofs.ring.Ring.put.Goals as goal
 use Rattle.bd_ring.proofs.ring.Ring.put.Goals.{in-Ok, in-Err}
 
 pub push_as-requires-clause-rule : goal.push_as-requires-clause-rule
-push_as-requires-clause-rule g c = (puts _ _ _ _ c.pass.invariant.1 (ap (λ (p : Post). p.message.sender) c.new.ensures ∙ c.requires.sender ∙ ap (λ s. s.number) (sym c.pass.view_is) ∙ sym c.pass.invariant.2), holds_last _ _ c.pass.invariant.1)
+push_as-requires-clause-rule g c = (puts _ _ _ _ c.pass.invariant.1 (ap (λ (p : Post). p.message.sender) c.new-letter.ensures ∙ c.requires.sender ∙ ap (λ s. s.number) (sym c.pass.view_is) ∙ sym c.pass.invariant.2), holds_last _ _ c.pass.invariant.1)
 
 pub returns-clause-alone : goal.returns-clause-alone
 returns-clause-alone g c = elim c.match-push_as.branch [

@@ -1,0 +1,61 @@
+//! The tokens that a thread holds.
+use bd_base::{DevId, ReqId, WalkId};
+use bd_machine::{Id, Kept, News};
+use bd_tokens::Tokens;
+use std::test::Fail;
+
+// Four ids that differ in one part from those of another number, or in their kind.
+fn ids_of(number: u32) -> [Id; 4] {
+    let thread = 3;
+    let seq = u64::from(number);
+    [
+        Id::Request(ReqId { thread, seq }),
+        Id::Piece(ReqId { thread, seq: 0 }, number),
+        Id::Walk(WalkId {
+            thread,
+            seq: u128::from(number),
+        }),
+        Id::Notice {
+            sender: 3,
+            receiver: 0,
+            number: u128::from(number),
+        },
+    ]
+}
+
+fn device_of(kept: Option<&Kept>) -> Option<u32> {
+    match kept {
+        Some(Kept::Notice(News::Device(dev))) => Some(dev.0),
+        _ => None,
+    }
+}
+
+// Each of 400 tokens is held with a device of its own; then those of odd numbers are let go.
+#[test]
+fn each_token_is_found(rt: HostRuntime) -> Result<(), Fail> {
+    let mut tokens = Tokens::new(rt.alloc());
+    tokens.reserve(16)?;
+    for number in 0..100u32 {
+        for id in ids_of(number) {
+            tokens.hold(id, Kept::Notice(News::Device(DevId(number))))?;
+        }
+    }
+    assert_eq!(rt; tokens.len(), 400);
+    for number in 0..100u32 {
+        for id in ids_of(number) {
+            assert_eq!(rt; device_of(tokens.get(id)), Some(number));
+            if number % 2 == 1 {
+                tokens.let_go(id);
+            }
+        }
+    }
+    for number in 0..100u32 {
+        for id in ids_of(number) {
+            let kept = tokens.take_out(id);
+            let expected = if number % 2 == 1 { None } else { Some(number) };
+            assert_eq!(rt; device_of(kept.as_ref()), expected);
+        }
+    }
+    assert_eq!(rt; tokens.len(), 0);
+    Ok(())
+}

@@ -1,0 +1,7 @@
+//! What a thread holds: its tokens, with what is kept of each.
+#![tactic(auto)]
+
+mod key;
+mod tokens;
+
+pub use tokens::Tokens;
