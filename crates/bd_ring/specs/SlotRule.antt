@@ -11,11 +11,11 @@ abbrev pub rows_of : ℕ → List Entry → List Entry
 rows_of thread rows = filter (λ r. r.thread == thread) rows
 
 abbrev pub StartsWith : List Entry → List Entry → Type 0
-StartsWith rows front = (rest : List Entry) × (rows ≡ front ++ rest)
+StartsWith rows prefix = (rest : List Entry) × (rows ≡ prefix ++ rest)
 
 -- the journal begins with each of these
 abbrev pub BeginsWithEach : List Entry → List (List Entry) → Type 0
-BeginsWithEach journal fronts = (k : ℕ) → k < length fronts → StartsWith journal (slice_index_or fronts k [])
+BeginsWithEach journal prefixes = (k : ℕ) → k < length prefixes → StartsWith journal (slice_index_or prefixes k [])
 
 -- the rows after the earlier journal are of this thread alone
 abbrev pub AddsOwn : ℕ → List Entry → List Entry → Type 0
