@@ -1,5 +1,5 @@
 pub mod BuiltLemmas
-pub mod ConfigLemmas
+pub mod ConfigureLemmas
 pub mod FileLemmas
 pub mod Histories
 pub mod InForm
