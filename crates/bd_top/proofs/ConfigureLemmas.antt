@@ -39,7 +39,7 @@ none_is_some o x none some =
     absurd (cc)
 
 ok_is_err : {X Y : Type 0} (r : Result X Y) (x : X) (y : Y) → r ≡ Ok x → r ≡ Err y → ⊥
-ok_is_err r x y ok err =
+ok_is_err {X = X} {Y = Y} r x y ok err =
     let both : ◌≡◌ {A = Result X Y} (Ok x) (Err y) = sym ok ∙ err in
     absurd (cc)
 

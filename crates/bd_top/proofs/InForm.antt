@@ -25,7 +25,7 @@ use Rattle.bd_top.proofs.ConfigureLemmas.{nothing_wrong}
 
 -- ---- what is read of a file that is told
 
-read_told : (t : Told) (file bytes : List ℕ) → t ≡ Content file → IsRead t bytes → bytes ≡ file
+pub read_told : (t : Told) (file bytes : List ℕ) → t ≡ Content file → IsRead t bytes → bytes ≡ file
 read_told t file bytes e read =
     let P : Told → Type 0 = λ u. IsRead u bytes in
     let known : IsRead (Content file) bytes = subst P e read in
@@ -33,28 +33,28 @@ read_told t file bytes e read =
 
 -- ---- no other fault
 
-config_inside : (threads : ℕ) (t : Told) (file : List ℕ) (devices : Progress) (no : ConfigureNo) → t ≡ Content file → Configures threads file devices → IsOutside threads t no → no ≡ config_nos.OutOfMemory
-config_inside threads t file devices no e means out =
-    let P : List ℕ → Type 0 = λ bytes. ConfigureCause threads bytes no in
-    nothing_wrong threads file devices no means (subst P (read_told t file out.bytes e out.read) out.outside)
+config_inside : (threads : ℕ) (t : Told) (file : List ℕ) (devices : Progress) (why : ConfigureNo) → t ≡ Content file → Configures threads file devices → IsOutside threads t why → why ≡ config_nos.OutOfMemory
+config_inside threads t file devices why e means out =
+    let P : List ℕ → Type 0 = λ bytes. ConfigureCause threads bytes why in
+    nothing_wrong threads file devices why means (subst P (read_told t file out.bytes e out.read) out.outside)
 
 -- a fault of a configuration's bytes isn't out of memory
-text_is_no_memory : config_nos.Text ≡ config_nos.OutOfMemory → ⊥
+pub text_is_no_memory : config_nos.Text ≡ config_nos.OutOfMemory → ⊥
 text_is_no_memory e = cc
 
-shape_is_no_memory : (place : ℕ) → config_nos.Shape place ≡ config_nos.OutOfMemory → ⊥
+pub shape_is_no_memory : (place : ℕ) → config_nos.Shape place ≡ config_nos.OutOfMemory → ⊥
 shape_is_no_memory place e = cc
 
-method_is_no_memory : (index : ℕ) (code : ℤ) → config_nos.Method index code ≡ config_nos.OutOfMemory → ⊥
+pub method_is_no_memory : (index : ℕ) (code : ℤ) → config_nos.Method index code ≡ config_nos.OutOfMemory → ⊥
 method_is_no_memory index code e = cc
 
-not_too_long : (t : Told) (file : List ℕ) → t ≡ Content file → length file ≤ max_file → IsTooLong t → ⊥
+pub not_too_long : (t : Told) (file : List ℕ) → t ≡ Content file → length file ≤ max_file → IsTooLong t → ⊥
 not_too_long t file e short long =
     let above : max_file < length file = subst IsTooLong e long in
     omega arith
 
 -- no line of a script in the grammar is the first outside
-none_outside : (threads : ℕ) (bytes : List ℕ) (scripts : List Script) (line : ℕ) → scripts_of threads bytes ≡ Some scripts → IsFirstOutside threads bytes line → ⊥
+pub none_outside : (threads : ℕ) (bytes : List ℕ) (scripts : List Script) (line : ℕ) → scripts_of threads bytes ≡ Some scripts → IsFirstOutside threads bytes line → ⊥
 none_outside threads bytes scripts line mean first =
     let lines : List (List ℕ) = text_lines bytes in
     let parted : commands_of threads (take line lines ++ drop line lines) ≡ commands_of threads lines = ap (commands_of threads) (take-append-drop line lines) in
@@ -66,7 +66,7 @@ none_outside threads bytes scripts line mean first =
     let both : Some scripts ≡ None = sym mean ∙ ap (option_map (λ commands. scripts_below commands threads)) none in
     absurd (cc)
 
-script_inside : (threads : ℕ) (t : Told) (file : List ℕ) (scripts : List Script) (line : ℕ) → t ≡ Content file → scripts_of threads file ≡ Some scripts → IsNoText threads t line → ⊥
+pub script_inside : (threads : ℕ) (t : Told) (file : List ℕ) (scripts : List Script) (line : ℕ) → t ≡ Content file → scripts_of threads file ≡ Some scripts → IsNoText threads t line → ⊥
 script_inside threads t file scripts line e mean out =
     let P : List ℕ → Type 0 = λ bytes. IsFirstOutside threads bytes line in
     none_outside threads file scripts line mean (subst P (read_told t file out.bytes e out.read) out.outside)
@@ -85,7 +85,7 @@ none_at number (line ∷ lines) all some = go (is_not_built_at number line) refl
     go true e built later = not_both (is_built_line line) built.0 (and_parts (line.number == number) (not (is_built_line line)) e).1
     go false e built later = later built.1 (ap (λ b. b || list_any (is_not_built_at number) lines) (sym e) ∙ some)
 
-script_supported : (threads : ℕ) (t : Told) (file : List ℕ) (scripts : List Script) (line : ℕ) → t ≡ Content file → scripts_of threads file ≡ Some scripts → AreBuilt (lines_in scripts) → IsNotSupported threads t line → ⊥
+pub script_supported : (threads : ℕ) (t : Told) (file : List ℕ) (scripts : List Script) (line : ℕ) → t ≡ Content file → scripts_of threads file ≡ Some scripts → AreBuilt (lines_in scripts) → IsNotSupported threads t line → ⊥
 script_supported threads t file scripts line e mean built out =
     let same : scripts_of threads out.bytes ≡ scripts_of threads file = ap (scripts_of threads) (read_told t file out.bytes e out.read) in
     let both : Some out.scripts ≡ Some scripts = sym out.means ∙ same ∙ mean in
@@ -106,8 +106,8 @@ module _ (words : List (List ℕ)) (old new : HostState) (before after : SinkSta
   none_too_long name (inr due) long = not_too_long (old.told name) form.jobs (ap old.told due.0 ∙ form.jobs_told) form.jobs_short long
 
   -- nothing is wrong with the bytes of the configuration
-  config_gives_none : (no : ConfigureNo) → IsOutside form.arguments.threads (old.told form.arguments.config) no → no ≡ config_nos.OutOfMemory
-  config_gives_none no out = config_inside form.arguments.threads (old.told form.arguments.config) form.config form.devices no form.config_told form.config_means out
+  config_gives_none : (why : ConfigureNo) → IsOutside form.arguments.threads (old.told form.arguments.config) why → why ≡ config_nos.OutOfMemory
+  config_gives_none why out = config_inside form.arguments.threads (old.told form.arguments.config) form.config form.devices why form.config_told form.config_means out
 
   -- nor with those of the script
   script_gives_none : (line : ℕ) → IsNoScript form.arguments.threads (old.told form.arguments.jobs) line → ⊥

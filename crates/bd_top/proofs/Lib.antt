@@ -3,4 +3,6 @@ pub mod ConfigureLemmas
 pub mod FileLemmas
 pub mod Histories
 pub mod InForm
+pub mod OneCause
 pub mod WordLemmas
+pub mod Wrong

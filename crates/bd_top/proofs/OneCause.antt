@@ -4,6 +4,7 @@ use Rattle.std.specs.Prelude.{ℤ, ◌&&◌, if◌then◌else◌, Result, Ok, Er
 use Rattle.std.specs.List.{list_all}
 use Rattle.serde_json.specs.Data.{Data}
 use Rattle.bd_base.specs.Errno.{number_of}
+use Rattle.bd_base.specs.declared.request.Errno.{Errno}
 use Rattle.bd_config.specs.Commands.{minus}
 use Rattle.bd_config.specs.Config.{IsJson, IsConfig, IsShapeNo, IsMethodNo, HasShape, Refuses, first_outside, shape_fault, first_refused, answers_of}
 use Rattle.bd_config.specs.Shape.{subsystems_of, is_subsystem}
@@ -14,6 +15,10 @@ use Rattle.bd_building.specs.Served.{first_unserved}
 use Rattle.bd_top.specs.declared.configure.ConfigureNo.{ConfigureNo}
 use Rattle.bd_top.specs.declared.configure.ConfigureNo.TheVariants.{OutOfMemory, Text, Shape, Method}
 use Rattle.bd_top.specs.Configure.{Configures, ConfigureCause, IsUnserved, IsRefused, IsUndone}
+
+-- the same index and the same code
+abbrev Same : ℕ → ℤ → ℕ → ℤ → Type 0
+Same i c j d = ◌≡◌ {A = ℕ × ℤ} (i, c) (j, d)
 
 -- ---- one value, one first place
 
@@ -33,7 +38,7 @@ shape_once bytes m n p q = one_of _ m n p.first (ap (λ v. shape_fault (subsyste
 same_subsystems : (v w : Data) (a b : List Data) → v ≡ w → HasShape v a → HasShape w b → a ≡ b
 same_subsystems v w a b e p q = one_of _ a b p.found (ap subsystems_of e ∙ q.found)
 
-method_once : (bytes : List ℕ) (i j : ℕ) (c d : ℤ) → IsMethodNo bytes i c → IsMethodNo bytes j d → (i, c) ≡ (j, d)
+method_once : (bytes : List ℕ) (i j : ℕ) (c d : ℤ) → IsMethodNo bytes i c → IsMethodNo bytes j d → Same i c j d
 method_once bytes i j c d p q =
     let e : p.refuses.subsystems ≡ q.refuses.subsystems = same_subsystems _ _ _ _ (same_value bytes _ _ p.json q.json) p.refuses.shape q.refuses.shape in
     one_of _ (i, c) (j, d) p.refuses.first (ap (λ s. first_refused 0 (answers_of s)) e ∙ q.refuses.first)
@@ -58,7 +63,7 @@ shape_or_method bytes n i c p q =
 -- ---- one command that isn't done
 
 ok_is_err : {X Y : Type 0} (r : Result X Y) (x : X) (y : Y) → r ≡ Ok x → r ≡ Err y → ⊥
-ok_is_err r x y ok err =
+ok_is_err {X = X} {Y = Y} r x y ok err =
     let both : ◌≡◌ {A = Result X Y} (Ok x) (Err y) = sym ok ∙ err in
     absurd (cc)
 
@@ -72,27 +77,27 @@ one_err r y z p q = ap (err_or y) (sym p ∙ q)
 abbrev Undone : ℕ → List Command → ℕ → ℤ → Type 0
 Undone threads commands i c = IsUnserved commands i c ⊎ ((first_unserved commands ≡ None) × IsRefused threads commands i c)
 
-undone_here : (threads : ℕ) (commands : List Command) (i j : ℕ) (c d : ℤ) → Undone threads commands i c → Undone threads commands j d → (i, c) ≡ (j, d)
+undone_here : (threads : ℕ) (commands : List Command) (i j : ℕ) (c d : ℤ) → Undone threads commands i c → Undone threads commands j d → Same i c j d
 undone_here threads commands i j c d (inl p) (inl q) =
     let same : i ≡ j = one_of _ i j p.first q.first in
-    let code : c ≡ d = p.code ∙ sym q.code in
+    let code : c ≡ d = p.is ∙ sym q.is in
     cc
 undone_here threads commands i j c d (inl p) (inr q) = absurd (none_is_some _ i q.0 p.first)
 undone_here threads commands i j c d (inr p) (inl q) = absurd (none_is_some _ j p.0 q.first)
 undone_here threads commands i j c d (inr p) (inr q) =
-    let same : (i, p.1.errno) ≡ (j, q.1.errno) = one_err _ (i, p.1.errno) (j, q.1.errno) p.1.first q.1.first in
-    let index : i ≡ j = ap (λ r. r.0) same in
-    let code : c ≡ d = p.1.code ∙ ap (λ r. minus (number_of r.1)) same ∙ sym q.1.code in
+    let same : ◌≡◌ {A = ℕ × Errno} (i, p.1.errno) (j, q.1.errno) = one_err _ (i, p.1.errno) (j, q.1.errno) p.1.first q.1.first in
+    let index : i ≡ j = ap (λ (r : ℕ × Errno). r.0) same in
+    let code : c ≡ d = p.1.is ∙ ap (λ (r : ℕ × Errno). minus (number_of r.1)) same ∙ sym q.1.is in
     cc
 
-undone_once : (threads : ℕ) (bytes : List ℕ) (i j : ℕ) (c d : ℤ) → IsUndone threads bytes i c → IsUndone threads bytes j d → (i, c) ≡ (j, d)
+undone_once : (threads : ℕ) (bytes : List ℕ) (i j : ℕ) (c d : ℤ) → IsUndone threads bytes i c → IsUndone threads bytes j d → Same i c j d
 undone_once threads bytes i j c d p q =
     undone_here threads p.commands i j c d p.why (subst (λ commands. Undone threads commands j d) (config_once bytes q.commands p.commands q.asks p.asks) q.why)
 
 -- ---- one cause
 
-same_method : (i j : ℕ) (c d : ℤ) → (i, c) ≡ (j, d) → Method i c ≡ Method j d
-same_method i j c d e = ap (λ r. Method r.0 r.1) e
+same_method : (i j : ℕ) (c d : ℤ) → Same i c j d → Method i c ≡ Method j d
+same_method i j c d e = ap (λ (r : ℕ × ℤ). Method r.0 r.1) e
 
 json_of : (threads : ℕ) (bytes : List ℕ) (i : ℕ) (c : ℤ) → ConfigureCause threads bytes (Method i c) → (value : Data) × IsJson bytes value
 json_of threads bytes i c (inl p) = (p.value, p.json)
@@ -102,7 +107,7 @@ no_shape : (threads : ℕ) (bytes : List ℕ) (n i : ℕ) (c : ℤ) → IsShapeN
 no_shape threads bytes n i c p (inl q) = shape_or_method bytes n i c p q
 no_shape threads bytes n i c p (inr q) = config_has_shape bytes q.commands n q.asks p
 
-method_cause_once : (threads : ℕ) (bytes : List ℕ) (i j : ℕ) (c d : ℤ) → ConfigureCause threads bytes (Method i c) → ConfigureCause threads bytes (Method j d) → (i, c) ≡ (j, d)
+method_cause_once : (threads : ℕ) (bytes : List ℕ) (i j : ℕ) (c d : ℤ) → ConfigureCause threads bytes (Method i c) → ConfigureCause threads bytes (Method j d) → Same i c j d
 method_cause_once threads bytes i j c d (inl p) (inl q) = method_once bytes i j c d p q
 method_cause_once threads bytes i j c d (inl p) (inr q) = absurd (config_has_commands bytes q.commands i c q.asks p)
 method_cause_once threads bytes i j c d (inr p) (inl q) = absurd (config_has_commands bytes p.commands j d p.asks q)

@@ -27,13 +27,13 @@ IsNoJson bytes = (value : Data) → ¬ IsJson bytes value
 -- of these commands the one of this index is the first that isn't served as yet, which is answered as not supported
 pub record IsUnserved (commands : List Command) (index : ℕ) (code : ℤ) : Type 0 where
   pub first : first_unserved commands ≡ Some index
-  pub code : code ≡ not_supported
+  pub is : code ≡ not_supported
 
 -- of these commands the one of this index is the first that is refused as they are done, with the number of this errno below zero
 pub record IsRefused (threads : ℕ) (commands : List Command) (index : ℕ) (code : ℤ) : Type 0 where
   pub errno : Errno
   pub first : configured threads commands ≡ Err (index, errno)
-  pub code : code ≡ minus (number_of errno)
+  pub is : code ≡ minus (number_of errno)
 
 -- the bytes are a configuration, and this command is the first that isn't served; or all are, and it is the first that is refused
 pub record IsUndone (threads : ℕ) (bytes : List ℕ) (index : ℕ) (code : ℤ) : Type 0 where

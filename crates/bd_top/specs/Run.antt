@@ -27,6 +27,7 @@ use Rattle.bd_top.specs.declared.inputs.ScriptNo.{ScriptNo}
 use Rattle.bd_top.specs.declared.inputs.ScriptNo.TheVariants as script_nos
 use Rattle.bd_top.specs.Built.{lines_in, AreBuilt, IsFirstNotBuilt}
 use Rattle.bd_top.specs.Configure.{Configures, ConfigureCause}
+use Rattle.bd_top.specs.Fault.{config_fault}
 use Rattle.bd_top.specs.Files.{IsRead, IsTooLong, max_file, ReadCause, AppendsPrefix}
 use Rattle.bd_top.specs.Setup.{setup_of}
 use Rattle.bd_top.specs.Words.{Arguments, arguments_of}
@@ -114,10 +115,10 @@ abbrev pub IsConfigured : ℕ → Told → Type 0
 IsConfigured threads config = (devices : Progress) × IsDevices threads config devices
 
 -- the bytes of the configuration make no devices, and this is why
-pub record IsOutside (threads : ℕ) (config : Told) (no : ConfigureNo) : Type 0 where
+pub record IsOutside (threads : ℕ) (config : Told) (why : ConfigureNo) : Type 0 where
   pub bytes : List ℕ
   pub read : IsRead config bytes
-  pub outside : ConfigureCause threads bytes no
+  pub outside : ConfigureCause threads bytes why
 
 -- the line of this number is the first of the script outside the grammar; or each is inside, and it is the first whose command isn't carried out
 abbrev pub IsNoScript : ℕ → Told → ℕ → Type 0
@@ -130,7 +131,7 @@ IsDue host config jobs threads name = (name ≡ config) ⊎ ((name ≡ jobs) × 
 -- why a configuration makes no devices
 abbrev pub DevicesCause : HostState → HostState → List ℕ → ℕ → DevicesNo → Type 0
 DevicesCause old new config threads (devices_nos.File why) = ReadCause old new config why
-DevicesCause old new config threads (devices_nos.Outside no) = IsOutside threads (old.told config) no
+DevicesCause old new config threads (devices_nos.Outside why) = IsOutside threads (old.told config) why
 
 -- why a file gives no scripts of this number of threads
 abbrev pub ScriptCause : HostState → HostState → List ℕ → ℕ → ScriptNo → Type 0
@@ -197,6 +198,37 @@ pub record AreInForm (words : List (List ℕ)) (host : HostState) : Type 0 where
   pub scripts : List Script
   pub jobs_mean : scripts_of arguments.threads jobs ≡ Some scripts
   pub built : AreBuilt (lines_in scripts)
+
+-- ---- files of which one is outside its form
+
+-- the bytes of a configuration make no devices, and the fault says why
+pub record IsConfigWrong (threads : ℕ) (config : List ℕ) (fault : Fault) : Type 0 where
+  pub why : ConfigureNo
+  pub cause : ConfigureCause threads config why
+  pub known : ¬ (why ≡ config_nos.OutOfMemory)
+  pub is : fault ≡ config_fault why
+
+-- the bytes of a configuration make devices, the script is told, and the fault names its first line that is wrong
+pub record IsScriptWrong (threads : ℕ) (config : List ℕ) (jobs : Told) (fault : Fault) : Type 0 where
+  pub devices : Progress
+  pub means : Configures threads config devices
+  pub bytes : List ℕ
+  pub told : jobs ≡ Content bytes
+  pub short : length bytes ≤ max_file
+  pub line : ℕ
+  pub first : IsNoScript threads jobs line
+  pub is : fault ≡ JobText line
+
+-- the words name two files, the host tells the configuration, and the fault is the first thing that is wrong with what the two say
+pub record IsWrong (words : List (List ℕ)) (host : HostState) (fault : Fault) : Type 0 where
+  pub arguments : Arguments
+  pub named : arguments_of words ≡ Some arguments
+  pub config : List ℕ
+  pub told : host.told arguments.config ≡ Content config
+  pub short : length config ≤ max_file
+  pub wrong : IsConfigWrong arguments.threads config fault ⊎ IsScriptWrong arguments.threads config (host.told arguments.jobs) fault
+
+-- ---- what doesn't fail
 
 -- no count rose: the host neither failed nor missed a file, and the output didn't fail
 pub record NothingFails (old new : HostState) (before after : SinkState) : Type 0 where
