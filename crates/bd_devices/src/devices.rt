@@ -2,6 +2,8 @@
 ghost use Rattle.std.specs.Prelude.{◌≡◌, ◌+◌, ◌++◌, ◌∷◌, [], ℕ, List, None, Some, length, IfOk, IfErr, OnOk, OnErr};
 ghost use Rattle.bd_base.specs.declared.device.DevRow.{DevRow};
 ghost use Rattle.bd_devices.specs.Devices.{IsCause, chosen, injected, injection_refusal, limit_refusal, limited, no_devices, register_refusal, with_device, with_limits};
+ghost use Rattle.bd_devices.specs.Registered.{AreToldApart};
+ghost use Rattle.bd_laws.specs.Standing.{StandsOnEarlier};
 ghost use Rattle.bd_machine.specs.Limits.{no_limit};
 ghost use Rattle.bd_machine.specs.Registry.{device_named};
 ghost use Rattle.bd_machine.specs.Start.{no_injections};
@@ -116,6 +118,16 @@ impl Devices {
         &self.setup
     }
 
+    /// The same, where no more devices are registered. It takes no memory.
+    pub fn into_setup(self) -> Setup
+        ensures setup { result ≡ self }
+        ensures earlier { StandsOnEarlier result }
+        ensures apart { AreToldApart result }
+    {
+        let Devices { setup, names: _ } = self;
+        setup
+    }
+
     /// Registers a device, without limits and injections, and gives its number. A refusal, and out of
     /// memory, change nothing.
     pub fn register(&mut self, alloc: Global, row: DevRow) -> Result<DevId, RegisterNo>
@@ -139,7 +151,8 @@ impl Devices {
 
     // Adds a device. Out of memory, nothing changes.
     fn add(&mut self, alloc: Global, row: DevRow, place: usize) -> Result<(), OutOfMemory>
-        requires { place ≡ length self.old.devices }
+        requires place { place ≡ length self.old.devices }
+        requires free { register_refusal self.old row ≡ None }
         ensures ok { OnOk result (self.new ≡ with_device self.old row) }
         ensures err { OnErr result (self.new ≡ self.old) }
     {

@@ -1,0 +1,4 @@
+pub mod Numbered
+pub mod Settings
+pub mod Steps
+pub mod Threads

@@ -1,0 +1,4 @@
+pub mod Made
+pub mod Progress
+pub mod Rows
+pub mod Served

@@ -1,0 +1,14 @@
+-- What the program serves as yet.
+use Rattle.std.specs.Prelude.{ℕ, Bool, true, false, not, ◌==◌, List, position, Option}
+use Rattle.bd_config.specs.declared.command.Command.{Command}
+use Rattle.bd_config.specs.declared.command.Command.TheVariants as commands
+
+-- a malloc device whose requests aren't cut, and what is ignored: each further kind of command is served once its devices are
+abbrev pub is_served : Command → Bool
+is_served (commands.Malloc name blocks size boundary depth) = boundary == 0
+is_served commands.PassedOver = true
+is_served _ = false
+
+-- the index of the first command that isn't served
+abbrev pub first_unserved : List Command → Option ℕ
+first_unserved commands = position (λ command. not (is_served command)) commands

@@ -1,0 +1,204 @@
+//! The commands of a configuration, done one after the other.
+ghost use Rattle.std.specs.Prelude.{◌≡◌, ℕ, ◌+◌, ◌<◌, length, slice_get, IfOk, IfSome, OnOk, IsErrOf};
+ghost use Rattle.bd_base.specs.declared.request.Errno.{Errno as Cause};
+ghost use Rattle.bd_building.specs.Progress.{Progress, after_all, begun, configured, finished, nothing_yet, ready, resumed, settled, stepped, with_setup};
+ghost use Rattle.bd_building.specs.Made.{made};
+ghost use Rattle.bd_devices.specs.Registered.{AreToldApart};
+ghost use Rattle.bd_laws.specs.Standing.{StandsOnEarlier};
+
+use crate::made::make;
+use crate::waiter::{Waiter, all_waiting, must_wait};
+use bd_base::{Errno, OutOfMemory, Rows, Script, Setup};
+use bd_config::Command;
+use bd_devices::{Devices, RegisterNo};
+use std::alloc::Global;
+use std::error::Error;
+use std::fmt;
+use std::marker::Model;
+
+/// Why commands weren't done.
+#[derive(Clone, Copy, Debug, PartialEq, Eq)]
+pub enum BuildNo {
+    /// There was no memory.
+    OutOfMemory,
+    /// The command of this index, from 0, is refused, with the first cause that holds: `Exists` where
+    /// a device of its name stands; `NoDev` where a limit or an injection names no device; `Perm`
+    /// where another device stands on its base; `Inval` where it is out of its bounds. The code is
+    /// the errno's number below zero.
+    Refused { index: u32, errno: Errno },
+}
+
+impl fmt::Display for BuildNo {
+    fn fmt<W: fmt::Write>(&self, f: &mut fmt::Formatter<W>) -> fmt::Result {
+        match self {
+            BuildNo::OutOfMemory => write!(f, "out of memory"),
+            BuildNo::Refused { index, errno } => {
+                write!(f, "command {index} refused with errno {}", errno.number())
+            }
+        }
+    }
+}
+
+impl Error for BuildNo {}
+
+impl From<OutOfMemory> for BuildNo {
+    ghost use Rattle.std.specs.Prelude.{◌≡◌};
+    ghost use Rattle.bd_building.specs.declared.building.BuildNo.TheVariants as causes;
+
+    ghost from_gives = { λ _ no. no ≡ causes.OutOfMemory };
+
+    fn from(_e: OutOfMemory) -> BuildNo {
+        BuildNo::OutOfMemory
+    }
+}
+
+/// The devices that commands made so far, and the commands that wait for their base.
+#[derive(Drop)]
+pub struct Building {
+    devices: Devices,
+    waiting: Rows<Waiter>,
+}
+
+impl Model for Building {
+    ghost use Rattle.bd_building.specs.Progress.{Progress};
+
+    ghost Value = { Progress };
+
+    ghost view = { λ b. record { setup = b.devices; waiting = b.waiting } };
+}
+
+impl Building {
+    /// No devices yet, for this number of threads. It takes no memory.
+    pub fn new(alloc: Global, threads: u32) -> Building
+        ensures { result ≡ nothing_yet threads }
+    {
+        Building {
+            devices: Devices::new(alloc, threads),
+            waiting: Rows::new(alloc),
+        }
+    }
+
+    /// Does a command, whose place among the commands is this index, and then the commands that waited
+    /// for what it made; a command whose base isn't there waits. A command that opens a file is given
+    /// the blocks of its disk. A refusal ends the building; its index is that of the command refused,
+    /// also where that one waited.
+    pub fn step(
+        self,
+        alloc: Global,
+        index: u32,
+        command: Command,
+        disk: u64,
+    ) -> Result<Building, BuildNo>
+        ensures ok { IfOk result (λ b. stepped self index command disk ≡ Ok b) }
+        ensures refused { (i : ℕ) (errno : Cause) → IsErrOf result (BuildNo.Refused i errno) → stepped self index command disk ≡ Err (i, errno) }
+    {
+        let mut building = self;
+        building.begin(alloc, index, command, disk)?;
+        building.settle(alloc)?;
+        Ok(building)
+    }
+
+    /// The setup of the devices with these scripts, and with the commands that still wait.
+    pub fn finish(self, alloc: Global, scripts: Rows<Script>) -> Result<Setup, OutOfMemory>
+        ensures setup { IfOk result (λ s. s ≡ finished self scripts) }
+        ensures earlier { IfOk result StandsOnEarlier }
+        ensures apart { IfOk result AreToldApart }
+    {
+        let Building { devices, waiting } = self;
+        let rows = all_waiting(alloc, waiting.as_slice())?;
+        let mut setup = devices.into_setup();
+        setup.waiting = rows;
+        setup.scripts = scripts;
+        Ok(setup)
+    }
+
+    // Does a command, or puts it off.
+    fn begin(
+        &mut self,
+        alloc: Global,
+        index: u32,
+        command: Command,
+        disk: u64,
+    ) -> Result<(), BuildNo>
+        ensures ok { OnOk result (begun self.old index command disk ≡ Ok self.new) }
+        ensures refused { (i : ℕ) (errno : Cause) → IsErrOf result (BuildNo.Refused i errno) → begun self.old index command disk ≡ Err (i, errno) }
+    {
+        if must_wait(self.devices.as_setup(), &command) {
+            self.waiting.push(Waiter { index, command })?;
+            return Ok(());
+        }
+        self.make(alloc, index, &command, disk)
+    }
+
+    fn make(
+        &mut self,
+        alloc: Global,
+        index: u32,
+        command: &Command,
+        disk: u64,
+    ) -> Result<(), BuildNo>
+        ensures ok { OnOk result (with_setup self.old index (made self.old.setup command.now disk) ≡ Ok self.new) }
+        ensures refused { (i : ℕ) (errno : Cause) → IsErrOf result (BuildNo.Refused i errno)
+            → with_setup self.old index (made self.old.setup command.now disk) ≡ Err (i, errno) }
+        ensures waiting { OnOk result (self.new.waiting ≡ self.old.waiting) }
+    {
+        match make(alloc, &mut self.devices, command, disk) {
+            Ok(()) => Ok(()),
+            Err(RegisterNo::OutOfMemory) => Err(BuildNo::OutOfMemory),
+            Err(RegisterNo::Refused(errno)) => Err(BuildNo::Refused { index, errno }),
+        }
+    }
+
+    // The place of the first command that waits and whose base stands.
+    fn ready(&self) -> Option<usize>
+        ensures first { result ≡ ready self.now }
+        ensures within { IfSome result (λ place. place < length self.now.waiting) }
+    {
+        let setup = self.devices.as_setup();
+        self.waiting
+            .as_slice()
+            .iter()
+            .position(|waiter| !must_wait(setup, &waiter.command))
+    }
+
+    // Does a command that waits, which waits no longer.
+    fn resume(&mut self, alloc: Global, place: usize) -> Result<(), BuildNo>
+        requires { place < length self.old.waiting }
+        ensures ok { OnOk result (resumed self.old place (slice_get self.old.waiting place) ≡ Ok self.new) }
+        ensures refused { (i : ℕ) (errno : Cause) → IsErrOf result (BuildNo.Refused i errno)
+            → resumed self.old place (slice_get self.old.waiting place) ≡ Err (i, errno) }
+        ensures fewer { OnOk result (length self.new.waiting + 1 ≡ length self.old.waiting) }
+    {
+        let Waiter { index, command } = self.waiting.remove(place);
+        self.make(alloc, index, &command, 0)
+    }
+
+    // Does the commands that wait, each once its base stands.
+    fn settle(&mut self, alloc: Global) -> Result<(), BuildNo>
+        ensures ok { OnOk result (settled self.old ≡ Ok self.new) }
+        ensures refused { (i : ℕ) (errno : Cause) → IsErrOf result (BuildNo.Refused i errno) → settled self.old ≡ Err (i, errno) }
+    {
+        while let Some(place) = self.ready() {
+            self.resume(alloc, place)?;
+        }
+        Ok(())
+    }
+}
+
+/// Does the commands of a configuration in order, where none opens a file.
+pub fn build(alloc: Global, threads: u32, commands: Vec<Command>) -> Result<Building, BuildNo>
+    ensures ok { IfOk result (λ b. configured threads commands.items ≡ Ok b) }
+    ensures refused { (i : ℕ) (errno : Cause) → IsErrOf result (BuildNo.Refused i errno) → configured threads commands.items ≡ Err (i, errno) }
+    ensures threads { IfOk result (λ b. b.setup.threads ≡ threads) }
+{
+    let mut building = Building::new(alloc, threads);
+    let mut index = 0u32;
+    for command in commands {
+        building = building.step(alloc, index, command, 0)?;
+        let Some(next) = index.checked_add(1) else {
+            return Err(BuildNo::OutOfMemory);
+        };
+        index = next;
+    }
+    Ok(building)
+}

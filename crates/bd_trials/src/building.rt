@@ -1,0 +1,196 @@
+//! What commands make of devices. Each step of a case is a command in words; the answer has the devices
+//! and the commands that still wait, or the refusal.
+use crate::words::{number, small};
+use bd_base::{
+    DevRow, ErrKind, Injections, IoSet, Kind, Name, OutOfMemory, RateSet, Rates, Rows, Setup,
+    Waiting,
+};
+use bd_building::{BuildNo, Building, build, first_unserved};
+use bd_config::Command;
+use std::alloc::Global;
+
+const READS: IoSet = IoSet {
+    read: true,
+    write: false,
+    zeroes: false,
+    unmap: false,
+    flush: false,
+};
+
+fn named(alloc: Global, word: &str) -> Result<Name, OutOfMemory> {
+    Name::from_slice(alloc, word.as_bytes())
+}
+
+fn rates(requests: &str) -> RateSet {
+    RateSet {
+        rw_ios_per_sec: Some(number(requests)),
+        rw_mbytes_per_sec: None,
+        r_mbytes_per_sec: None,
+        w_mbytes_per_sec: None,
+    }
+}
+
+// The command of a step; what is no command is ignored.
+fn command(alloc: Global, words: &[&str]) -> Result<Command, OutOfMemory> {
+    Ok(match words {
+        ["malloc", name, blocks, size, boundary] => Command::Malloc {
+            name: named(alloc, name)?,
+            blocks: number(blocks),
+            size: small(size),
+            boundary: number(boundary),
+            depth: 128,
+        },
+        ["null", name, blocks, size, boundary] => Command::Null {
+            name: named(alloc, name)?,
+            blocks: number(blocks),
+            size: small(size),
+            boundary: number(boundary),
+            depth: 16,
+        },
+        ["aio", name, file, size] => Command::Aio {
+            name: named(alloc, name)?,
+            file: named(alloc, file)?,
+            size: small(size),
+            depth: 4,
+        },
+        ["passthru", base, name] => Command::Passthru {
+            base: named(alloc, base)?,
+            name: named(alloc, name)?,
+        },
+        ["split", base, count, megabytes] => Command::Split {
+            base: named(alloc, base)?,
+            count: small(count),
+            megabytes: number(megabytes),
+        },
+        ["delay", base, name, average, p99] => Command::Delay {
+            base: named(alloc, base)?,
+            name: named(alloc, name)?,
+            average_read: 1,
+            p99_read: 1,
+            average_write: number(average),
+            p99_write: number(p99),
+        },
+        ["error", base] => Command::Error {
+            base: named(alloc, base)?,
+        },
+        ["inject", name, count] => Command::InjectError {
+            name: named(alloc, name)?,
+            types: READS,
+            kind: ErrKind::Failure,
+            count: small(count),
+        },
+        ["limit", name, requests] => Command::SetLimits {
+            name: named(alloc, name)?,
+            rates: rates(requests),
+        },
+        _ => Command::PassedOver,
+    })
+}
+
+fn commands(alloc: Global, steps: &str) -> Result<Vec<Command>, OutOfMemory> {
+    let mut commands = Vec::new(alloc);
+    for step in steps.split(';') {
+        let words: Vec<&str> = step.split_whitespace().collect(alloc)?;
+        commands.push(command(alloc, words.as_slice())?)?;
+    }
+    Ok(commands)
+}
+
+// What commands make one by one, where each file that is opened has this number of blocks.
+fn made(alloc: Global, disk: u64, commands: Vec<Command>) -> Result<Building, BuildNo> {
+    let mut building = Building::new(alloc, 1);
+    let mut index = 0u32;
+    for command in commands {
+        building = building.step(alloc, index, command, disk)?;
+        index = index.saturating_add(1);
+    }
+    Ok(building)
+}
+
+/// The answer of a case: commands (`all`), commands where each file has a number of blocks (`disk`), or the
+/// first that isn't served as yet (`served`).
+pub(crate) fn answer(alloc: Global, case: &str) -> Result<String, OutOfMemory> {
+    let (form, rest) = crate::words::first_word(case);
+    match form {
+        "served" => served(alloc, commands(alloc, rest)?.as_slice()),
+        "disk" => {
+            let (disk, steps) = crate::words::first_word(rest);
+            told(alloc, made(alloc, number(disk), commands(alloc, steps)?))
+        }
+        _ => told(alloc, build(alloc, 1, commands(alloc, rest)?)),
+    }
+}
+
+fn served(alloc: Global, commands: &[Command]) -> Result<String, OutOfMemory> {
+    match first_unserved(commands) {
+        Some(index) => Ok(format!(in alloc; "not {index}")?),
+        None => Ok(String::from_str(alloc, "all")?),
+    }
+}
+
+fn told(alloc: Global, built: Result<Building, BuildNo>) -> Result<String, OutOfMemory> {
+    match built {
+        Ok(building) => setup_told(alloc, &building.finish(alloc, Rows::new(alloc))?),
+        Err(BuildNo::OutOfMemory) => Err(OutOfMemory),
+        Err(BuildNo::Refused { index, errno }) => {
+            let number = errno.number();
+            Ok(format!(in alloc; "command {index} refused: -{number}")?)
+        }
+    }
+}
+
+fn setup_told(alloc: Global, setup: &Setup) -> Result<String, OutOfMemory> {
+    let mut text = String::new(alloc);
+    for (place, row) in setup.devices.as_slice().iter().enumerate() {
+        device_told(&mut text, row)?;
+        if let Some(rates) = setup.rates.as_slice().get(place) {
+            rates_told(&mut text, rates)?;
+        }
+        if let Some(injections) = setup.injections.as_slice().get(place) {
+            injections_told(&mut text, injections)?;
+        }
+        text.push_str("; ")?;
+    }
+    for waiting in setup.waiting.as_slice() {
+        waiting_told(&mut text, waiting)?;
+    }
+    text.push_str("end")?;
+    Ok(text)
+}
+
+// A device: its name, kind, blocks, bytes of each, boundary, depth, group; its base, and where it begins.
+fn device_told(text: &mut String, row: &DevRow) -> Result<(), OutOfMemory> {
+    let (name, kind, blocks, size) = (&row.name, row.kind.word(), row.blocks, row.size);
+    let (boundary, depth, group) = (row.boundary, row.depth, row.group);
+    write!(
+        text,
+        "{name} {kind} {blocks} {size} {boundary} {depth} {group}"
+    )?;
+    if let Some(base) = row.base {
+        write!(text, " on {}", base.0)?;
+    }
+    if let Kind::Part { shift } = row.kind {
+        write!(text, " from {shift}")?;
+    }
+    Ok(())
+}
+
+fn rates_told(text: &mut String, rates: &Rates) -> Result<(), OutOfMemory> {
+    if rates.rw_ios_per_sec > 0 {
+        write!(text, " limit {}", rates.rw_ios_per_sec)?;
+    }
+    Ok(())
+}
+
+fn injections_told(text: &mut String, injections: &Injections) -> Result<(), OutOfMemory> {
+    if injections.read.left > 0 {
+        write!(text, " inject {}", injections.read.left)?;
+    }
+    Ok(())
+}
+
+fn waiting_told(text: &mut String, waiting: &Waiting) -> Result<(), OutOfMemory> {
+    let (index, method, base) = (waiting.index, &waiting.method, &waiting.base);
+    write!(text, "waiting {index} {method} {base}; ")?;
+    Ok(())
+}
