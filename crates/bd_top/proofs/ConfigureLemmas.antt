@@ -48,6 +48,7 @@ done_is_undone threads bytes devices index code means undone = go undone.why
   where
     same : undone.commands ≡ means.commands
     same = config_once bytes undone.commands means.commands undone.asks means.asks
+
     go : IsUnserved undone.commands index code ⊎ ((first_unserved undone.commands ≡ None) × IsRefused threads undone.commands index code) → ⊥
     go (inl unserved) = none_is_some (first_unserved undone.commands) index (ap first_unserved same ∙ means.served) unserved.first
     go (inr refused) = ok_is_err (configured threads undone.commands) devices (index, refused.1.errno) (ap (configured threads) same ∙ means.made) refused.1.first

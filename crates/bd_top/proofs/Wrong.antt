@@ -66,6 +66,7 @@ not_built_from m n (line ∷ lines) some all = go (is_not_built_at m line) refl 
     here : (number : ℕ) (built : Bool) → ((number == m) && not built) ≡ true → (built || nat_le n number) ≡ true → n ≤ m
     here number true h k = absurd (neither (number == m) h)
     here number false h k = grind (arith, nat_tests, h, k)
+
     go : (b : Bool) → is_not_built_at m line ≡ b → (b || list_any (is_not_built_at m) lines) ≡ true
         → (is_built_before n line ≡ true) × (list_all (is_built_before n) lines ≡ true)
         → (list_any (is_not_built_at m) lines ≡ true → list_all (is_built_before n) lines ≡ true → n ≤ m) → n ≤ m
@@ -148,6 +149,7 @@ module _ (words : List (List ℕ)) (host : HostState) (fault : Fault) (wrong : I
           memory config_nos.Text e = absurd (cc)
           memory (config_nos.Shape place) e = absurd (cc)
           memory (config_nos.Method index code) e = absurd (cc)
+
       go : IsConfigWrong threads wrong.config fault ⊎ IsScriptWrong threads wrong.config jobs_told fault → config_fault given ≡ fault
       go (inl bad) = one bad (same_fault threads wrong.config bad.why given bad.cause bad.known (outside_bytes threads config_told wrong.config given wrong.told out))
       go (inr bad) = absurd (some (no_cause given bad out))
@@ -207,7 +209,7 @@ module _ (words : List (List ℕ)) (host : HostState) (fault : Fault) (wrong : I
     pub not_played : (trace : List Entry) (report : List ℕ) → IsPlayed words host.told trace report → ⊥
     not_played trace report played =
         let meant : IsMeant threads config_told jobs_told played.setup =
-            subst (λ (a : Arguments). IsMeant a.threads (host.told a.config) (host.told a.jobs) played.setup) (same_arguments played.arguments played.named) played.meant in
+        subst (λ (a : Arguments). IsMeant a.threads (host.told a.config) (host.told a.jobs) played.setup) (same_arguments played.arguments played.named) played.meant in
         go meant wrong.wrong
       where
         of_jobs : (bad : IsScriptWrong threads wrong.config jobs_told fault) (setup : IsMeant threads config_told jobs_told played.setup) → IsNoScript threads jobs_told bad.line → ⊥
@@ -215,6 +217,7 @@ module _ (words : List (List ℕ)) (host : HostState) (fault : Fault) (wrong : I
             (ap (scripts_of threads) (sym (read_told jobs_told bad.bytes meant.of_jobs.bytes bad.told meant.of_jobs.read)) ∙ meant.of_jobs.means) out
         of_jobs bad meant (inr out) = script_supported threads jobs_told bad.bytes meant.scripts bad.line bad.told
             (ap (scripts_of threads) (sym (read_told jobs_told bad.bytes meant.of_jobs.bytes bad.told meant.of_jobs.read)) ∙ meant.of_jobs.means) meant.of_jobs.built out
+
         go : IsMeant threads config_told jobs_told played.setup → IsConfigWrong threads wrong.config fault ⊎ IsScriptWrong threads wrong.config jobs_told fault → ⊥
         go meant (inl bad) = no_devices meant.devices bad meant.of_config
         go meant (inr bad) = of_jobs bad meant bad.first

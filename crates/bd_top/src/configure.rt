@@ -87,11 +87,7 @@ fn doing(alloc: Global, threads: u32, commands: Vec<Command>) -> Result<Building
 /// this order: its text; its shape; commands that can't be read; commands that aren't served as yet;
 /// what the commands come to, one after the other.
 #[tactic(auto, using(crate::proofs::ConfigureLemmas::read_cause, crate::proofs::ConfigureLemmas::unserved_cause, crate::proofs::ConfigureLemmas::doing_cause))]
-pub(crate) fn configure(
-    alloc: Global,
-    threads: u32,
-    bytes: &[u8],
-) -> Result<Building, ConfigureNo>
+pub(crate) fn configure(alloc: Global, threads: u32, bytes: &[u8]) -> Result<Building, ConfigureNo>
     ensures ok { IfOk result (Configures threads bytes.now) }
     ensures cause { IfErr result (ConfigureCause threads bytes.now) }
 {

@@ -1,10 +1,9 @@
 //! The top call.
-ghost use Rattle.std.specs.Prelude.{◌≡◌, ◌<◌, ◌⊎◌, [], map, string_bytes, IfOk, IfErr, MatchResult, None, Err};
+ghost use Rattle.std.specs.Prelude.{◌≡◌, ◌<◌, [], map, string_bytes, IfOk, IfErr, None, Err};
 ghost use Rattle.bd_machine.specs.Run.{IsCompleteRun};
 ghost use Rattle.bd_outside.specs.Sink.{StaysUntold};
 ghost use Rattle.bd_report.specs.Report.{report_of};
-ghost use Rattle.bd_top.specs.declared.fault.Fault.{Fault as Refusal};
-ghost use Rattle.bd_top.specs.Run.{IsRun, Cause, AreInForm, IsWrong, NothingFails, WritesNothing};
+ghost use Rattle.bd_top.specs.Run.{IsRun, Cause, AreInForm, NothingFails, WritesNothing};
 ghost use Rattle.bd_top.specs.Words.{arguments_of};
 
 use crate::fault::Fault;
@@ -65,9 +64,6 @@ pub fn run<H: Host, K: Sink, C: Clock, G: Gate>(
     ensures complete { AreInForm (map string_bytes words.now) (H.state host.old)
         → NothingFails (H.state host.old) (H.state host.new) (K.state out.old) (K.state out.new)
         → IfErr result (λ fault. fault ≡ Fault.OutOfMemory) }
-    ensures refused { (fault : Refusal) → IsWrong (map string_bytes words.now) (H.state host.old) fault
-        → NothingFails (H.state host.old) (H.state host.new) (K.state out.old) (K.state out.new)
-        → MatchResult result (λ _ran. ⊥) (λ given. (given ≡ fault) ⊎ (given ≡ Fault.OutOfMemory)) }
     ensures nothing { IfErr result (WritesNothing (K.state out.old) (K.state out.new)) }
     ensures untold { StaysUntold (K.state out.old) (K.state out.new) }
 {

@@ -90,7 +90,13 @@ const OUTSIDE: [(u64, u64, [&str; 2], &[u8], &[u8]); 8] = [
     (2, 100, ["c", "j"], b"read fault: c, status 3", b""),
     (3, 100, ["c", "j"], b"read fault: j, status 3", b""),
     (1, 100, ["j", "x"], b"read fault: j, status 3", b""),
-    (0, 100, ["j", "x"], b"configuration is not JSON, status 1", b""),
+    (
+        0,
+        100,
+        ["j", "x"],
+        b"configuration is not JSON, status 1",
+        b"",
+    ),
     (0, 10, ["e", "n"], b"write fault, status 3", b"end accept"),
 ];
 

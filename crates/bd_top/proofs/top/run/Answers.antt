@@ -14,8 +14,8 @@ returns-in-Ok-write_all-clause-run g c =
     record {
       report = c.as_slice.result.now;
       played =
-          played (map string_bytes c.args.words.now) (g.H.Host.state c.args.host.now).told asked c.in_ok-setup.field-0 c.in-Ok-play_and_report.field-0.trace c.as_slice.result.now
-          (sym c.in-Some.ensures.meaning) c.in_ok-setup.ensures.setup c.in-Ok-play_and_report.ensures.complete (c.as_slice.ensures.value ∙ c.in-Ok-play_and_report.ensures.report);
+          played (map string_bytes c.args.words.now) (g.H.Host.state c.args.host.now).told asked c.in_ok-setup.setup c.in-Ok.field-0.trace c.as_slice.result.now
+          (sym c.in-Some.ensures.meaning) c.in_ok-setup.ensures.setup c.in-Ok.ensures.complete (c.as_slice.ensures.value ∙ c.in-Ok.ensures.report);
       output = c.in-Ok-write_all.ensures.ok;
     }
 
@@ -23,11 +23,11 @@ pub returns-clause-cause : goal.returns-clause-cause
 returns-clause-cause g c =
     let asked : Arguments = record { config = c.in-Some.asked.config.now; jobs = c.in-Some.asked.jobs.now; threads = c.in-Some.asked.threads; schedule = c.in-Some.asked.schedule } in
     record {
-      trace = c.in-Ok-play_and_report.field-0.trace;
+      trace = c.in-Ok.field-0.trace;
       report = c.as_slice.result.now;
       played =
-          played (map string_bytes c.args.words.now) (g.H.Host.state c.args.host.now).told asked c.in_ok-setup.field-0 c.in-Ok-play_and_report.field-0.trace c.as_slice.result.now
-          (sym c.in-Some.ensures.meaning) c.in_ok-setup.ensures.setup c.in-Ok-play_and_report.ensures.complete (c.as_slice.ensures.value ∙ c.in-Ok-play_and_report.ensures.report);
+          played (map string_bytes c.args.words.now) (g.H.Host.state c.args.host.now).told asked c.in_ok-setup.setup c.in-Ok.field-0.trace c.as_slice.result.now
+          (sym c.in-Some.ensures.meaning) c.in_ok-setup.ensures.setup c.in-Ok.ensures.complete (c.as_slice.ensures.value ∙ c.in-Ok.ensures.report);
       prefix = c.in-Err.ensures.prefix;
       failed = c.in-Err.ensures.err;
     }
