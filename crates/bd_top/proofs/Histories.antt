@@ -1,8 +1,6 @@
 -- What a complete run says of scripts, requests and devices, and that it was played.
-use Rattle.std.proofs.Common.{◌≡◌, ℕ, List, [], Some, ◌∙◌, ap, subst}
+use Rattle.std.proofs.Common.{◌≡◌, ℕ, List, [], Some, subst}
 use Rattle.bd_base.specs.declared.act.Entry.{Entry}
-use Rattle.bd_base.specs.declared.device.DevRow.{DevRow}
-use Rattle.bd_base.specs.declared.job.Script.{Script}
 use Rattle.bd_base.specs.declared.setup.Setup.{Setup}
 use Rattle.bd_machine.specs.Run.{IsRun, IsCompleteRun}
 use Rattle.bd_machine.proofs.LastClose.{destructed_after_last_close}
@@ -10,8 +8,7 @@ use Rattle.bd_machine.proofs.Lines.{scripts_go_as_far}
 use Rattle.bd_machine.proofs.Runs.{each_is_completed_once, each_is_destructed_once}
 use Rattle.bd_outside.specs.File.{Told}
 use Rattle.bd_report.specs.Report.{report_of}
-use Rattle.bd_top.specs.Run.{GoAsFar, AreCompletedOnce, AreDestructedOnce, AreAfterLastClose, IsDevice, IsScript, IsPlayed}
-use Rattle.bd_top.specs.Setup.{setup_of}
+use Rattle.bd_top.specs.Run.{GoAsFar, AreCompletedOnce, AreDestructedOnce, AreAfterLastClose, IsMeant, IsPlayed}
 use Rattle.bd_top.specs.Words.{Arguments, arguments_of}
 
 go_as_far : (setup : Setup) (trace : List Entry) → IsCompleteRun setup [] trace → GoAsFar setup trace
@@ -27,23 +24,18 @@ after_last_close : (setup : Setup) (trace : List Entry) → IsCompleteRun setup 
 after_last_close setup trace run dev before e behind split is = destructed_after_last_close setup [] before e behind dev (subst (IsRun setup []) split run.0) is
 
 -- two files were played where a complete run was made of what they mean
-pub played : (words : List (List ℕ)) (told : List ℕ → Told) (asked : Arguments) (row : DevRow) (jobs : List Script) (setup : Setup) (trace : List Entry) (report : List ℕ)
-    → arguments_of words ≡ Some asked → IsDevice (told asked.config) row → IsScript asked.threads (told asked.jobs) jobs
-    → setup ≡ setup_of asked.threads row jobs → IsCompleteRun setup [] trace → report ≡ report_of setup trace → IsPlayed words told trace report
-played words told asked row jobs setup trace report named device script is complete says =
-    let P : Setup → Type 0 = λ s. IsCompleteRun s [] trace in
-    let whole : IsCompleteRun (setup_of asked.threads row jobs) [] trace = subst P is complete in
-    record {
-      arguments = asked;
-      row = row;
-      jobs = jobs;
-      named = named;
-      device = device;
-      script = script;
-      complete = whole;
-      scripts = go_as_far (setup_of asked.threads row jobs) trace whole;
-      once = completed_once (setup_of asked.threads row jobs) trace whole;
-      destructed = destructed_once (setup_of asked.threads row jobs) trace whole;
-      last_close = after_last_close (setup_of asked.threads row jobs) trace whole;
-      says = says ∙ ap (λ s. report_of s trace) is;
-    }
+pub played : (words : List (List ℕ)) (told : List ℕ → Told) (asked : Arguments) (setup : Setup) (trace : List Entry) (report : List ℕ)
+    → arguments_of words ≡ Some asked → IsMeant asked.threads (told asked.config) (told asked.jobs) setup
+    → IsCompleteRun setup [] trace → report ≡ report_of setup trace → IsPlayed words told trace report
+played words told asked setup trace report named meant complete says = record {
+  arguments = asked;
+  setup = setup;
+  named = named;
+  meant = meant;
+  complete = complete;
+  scripts = go_as_far setup trace complete;
+  once = completed_once setup trace complete;
+  destructed = destructed_once setup trace complete;
+  last_close = after_last_close setup trace complete;
+  says = says;
+}

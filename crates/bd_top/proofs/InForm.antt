@@ -1,10 +1,9 @@
 -- Where both files are in form and nothing fails, a run ends well unless it is out of memory.
 use Rattle.std.proofs.Common.{◌≡◌, ℕ, ◌+◌, ◌≤◌, ◌<◌, Bool, true, false, ◌==◌, not, ◌||◌, ◌⊎◌, inl, inr, List, [], ◌∷◌, ◌++◌, length, take, drop, None, Some, refl, sym, ◌∙◌, ap, subst, arith, string_bytes}
-use Rattle.std.specs.Prelude.{option_map}
+use Rattle.std.specs.Prelude.{ℤ, option_map}
 use Rattle.std.specs.List.{list_all, list_any}
 use Rattle.std.proofs.lemmas.Bool.{and_parts}
 use Rattle.std.proofs.lemmas.List.{take-append-drop}
-use Rattle.bd_base.specs.declared.device.DevRow.{DevRow}
 use Rattle.bd_base.specs.declared.job.Line.{Line}
 use Rattle.bd_base.specs.declared.job.Script.{Script}
 use Rattle.bd_jobs.specs.ScriptGrammar.{commands_from, commands_of, scripts_below, scripts_of, IsFirstOutside, text_lines}
@@ -12,17 +11,21 @@ use Rattle.bd_jobs.proofs.ReadLemmas.{from-append, from-none}
 use Rattle.bd_outside.specs.File.{Told, Content}
 use Rattle.bd_outside.specs.Host.{HostState}
 use Rattle.bd_outside.specs.Sink.{SinkState}
+use Rattle.bd_top.specs.declared.configure.ConfigureNo.{ConfigureNo}
+use Rattle.bd_top.specs.declared.configure.ConfigureNo.TheVariants as config_nos
 use Rattle.bd_top.specs.declared.fault.Fault.{Fault}
 use Rattle.bd_top.specs.declared.fault.Fault.TheVariants as faults
 use Rattle.bd_top.specs.Built.{lines_in, AreBuilt, is_built_line, is_not_built_at, IsFirstNotBuilt}
-use Rattle.bd_top.specs.Config.{IsConfig}
+use Rattle.bd_building.specs.Progress.{Progress}
+use Rattle.bd_top.specs.Configure.{Configures, ConfigureCause}
 use Rattle.bd_top.specs.Files.{IsRead, IsTooLong, max_file}
-use Rattle.bd_top.specs.Run.{AreInForm, Cause, FileCause, IsDue, IsNoText, IsNotSupported, IsOutside, NothingFails}
+use Rattle.bd_top.specs.Run.{AreInForm, Cause, FileCause, IsDue, IsNoScript, IsNoText, IsNotSupported, IsOutside, NothingFails}
 use Rattle.bd_top.specs.Words.{Arguments, arguments_of}
+use Rattle.bd_top.proofs.ConfigureLemmas.{nothing_wrong}
 
 -- ---- what is read of a file that is told
 
-read_told : (t : Told) (file bytes : List ℕ) → t ≡ Content file → IsRead t bytes → bytes ≡ file
+pub read_told : (t : Told) (file bytes : List ℕ) → t ≡ Content file → IsRead t bytes → bytes ≡ file
 read_told t file bytes e read =
     let P : Told → Type 0 = λ u. IsRead u bytes in
     let known : IsRead (Content file) bytes = subst P e read in
@@ -30,18 +33,28 @@ read_told t file bytes e read =
 
 -- ---- no other fault
 
-config_inside : (t : Told) (file : List ℕ) (row : DevRow) → t ≡ Content file → IsConfig file row → IsOutside t → ⊥
-config_inside t file row e means out =
-    let P : List ℕ → Type 0 = λ bytes. IsConfig bytes row in
-    out.outside row (subst P (sym (read_told t file out.bytes e out.read)) means)
+config_inside : (threads : ℕ) (t : Told) (file : List ℕ) (devices : Progress) (why : ConfigureNo) → t ≡ Content file → Configures threads file devices → IsOutside threads t why → why ≡ config_nos.OutOfMemory
+config_inside threads t file devices why e means out =
+    let P : List ℕ → Type 0 = λ bytes. ConfigureCause threads bytes why in
+    nothing_wrong threads file devices why means (subst P (read_told t file out.bytes e out.read) out.outside)
 
-not_too_long : (t : Told) (file : List ℕ) → t ≡ Content file → length file ≤ max_file → IsTooLong t → ⊥
+-- a fault of a configuration's bytes isn't out of memory
+pub text_is_no_memory : config_nos.Text ≡ config_nos.OutOfMemory → ⊥
+text_is_no_memory e = cc
+
+pub shape_is_no_memory : (place : ℕ) → config_nos.Shape place ≡ config_nos.OutOfMemory → ⊥
+shape_is_no_memory place e = cc
+
+pub method_is_no_memory : (index : ℕ) (code : ℤ) → config_nos.Method index code ≡ config_nos.OutOfMemory → ⊥
+method_is_no_memory index code e = cc
+
+pub not_too_long : (t : Told) (file : List ℕ) → t ≡ Content file → length file ≤ max_file → IsTooLong t → ⊥
 not_too_long t file e short long =
     let above : max_file < length file = subst IsTooLong e long in
     omega arith
 
 -- no line of a script in the grammar is the first outside
-none_outside : (threads : ℕ) (bytes : List ℕ) (scripts : List Script) (line : ℕ) → scripts_of threads bytes ≡ Some scripts → IsFirstOutside threads bytes line → ⊥
+pub none_outside : (threads : ℕ) (bytes : List ℕ) (scripts : List Script) (line : ℕ) → scripts_of threads bytes ≡ Some scripts → IsFirstOutside threads bytes line → ⊥
 none_outside threads bytes scripts line mean first =
     let lines : List (List ℕ) = text_lines bytes in
     let parted : commands_of threads (take line lines ++ drop line lines) ≡ commands_of threads lines = ap (commands_of threads) (take-append-drop line lines) in
@@ -53,7 +66,7 @@ none_outside threads bytes scripts line mean first =
     let both : Some scripts ≡ None = sym mean ∙ ap (option_map (λ commands. scripts_below commands threads)) none in
     absurd (cc)
 
-script_inside : (threads : ℕ) (t : Told) (file : List ℕ) (scripts : List Script) (line : ℕ) → t ≡ Content file → scripts_of threads file ≡ Some scripts → IsNoText threads t line → ⊥
+pub script_inside : (threads : ℕ) (t : Told) (file : List ℕ) (scripts : List Script) (line : ℕ) → t ≡ Content file → scripts_of threads file ≡ Some scripts → IsNoText threads t line → ⊥
 script_inside threads t file scripts line e mean out =
     let P : List ℕ → Type 0 = λ bytes. IsFirstOutside threads bytes line in
     none_outside threads file scripts line mean (subst P (read_told t file out.bytes e out.read) out.outside)
@@ -72,7 +85,7 @@ none_at number (line ∷ lines) all some = go (is_not_built_at number line) refl
     go true e built later = not_both (is_built_line line) built.0 (and_parts (line.number == number) (not (is_built_line line)) e).1
     go false e built later = later built.1 (ap (λ b. b || list_any (is_not_built_at number) lines) (sym e) ∙ some)
 
-script_supported : (threads : ℕ) (t : Told) (file : List ℕ) (scripts : List Script) (line : ℕ) → t ≡ Content file → scripts_of threads file ≡ Some scripts → AreBuilt (lines_in scripts) → IsNotSupported threads t line → ⊥
+pub script_supported : (threads : ℕ) (t : Told) (file : List ℕ) (scripts : List Script) (line : ℕ) → t ≡ Content file → scripts_of threads file ≡ Some scripts → AreBuilt (lines_in scripts) → IsNotSupported threads t line → ⊥
 script_supported threads t file scripts line e mean built out =
     let same : scripts_of threads out.bytes ≡ scripts_of threads file = ap (scripts_of threads) (read_told t file out.bytes e out.read) in
     let both : Some out.scripts ≡ Some scripts = sym out.means ∙ same ∙ mean in
@@ -88,9 +101,18 @@ module _ (words : List (List ℕ)) (old new : HostState) (before after : SinkSta
       cc
 
   -- neither of the two files is too long
-  none_too_long : (name : List ℕ) → IsDue old form.arguments.config form.arguments.jobs name → IsTooLong (old.told name) → ⊥
-  none_too_long name (inl e) long = not_too_long (old.told name) form.config (ap old.told e ∙ form.config_told) form.config_means.short long
+  none_too_long : (name : List ℕ) → IsDue old form.arguments.config form.arguments.jobs form.arguments.threads name → IsTooLong (old.told name) → ⊥
+  none_too_long name (inl e) long = not_too_long (old.told name) form.config (ap old.told e ∙ form.config_told) form.config_short long
   none_too_long name (inr due) long = not_too_long (old.told name) form.jobs (ap old.told due.0 ∙ form.jobs_told) form.jobs_short long
+
+  -- nothing is wrong with the bytes of the configuration
+  config_gives_none : (why : ConfigureNo) → IsOutside form.arguments.threads (old.told form.arguments.config) why → why ≡ config_nos.OutOfMemory
+  config_gives_none why out = config_inside form.arguments.threads (old.told form.arguments.config) form.config form.devices why form.config_told form.config_means out
+
+  -- nor with those of the script
+  script_gives_none : (line : ℕ) → IsNoScript form.arguments.threads (old.told form.arguments.jobs) line → ⊥
+  script_gives_none line (inl out) = script_inside form.arguments.threads (old.told form.arguments.jobs) form.jobs form.scripts line form.jobs_told form.jobs_mean out
+  script_gives_none line (inr out) = script_supported form.arguments.threads (old.told form.arguments.jobs) form.jobs form.scripts line form.jobs_told form.jobs_mean form.built out
 
   -- neither file gives a fault
   pub file_gives_none : (fault : Fault) → FileCause old new form.arguments.config form.arguments.jobs form.arguments.threads fault → fault ≡ faults.OutOfMemory
@@ -99,11 +121,10 @@ module _ (words : List (List ℕ)) (old new : HostState) (before after : SinkSta
   file_gives_none (faults.TooLong name) cause = absurd (none_too_long (string_bytes name) cause.0 cause.1)
   file_gives_none (faults.ReadFault name) cause = absurd (quiet.host (string_bytes name) cause.1)
   file_gives_none faults.WriteFault cause = absurd cause
-  file_gives_none (faults.ConfigShape place) cause = absurd (config_inside (old.told form.arguments.config) form.config form.row form.config_told form.config_means cause.1)
-  file_gives_none (faults.JobText line) cause =
-      absurd (script_inside form.arguments.threads (old.told form.arguments.jobs) form.jobs form.scripts line form.jobs_told form.jobs_mean cause.1)
-  file_gives_none (faults.NotSupported line) cause =
-      absurd (script_supported form.arguments.threads (old.told form.arguments.jobs) form.jobs form.scripts line form.jobs_told form.jobs_mean form.built cause.1)
+  file_gives_none faults.ConfigText cause = absurd (text_is_no_memory (config_gives_none config_nos.Text cause))
+  file_gives_none (faults.ConfigShape place) cause = absurd (shape_is_no_memory place (config_gives_none (config_nos.Shape place) cause))
+  file_gives_none (faults.Method index code) cause = absurd (method_is_no_memory index code (config_gives_none (config_nos.Method index code) cause))
+  file_gives_none (faults.JobText line) cause = absurd (script_gives_none line cause.1)
   file_gives_none faults.OutOfMemory cause = refl
 
   of_files : (asked : Arguments) (fault : Fault) → arguments_of words ≡ Some asked → FileCause old new asked.config asked.jobs asked.threads fault → fault ≡ faults.OutOfMemory
@@ -120,7 +141,8 @@ module _ (words : List (List ℕ)) (old new : HostState) (before after : SinkSta
   only_memory (faults.TooLong name) cause = of_files cause.arguments (faults.TooLong name) cause.named cause.of_file
   only_memory (faults.ReadFault name) cause = of_files cause.arguments (faults.ReadFault name) cause.named cause.of_file
   only_memory faults.WriteFault cause = absurd (quiet.output cause.failed)
+  only_memory faults.ConfigText cause = of_files cause.arguments faults.ConfigText cause.named cause.of_file
   only_memory (faults.ConfigShape place) cause = of_files cause.arguments (faults.ConfigShape place) cause.named cause.of_file
+  only_memory (faults.Method index code) cause = of_files cause.arguments (faults.Method index code) cause.named cause.of_file
   only_memory (faults.JobText line) cause = of_files cause.arguments (faults.JobText line) cause.named cause.of_file
-  only_memory (faults.NotSupported line) cause = of_files cause.arguments (faults.NotSupported line) cause.named cause.of_file
   only_memory faults.OutOfMemory cause = refl

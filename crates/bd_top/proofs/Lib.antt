@@ -1,6 +1,8 @@
 pub mod BuiltLemmas
-pub mod ConfigLemmas
+pub mod ConfigureLemmas
 pub mod FileLemmas
 pub mod Histories
 pub mod InForm
+pub mod OneCause
 pub mod WordLemmas
+pub mod Wrong

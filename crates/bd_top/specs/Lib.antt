@@ -1,5 +1,5 @@
 pub mod Built
-pub mod Config
+pub mod Configure
 pub mod Fault
 pub mod Files
 pub mod Run

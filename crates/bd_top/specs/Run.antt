@@ -2,7 +2,6 @@
 use Rattle.std.specs.Prelude.{◌≡◌, ℕ, ◌<◌, ◌≤◌, true, List, [], ◌∷◌, ◌++◌, length, None, Some, ◌⊎◌, string_bytes}
 use Rattle.std.specs.Io.KnownBytes.{Appends}
 use Rattle.bd_base.specs.declared.act.Entry.{Entry}
-use Rattle.bd_base.specs.declared.device.DevRow.{DevRow}
 use Rattle.bd_base.specs.declared.id.DevId.{DevId}
 use Rattle.bd_base.specs.declared.id.ReqId.{ReqId}
 use Rattle.bd_base.specs.declared.job.Script.{Script}
@@ -12,19 +11,23 @@ use Rattle.bd_machine.specs.Laws.{IsCompletedOnce, count_of, is_destruct_of}
 use Rattle.bd_machine.specs.Lines.{GoesAsFar}
 use Rattle.bd_machine.specs.Run.{IsCompleteRun}
 use Rattle.bd_machine.specs.Users.{dev_of}
+use Rattle.bd_building.specs.Progress.{Progress}
 use Rattle.bd_jobs.specs.ScriptGrammar.{scripts_of, IsFirstOutside}
 use Rattle.bd_outside.specs.File.{Told, IsAbsent, Content}
 use Rattle.bd_outside.specs.Host.{HostState, FailsAt, Misses}
 use Rattle.bd_outside.specs.Sink.{SinkState, Fails}
 use Rattle.bd_report.specs.Report.{report_of}
 use Rattle.bd_top.specs.declared.fault.Fault.{Fault}
-use Rattle.bd_top.specs.declared.fault.Fault.TheVariants.{Usage, NoFile, TooLong, ReadFault, WriteFault, ConfigShape, JobText, NotSupported, OutOfMemory}
-use Rattle.bd_top.specs.declared.inputs.DeviceNo.{DeviceNo}
-use Rattle.bd_top.specs.declared.inputs.DeviceNo.TheVariants as device_nos
+use Rattle.bd_top.specs.declared.fault.Fault.TheVariants.{Usage, NoFile, TooLong, ReadFault, ConfigText, ConfigShape, Method, JobText, WriteFault, OutOfMemory}
+use Rattle.bd_top.specs.declared.configure.ConfigureNo.{ConfigureNo}
+use Rattle.bd_top.specs.declared.configure.ConfigureNo.TheVariants as config_nos
+use Rattle.bd_top.specs.declared.inputs.DevicesNo.{DevicesNo}
+use Rattle.bd_top.specs.declared.inputs.DevicesNo.TheVariants as devices_nos
 use Rattle.bd_top.specs.declared.inputs.ScriptNo.{ScriptNo}
 use Rattle.bd_top.specs.declared.inputs.ScriptNo.TheVariants as script_nos
 use Rattle.bd_top.specs.Built.{lines_in, AreBuilt, IsFirstNotBuilt}
-use Rattle.bd_top.specs.Config.{IsConfig}
+use Rattle.bd_top.specs.Configure.{Configures, ConfigureCause}
+use Rattle.bd_top.specs.Fault.{config_fault}
 use Rattle.bd_top.specs.Files.{IsRead, IsTooLong, max_file, ReadCause, AppendsPrefix}
 use Rattle.bd_top.specs.Setup.{setup_of}
 use Rattle.bd_top.specs.Words.{Arguments, arguments_of}
@@ -51,11 +54,11 @@ AreAfterLastClose setup trace = (dev : DevId) (before : List Entry) (e : Entry) 
 
 -- ---- Ok
 
--- the bytes of the configuration give this device, as far as the host tells its file
-pub record IsDevice (config : Told) (row : DevRow) : Type 0 where
+-- the bytes of the configuration make these devices for this number of threads, as far as the host tells its file
+pub record IsDevices (threads : ℕ) (config : Told) (devices : Progress) : Type 0 where
   pub bytes : List ℕ
   pub read : IsRead config bytes
-  pub means : IsConfig bytes row
+  pub means : Configures threads bytes devices
 
 -- the bytes of the script give these scripts of this number of threads, and each of their commands is carried out
 pub record IsScript (threads : ℕ) (jobs : Told) (scripts : List Script) : Type 0 where
@@ -64,11 +67,13 @@ pub record IsScript (threads : ℕ) (jobs : Told) (scripts : List Script) : Type
   pub means : scripts_of threads bytes ≡ Some scripts
   pub built : AreBuilt (lines_in scripts)
 
--- the bytes of the configuration are outside its form
-pub record IsOutside (config : Told) : Type 0 where
-  pub bytes : List ℕ
-  pub read : IsRead config bytes
-  pub outside : (row : DevRow) → ¬ IsConfig bytes row
+-- the two files mean this setup: the devices of the one, the scripts of the other
+pub record IsMeant (threads : ℕ) (config jobs : Told) (setup : Setup) : Type 0 where
+  pub devices : Progress
+  pub scripts : List Script
+  pub of_config : IsDevices threads config devices
+  pub of_jobs : IsScript threads jobs scripts
+  pub is : setup ≡ setup_of threads devices scripts
 
 -- the bytes of the script are outside the grammar, and the line of this number is the first outside
 pub record IsNoText (threads : ℕ) (jobs : Told) (line : ℕ) : Type 0 where
@@ -87,17 +92,15 @@ pub record IsNotSupported (threads : ℕ) (jobs : Told) (line : ℕ) : Type 0 wh
 -- the two files were played: this is the history, and this the report
 pub record IsPlayed (words : List (List ℕ)) (told : List ℕ → Told) (trace : List Entry) (report : List ℕ) : Type 0 where
   pub arguments : Arguments
-  pub row : DevRow
-  pub jobs : List Script
+  pub setup : Setup
   pub named : arguments_of words ≡ Some arguments
-  pub device : IsDevice (told arguments.config) row
-  pub script : IsScript arguments.threads (told arguments.jobs) jobs
-  pub complete : IsCompleteRun (setup_of arguments.threads row jobs) [] trace
-  pub scripts : GoAsFar (setup_of arguments.threads row jobs) trace
+  pub meant : IsMeant arguments.threads (told arguments.config) (told arguments.jobs) setup
+  pub complete : IsCompleteRun setup [] trace
+  pub scripts : GoAsFar setup trace
   pub once : AreCompletedOnce trace
-  pub destructed : AreDestructedOnce (setup_of arguments.threads row jobs) trace
-  pub last_close : AreAfterLastClose (setup_of arguments.threads row jobs) trace
-  pub says : report ≡ report_of (setup_of arguments.threads row jobs) trace
+  pub destructed : AreDestructedOnce setup trace
+  pub last_close : AreAfterLastClose setup trace
+  pub says : report ≡ report_of setup trace
 
 -- the two files were played, and the output gained the report
 pub record IsRun (words : List (List ℕ)) (host : HostState) (trace : List Entry) (old new : SinkState) : Type 0 where
@@ -107,19 +110,28 @@ pub record IsRun (words : List (List ℕ)) (host : HostState) (trace : List Entr
 
 -- ---- faults
 
--- the bytes of the configuration give some device, as far as the host tells its file
-abbrev pub IsConfigured : Told → Type 0
-IsConfigured config = (row : DevRow) × IsDevice config row
+-- the bytes of the configuration make some devices, as far as the host tells its file
+abbrev pub IsConfigured : ℕ → Told → Type 0
+IsConfigured threads config = (devices : Progress) × IsDevices threads config devices
 
--- the file of this name was due: the configuration first, and the script only once the configuration is in form
-abbrev pub IsDue : HostState → List ℕ → List ℕ → List ℕ → Type 0
-IsDue host config jobs name = (name ≡ config) ⊎ ((name ≡ jobs) × IsConfigured (host.told config))
+-- the bytes of the configuration make no devices, and this is why
+pub record IsOutside (threads : ℕ) (config : Told) (why : ConfigureNo) : Type 0 where
+  pub bytes : List ℕ
+  pub read : IsRead config bytes
+  pub outside : ConfigureCause threads bytes why
 
--- why a configuration gives no device
-abbrev pub DeviceCause : HostState → HostState → List ℕ → DeviceNo → Type 0
-DeviceCause old new config (device_nos.File why) = ReadCause old new config why
-DeviceCause old new config device_nos.Outside = IsOutside (old.told config)
-DeviceCause old new config device_nos.OutOfMemory = Unit {0}
+-- the line of this number is the first of the script outside the grammar; or each is inside, and it is the first whose command isn't carried out
+abbrev pub IsNoScript : ℕ → Told → ℕ → Type 0
+IsNoScript threads jobs line = IsNoText threads jobs line ⊎ IsNotSupported threads jobs line
+
+-- the file of this name was due: the configuration first, and the script only once the configuration makes its devices
+abbrev pub IsDue : HostState → List ℕ → List ℕ → ℕ → List ℕ → Type 0
+IsDue host config jobs threads name = (name ≡ config) ⊎ ((name ≡ jobs) × IsConfigured threads (host.told config))
+
+-- why a configuration makes no devices
+abbrev pub DevicesCause : HostState → HostState → List ℕ → ℕ → DevicesNo → Type 0
+DevicesCause old new config threads (devices_nos.File why) = ReadCause old new config why
+DevicesCause old new config threads (devices_nos.Outside why) = IsOutside threads (old.told config) why
 
 -- why a file gives no scripts of this number of threads
 abbrev pub ScriptCause : HostState → HostState → List ℕ → ℕ → ScriptNo → Type 0
@@ -128,16 +140,17 @@ ScriptCause old new jobs threads (script_nos.Text line) = IsNoText threads (old.
 ScriptCause old new jobs threads (script_nos.NotBuilt line) = IsNotSupported threads (old.told jobs) line
 ScriptCause old new jobs threads script_nos.OutOfMemory = Unit {0}
 
--- the fault comes from one of two files: the configuration, or with that in its form the script of this number of threads
+-- the fault comes from one of two files: the configuration, or where that makes its devices the script of this number of threads
 abbrev pub FileCause : HostState → HostState → List ℕ → List ℕ → ℕ → Fault → Type 0
 FileCause old new config jobs threads Usage = ⊥
 FileCause old new config jobs threads (NoFile name) =
-    IsDue old config jobs (string_bytes name) × IsAbsent (old.told (string_bytes name)) × Misses old new (string_bytes name)
-FileCause old new config jobs threads (TooLong name) = IsDue old config jobs (string_bytes name) × IsTooLong (old.told (string_bytes name))
-FileCause old new config jobs threads (ReadFault name) = IsDue old config jobs (string_bytes name) × FailsAt old new (string_bytes name)
-FileCause old new config jobs threads (ConfigShape place) = (place ≡ 0) × IsOutside (old.told config)
-FileCause old new config jobs threads (JobText line) = IsConfigured (old.told config) × IsNoText threads (old.told jobs) line
-FileCause old new config jobs threads (NotSupported line) = IsConfigured (old.told config) × IsNotSupported threads (old.told jobs) line
+    IsDue old config jobs threads (string_bytes name) × IsAbsent (old.told (string_bytes name)) × Misses old new (string_bytes name)
+FileCause old new config jobs threads (TooLong name) = IsDue old config jobs threads (string_bytes name) × IsTooLong (old.told (string_bytes name))
+FileCause old new config jobs threads (ReadFault name) = IsDue old config jobs threads (string_bytes name) × FailsAt old new (string_bytes name)
+FileCause old new config jobs threads ConfigText = IsOutside threads (old.told config) config_nos.Text
+FileCause old new config jobs threads (ConfigShape place) = IsOutside threads (old.told config) (config_nos.Shape place)
+FileCause old new config jobs threads (Method index code) = IsOutside threads (old.told config) (config_nos.Method index code)
+FileCause old new config jobs threads (JobText line) = IsConfigured threads (old.told config) × IsNoScript threads (old.told jobs) line
 FileCause old new config jobs threads WriteFault = ⊥
 FileCause old new config jobs threads OutOfMemory = Unit {0}
 
@@ -163,9 +176,10 @@ Cause words old new before after OutOfMemory = Unit {0}
 Cause words old new before after (NoFile name) = IsOfFiles words old new (NoFile name)
 Cause words old new before after (TooLong name) = IsOfFiles words old new (TooLong name)
 Cause words old new before after (ReadFault name) = IsOfFiles words old new (ReadFault name)
+Cause words old new before after ConfigText = IsOfFiles words old new ConfigText
 Cause words old new before after (ConfigShape place) = IsOfFiles words old new (ConfigShape place)
+Cause words old new before after (Method index code) = IsOfFiles words old new (Method index code)
 Cause words old new before after (JobText line) = IsOfFiles words old new (JobText line)
-Cause words old new before after (NotSupported line) = IsOfFiles words old new (NotSupported line)
 
 -- ---- files in form
 
@@ -175,14 +189,46 @@ pub record AreInForm (words : List (List ℕ)) (host : HostState) : Type 0 where
   pub named : arguments_of words ≡ Some arguments
   pub config : List ℕ
   pub config_told : host.told arguments.config ≡ Content config
-  pub row : DevRow
-  pub config_means : IsConfig config row
+  pub config_short : length config ≤ max_file
+  pub devices : Progress
+  pub config_means : Configures arguments.threads config devices
   pub jobs : List ℕ
   pub jobs_told : host.told arguments.jobs ≡ Content jobs
   pub jobs_short : length jobs ≤ max_file
   pub scripts : List Script
   pub jobs_mean : scripts_of arguments.threads jobs ≡ Some scripts
   pub built : AreBuilt (lines_in scripts)
+
+-- ---- files of which one is outside its form
+
+-- the bytes of a configuration make no devices, and the fault says why
+pub record IsConfigWrong (threads : ℕ) (config : List ℕ) (fault : Fault) : Type 0 where
+  pub why : ConfigureNo
+  pub cause : ConfigureCause threads config why
+  pub known : ¬ (why ≡ config_nos.OutOfMemory)
+  pub is : fault ≡ config_fault why
+
+-- the bytes of a configuration make devices, the script is told, and the fault names its first line that is wrong
+pub record IsScriptWrong (threads : ℕ) (config : List ℕ) (jobs : Told) (fault : Fault) : Type 0 where
+  pub devices : Progress
+  pub means : Configures threads config devices
+  pub bytes : List ℕ
+  pub told : jobs ≡ Content bytes
+  pub short : length bytes ≤ max_file
+  pub line : ℕ
+  pub first : IsNoScript threads jobs line
+  pub is : fault ≡ JobText line
+
+-- the words name two files, the host tells the configuration, and the fault is the first thing that is wrong with what the two say
+pub record IsWrong (words : List (List ℕ)) (host : HostState) (fault : Fault) : Type 0 where
+  pub arguments : Arguments
+  pub named : arguments_of words ≡ Some arguments
+  pub config : List ℕ
+  pub told : host.told arguments.config ≡ Content config
+  pub short : length config ≤ max_file
+  pub wrong : IsConfigWrong arguments.threads config fault ⊎ IsScriptWrong arguments.threads config (host.told arguments.jobs) fault
+
+-- ---- what doesn't fail
 
 -- no count rose: the host neither failed nor missed a file, and the output didn't fail
 pub record NothingFails (old new : HostState) (before after : SinkState) : Type 0 where
@@ -199,7 +245,8 @@ WritesNothing old new Usage = new ≡ old
 WritesNothing old new (NoFile name) = new ≡ old
 WritesNothing old new (TooLong name) = new ≡ old
 WritesNothing old new (ReadFault name) = new ≡ old
+WritesNothing old new ConfigText = new ≡ old
 WritesNothing old new (ConfigShape place) = new ≡ old
+WritesNothing old new (Method index code) = new ≡ old
 WritesNothing old new (JobText line) = new ≡ old
-WritesNothing old new (NotSupported line) = new ≡ old
 WritesNothing old new OutOfMemory = new ≡ old

@@ -16,15 +16,19 @@ pub enum Fault {
     TooLong(String),
     /// The host failed to read this file.
     ReadFault(String),
+    /// The configuration is no JSON text.
+    ConfigText,
+    /// The configuration's subsystem of this number, from 1, is the first of the wrong shape; 0 where
+    /// there is no array of them.
+    ConfigShape(u32),
+    /// The configuration's command of this index, from 0, is the first that is refused, with this code,
+    /// which is below 0.
+    Method { index: u32, code: i32 },
+    /// The script's line of this number, from 1, is the first outside the grammar; where each is inside,
+    /// the first whose command isn't carried out today.
+    JobText(u32),
     /// The output failed; what was written before is a prefix of the report.
     WriteFault,
-    /// The configuration is outside the form that is read today (0).
-    ConfigShape(u32),
-    /// The script's line of this number, from 1, is the first outside the grammar.
-    JobText(u32),
-    /// The script is in the grammar, and its line of this number, from 1, is the first whose command
-    /// isn't carried out today.
-    NotSupported(u32),
     OutOfMemory,
 }
 
@@ -36,9 +40,10 @@ impl Fault {
     {
         match self {
             Fault::TooLong(_)
+            | Fault::ConfigText
             | Fault::ConfigShape(_)
-            | Fault::JobText(_)
-            | Fault::NotSupported(_) => 1,
+            | Fault::Method { .. }
+            | Fault::JobText(_) => 1,
             Fault::Usage => 2,
             Fault::NoFile(_) | Fault::ReadFault(_) | Fault::WriteFault => 3,
             Fault::OutOfMemory => 4,
@@ -57,15 +62,18 @@ impl fmt::Display for Fault {
         match self {
             Fault::Usage => write!(
                 f,
-                "usage: bdevrun run CONFIG JOBS; options --threads N --schedule N"
+                "usage: bdevrun run CONFIG JOBS, exercise N or generate N; options --threads N --reactors N --schedule N"
             ),
             Fault::NoFile(name) => write!(f, "no file: {name}"),
             Fault::TooLong(name) => write!(f, "file too long: {name}"),
             Fault::ReadFault(name) => write!(f, "read fault: {name}"),
-            Fault::WriteFault => write!(f, "write fault"),
+            Fault::ConfigText => write!(f, "configuration is not JSON"),
             Fault::ConfigShape(place) => write!(f, "configuration shape: {place}"),
+            Fault::Method { index, code } => {
+                write!(f, "configuration command {index} refused: {code}")
+            }
             Fault::JobText(line) => write!(f, "script line {line}"),
-            Fault::NotSupported(line) => write!(f, "script line {line} not supported"),
+            Fault::WriteFault => write!(f, "write fault"),
             Fault::OutOfMemory => write!(f, "out of memory"),
         }
     }

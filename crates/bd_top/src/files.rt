@@ -5,10 +5,12 @@ ghost use Rattle.bd_outside.specs.Host.{IsLater};
 ghost use Rattle.bd_outside.specs.Sink.{Fails, StaysUntold};
 ghost use Rattle.bd_top.specs.Files.{IsRead, ReadCause, AppendsPrefix};
 
-use crate::config::MAX_FILE;
 use bd_base::{Bytes, OutOfMemory};
 use bd_outside::{Failed, Host, HostNo, Sink};
 use std::alloc::{AllocError, Global};
+
+/// The most bytes that a file may have.
+const MAX_FILE: usize = 8_388_608;
 
 // How many bytes are asked for at once.
 const CHUNK: usize = 65_536;

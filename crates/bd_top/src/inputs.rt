@@ -1,42 +1,47 @@
 //! The two files of a run, and what they mean.
-ghost use Rattle.std.specs.Prelude.{IfOk, IfErr};
+ghost use Rattle.std.specs.Prelude.{◌≡◌, IfOk, IfErr};
 ghost use Rattle.bd_outside.specs.Host.{IsLater};
-ghost use Rattle.bd_top.specs.Fault.{IsFaultOf};
-ghost use Rattle.bd_top.specs.Run.{IsDevice, IsScript, DeviceCause, ScriptCause, FileCause};
+ghost use Rattle.bd_top.specs.Fault.{IsFaultOf, config_fault};
+ghost use Rattle.bd_top.specs.Run.{IsDevices, IsScript, IsMeant, DevicesCause, ScriptCause, FileCause};
 
 use crate::built::first_not_built;
-use crate::config::{ConfigNo, read_config};
+use crate::configure::{ConfigureNo, configure};
 use crate::fault::Fault;
 use crate::files::{ReadNo, read_file};
-use bd_base::{DevRow, OutOfMemory, Rows, Script};
+use crate::setup::setup_of;
+use bd_base::{OutOfMemory, Rows, Script, Setup};
+use bd_building::Building;
 use bd_jobs::{JobNo, read_jobs};
 use bd_outside::Host;
 use std::alloc::Global;
 
-/// Why a configuration gives no device.
+/// Why a configuration gives no devices.
 #[derive(Clone, Copy, Debug, PartialEq, Eq)]
-pub(crate) enum DeviceNo {
+pub(crate) enum DevicesNo {
     /// Its file wasn't read.
     File(ReadNo),
-    /// Its bytes are outside their form.
-    Outside,
-    OutOfMemory,
+    /// Its bytes configure none.
+    Outside(ConfigureNo),
 }
 
-// The device that a configuration asks for.
-fn device<H: Host>(alloc: Global, host: &mut H, name: &str) -> Result<DevRow, DeviceNo>
-    ensures device { IfOk result (IsDevice ((H.state host.old).told name.now)) }
-    ensures cause { IfErr result (DeviceCause (H.state host.old) (H.state host.new) name.now) }
+// The devices that a configuration makes for this number of threads.
+fn devices<H: Host>(
+    alloc: Global,
+    host: &mut H,
+    name: &str,
+    threads: u32,
+) -> Result<Building, DevicesNo>
+    ensures devices { IfOk result (IsDevices threads ((H.state host.old).told name.now)) }
+    ensures cause { IfErr result (DevicesCause (H.state host.old) (H.state host.new) name.now threads) }
     ensures later { IsLater (H.state host.old) (H.state host.new) }
 {
     let bytes = match read_file(alloc, host, name) {
         Ok(bytes) => bytes,
-        Err(no) => return Err(DeviceNo::File(no)),
+        Err(no) => return Err(DevicesNo::File(no)),
     };
-    match read_config(alloc, bytes.as_slice()) {
-        Ok(row) => Ok(row),
-        Err(ConfigNo::Shape) => Err(DeviceNo::Outside),
-        Err(ConfigNo::OutOfMemory) => Err(DeviceNo::OutOfMemory),
+    match configure(alloc, threads, bytes.as_slice()) {
+        Ok(devices) => Ok(devices),
+        Err(no) => Err(DevicesNo::Outside(no)),
     }
 }
 
@@ -93,36 +98,45 @@ fn fault_of(alloc: Global, name: &str, no: ReadNo) -> Fault
     }
 }
 
-/// The device and the scripts that two files mean.
-#[derive(Drop)]
-pub(crate) struct Inputs {
-    pub row: DevRow,
-    pub scripts: Rows<Script>,
+// The fault of a configuration whose bytes configure no devices.
+fn config_fault(no: ConfigureNo) -> Fault
+    ensures { result ≡ config_fault no }
+{
+    match no {
+        ConfigureNo::OutOfMemory => Fault::OutOfMemory,
+        ConfigureNo::Text => Fault::ConfigText,
+        ConfigureNo::Shape(place) => Fault::ConfigShape(place),
+        ConfigureNo::Method { index, code } => Fault::Method { index, code },
+    }
 }
 
-/// Reads the two files, the configuration first; the script is one of this number of threads.
-pub(crate) fn read_inputs<H: Host>(
+/// Reads the two files, the configuration first; the script is one of this number of threads. They mean
+/// the setup that a run of them begins from.
+pub(crate) fn read_setup<H: Host>(
     alloc: Global,
     host: &mut H,
     config: &str,
     jobs: &str,
     threads: u32,
-) -> Result<Inputs, Fault>
-    ensures device { IfOk result (λ inputs. IsDevice ((H.state host.old).told config.now) inputs.row) }
-    ensures script { IfOk result (λ inputs. IsScript threads ((H.state host.old).told jobs.now) inputs.scripts) }
+) -> Result<Setup, Fault>
+    ensures setup { IfOk result (IsMeant threads ((H.state host.old).told config.now) ((H.state host.old).told jobs.now)) }
+    ensures threads { IfOk result (λ setup. setup.threads ≡ threads) }
     ensures cause { IfErr result (FileCause (H.state host.old) (H.state host.new) config.now jobs.now threads) }
 {
-    let row = match device(alloc, host, config) {
-        Ok(row) => row,
-        Err(DeviceNo::File(no)) => return Err(fault_of(alloc, config, no)),
-        Err(DeviceNo::Outside) => return Err(Fault::ConfigShape(0)),
-        Err(DeviceNo::OutOfMemory) => return Err(Fault::OutOfMemory),
+    let devices = match devices(alloc, host, config, threads) {
+        Ok(devices) => devices,
+        Err(DevicesNo::File(no)) => return Err(fault_of(alloc, config, no)),
+        Err(DevicesNo::Outside(no)) => return Err(config_fault(no)),
     };
-    match scripts(alloc, host, jobs, threads) {
-        Ok(scripts) => Ok(Inputs { row, scripts }),
-        Err(ScriptNo::File(no)) => Err(fault_of(alloc, jobs, no)),
-        Err(ScriptNo::Text(line)) => Err(Fault::JobText(line)),
-        Err(ScriptNo::NotBuilt(line)) => Err(Fault::NotSupported(line)),
-        Err(ScriptNo::OutOfMemory) => Err(Fault::OutOfMemory),
+    let scripts = match scripts(alloc, host, jobs, threads) {
+        Ok(scripts) => scripts,
+        Err(ScriptNo::File(no)) => return Err(fault_of(alloc, jobs, no)),
+        Err(ScriptNo::Text(line)) => return Err(Fault::JobText(line)),
+        Err(ScriptNo::NotBuilt(line)) => return Err(Fault::JobText(line)),
+        Err(ScriptNo::OutOfMemory) => return Err(Fault::OutOfMemory),
+    };
+    match setup_of(alloc, threads, devices, scripts) {
+        Ok(setup) => Ok(setup),
+        Err(OutOfMemory) => Err(Fault::OutOfMemory),
     }
 }

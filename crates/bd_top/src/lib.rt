@@ -2,7 +2,7 @@
 #![tactic(auto)]
 
 mod built;
-mod config;
+mod configure;
 mod fault;
 mod files;
 mod inputs;

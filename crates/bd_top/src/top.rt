@@ -8,8 +8,7 @@ ghost use Rattle.bd_top.specs.Words.{arguments_of};
 
 use crate::fault::Fault;
 use crate::files::write_all;
-use crate::inputs::{Inputs, read_inputs};
-use crate::setup::setup_of;
+use crate::inputs::read_setup;
 use crate::words::parse;
 use bd_base::{OutOfMemory, Setup};
 use bd_outside::{Clock, Failed, Gate, Host, Sink};
@@ -46,10 +45,10 @@ fn play_and_report(alloc: Global, setup: &Setup, schedule: u64) -> Result<Played
 /// on as many threads as `--threads` says (1 to 16, else 1) by the schedule that the number of
 /// `--schedule` (else 0) seeds, and writes the report.
 ///
-/// Faults are looked for in this order: the words; the configuration's file and its form; the
-/// script's file, its grammar, and commands that aren't carried out; the output. `cause` says when
-/// each comes: a file's fault names the file that was due, and the script is due only once the
-/// configuration is in form.
+/// Faults are looked for in this order: the words; the configuration's file, its text, its shape, its
+/// commands as they are read, as they are served and as they are done; the script's file, its grammar,
+/// and commands that aren't carried out; the output. `cause` says when each comes: a file's fault names
+/// the file that was due, and the script is due only once the configuration makes its devices.
 pub fn run<H: Host, K: Sink, C: Clock, G: Gate>(
     alloc: Global,
     words: &[String],
@@ -71,16 +70,7 @@ pub fn run<H: Host, K: Sink, C: Clock, G: Gate>(
     let Some(asked) = parse(words) else {
         return Err(Fault::Usage);
     };
-    let Inputs { row, scripts } = read_inputs(
-        alloc,
-        host,
-        asked.config,
-        asked.jobs,
-        asked.threads,
-    )?;
-    let Ok(setup) = setup_of(alloc, asked.threads, row, scripts) else {
-        return Err(Fault::OutOfMemory);
-    };
+    let setup = read_setup(alloc, host, asked.config, asked.jobs, asked.threads)?;
     let Ok(Played { trace, report }) = play_and_report(alloc, &setup, asked.schedule) else {
         return Err(Fault::OutOfMemory);
     };

@@ -57,8 +57,8 @@ fn file(alloc: Global, name: &str, lines: &[&str]) -> Result<(Name, Bytes), Fail
     Ok((name, bytes))
 }
 
-// Runs these words, after `run`, over the configuration `c` and a script `j`. The host's calls of these
-// numbers fail.
+// Runs these words, after `run`, over the configuration `c` and a script `j`; `e` is a configuration
+// without devices, `n` a script without lines. The host's calls of these numbers fail.
 fn ran(
     alloc: Global,
     words: &[&str],
@@ -69,6 +69,8 @@ fn ran(
     let mut files = Vec::new(alloc);
     files.push(file(alloc, "c", &CONFIG)?)?;
     files.push(file(alloc, "j", script)?)?;
+    files.push(file(alloc, "e", &["{\"subsystems\":[]}"])?)?;
+    files.push(file(alloc, "n", &[])?)?;
     let mut host = MemHost::new(alloc, files, 0, Vec::from_slice(alloc, fails)?)?;
     let mut list = Vec::new(alloc);
     list.push(String::from_str(alloc, "run")?)?;
@@ -81,14 +83,21 @@ fn ran(
 
 // The outside's failures: the host's call that fails (0: none), the room of the output, the words
 // after `run`, the fault's line and status, and what was written before.
-const OUTSIDE: [(u64, u64, [&str; 2], &[u8], &[u8]); 7] = [
+const OUTSIDE: [(u64, u64, [&str; 2], &[u8], &[u8]); 8] = [
     (0, 10, ["c", "j"], b"write fault, status 3", b"job 1 0 op"),
     (0, 0, ["c", "j"], b"write fault, status 3", b""),
     (1, 100, ["c", "j"], b"read fault: c, status 3", b""),
     (2, 100, ["c", "j"], b"read fault: c, status 3", b""),
     (3, 100, ["c", "j"], b"read fault: j, status 3", b""),
     (1, 100, ["j", "x"], b"read fault: j, status 3", b""),
-    (0, 100, ["j", "x"], b"configuration shape: 0, status 1", b""),
+    (
+        0,
+        100,
+        ["j", "x"],
+        b"configuration is not JSON, status 1",
+        b"",
+    ),
+    (0, 10, ["e", "n"], b"write fault, status 3", b"end accept"),
 ];
 
 #[test]

@@ -5,8 +5,8 @@ use Rattle.bd_top.proofs.Histories.{played}
 use Rattle.bd_top.proofs.InForm.{only_memory}
 use Rattle.bd_top.proofs.top.run.Goals as goal
 
-pub returns-in_err-row-clause-complete : goal.returns-in_err-row-clause-complete
-returns-in_err-row-clause-complete g c form quiet = IfErr-weaker _ _ _ (only_memory _ _ _ _ _ form quiet) (search rules)
+pub returns-in_err-setup-clause-complete : goal.returns-in_err-setup-clause-complete
+returns-in_err-setup-clause-complete g c form quiet = IfErr-weaker _ _ _ (only_memory _ _ _ _ _ form quiet) (search rules)
 
 pub returns-in-Ok-write_all-clause-run : goal.returns-in-Ok-write_all-clause-run
 returns-in-Ok-write_all-clause-run g c =
@@ -14,8 +14,8 @@ returns-in-Ok-write_all-clause-run g c =
     record {
       report = c.as_slice.result.now;
       played =
-          played (map string_bytes c.args.words.now) (g.H.Host.state c.args.host.now).told asked c.in_ok-row.field-0.row c.in_ok-row.field-0.scripts c.in-Ok.setup c.in-Ok-play_and_report.field-0.trace c.as_slice.result.now
-          (sym c.in-Some.ensures.meaning) c.in_ok-row.ensures.device c.in_ok-row.ensures.script c.in-Ok.ensures c.in-Ok-play_and_report.ensures.complete (c.as_slice.ensures.value ∙ c.in-Ok-play_and_report.ensures.report);
+          played (map string_bytes c.args.words.now) (g.H.Host.state c.args.host.now).told asked c.in_ok-setup.setup c.in-Ok.field-0.trace c.as_slice.result.now
+          (sym c.in-Some.ensures.meaning) c.in_ok-setup.ensures.setup c.in-Ok.ensures.complete (c.as_slice.ensures.value ∙ c.in-Ok.ensures.report);
       output = c.in-Ok-write_all.ensures.ok;
     }
 
@@ -23,11 +23,11 @@ pub returns-clause-cause : goal.returns-clause-cause
 returns-clause-cause g c =
     let asked : Arguments = record { config = c.in-Some.asked.config.now; jobs = c.in-Some.asked.jobs.now; threads = c.in-Some.asked.threads; schedule = c.in-Some.asked.schedule } in
     record {
-      trace = c.in-Ok-play_and_report.field-0.trace;
+      trace = c.in-Ok.field-0.trace;
       report = c.as_slice.result.now;
       played =
-          played (map string_bytes c.args.words.now) (g.H.Host.state c.args.host.now).told asked c.in_ok-row.field-0.row c.in_ok-row.field-0.scripts c.in-Ok.setup c.in-Ok-play_and_report.field-0.trace c.as_slice.result.now
-          (sym c.in-Some.ensures.meaning) c.in_ok-row.ensures.device c.in_ok-row.ensures.script c.in-Ok.ensures c.in-Ok-play_and_report.ensures.complete (c.as_slice.ensures.value ∙ c.in-Ok-play_and_report.ensures.report);
+          played (map string_bytes c.args.words.now) (g.H.Host.state c.args.host.now).told asked c.in_ok-setup.setup c.in-Ok.field-0.trace c.as_slice.result.now
+          (sym c.in-Some.ensures.meaning) c.in_ok-setup.ensures.setup c.in-Ok.ensures.complete (c.as_slice.ensures.value ∙ c.in-Ok.ensures.report);
       prefix = c.in-Err.ensures.prefix;
       failed = c.in-Err.ensures.err;
     }

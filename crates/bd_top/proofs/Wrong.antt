@@ -1,0 +1,223 @@
+-- Where one thing is wrong with two files and nothing fails, a run answers it unless it is out of memory.
+use Rattle.std.proofs.Common.{◌≡◌, ℕ, ◌+◌, ◌-◌, ◌≤◌, ◌<◌, Bool, true, false, ◌==◌, nat_le, not, ◌&&◌, ◌||◌, ◌⊎◌, inl, inr, List, [], ◌∷◌, ◌++◌, length, take, drop, None, Some, refl, sym, ◌∙◌, ap, subst, arith, string_bytes}
+use Rattle.std.specs.List.{list_all, list_any}
+use Rattle.std.proofs.lemmas.Bool.{and_parts}
+use Rattle.std.proofs.lemmas.Bool.Decides.{nat_tests}
+use Rattle.std.proofs.lemmas.List.{take-append-drop, take-take}
+use Rattle.bd_base.specs.declared.act.Entry.{Entry}
+use Rattle.bd_base.specs.declared.job.Line.{Line}
+use Rattle.bd_base.specs.declared.job.Script.{Script}
+use Rattle.bd_jobs.specs.ScriptGrammar.{commands_from, commands_of, scripts_of, IsFirstOutside, text_lines}
+use Rattle.bd_jobs.proofs.ReadLemmas.{from-append, from-none}
+use Rattle.bd_outside.specs.File.{Told, Content}
+use Rattle.bd_outside.specs.Host.{HostState}
+use Rattle.bd_outside.specs.Sink.{SinkState}
+use Rattle.bd_building.specs.Progress.{Progress}
+use Rattle.bd_top.specs.declared.configure.ConfigureNo.{ConfigureNo}
+use Rattle.bd_top.specs.declared.configure.ConfigureNo.TheVariants as config_nos
+use Rattle.bd_top.specs.declared.fault.Fault.{Fault}
+use Rattle.bd_top.specs.declared.fault.Fault.TheVariants as faults
+use Rattle.bd_top.specs.Built.{lines_in, is_built_line, is_not_built_at, is_built_before, IsFirstNotBuilt}
+use Rattle.bd_top.specs.Configure.{Configures, ConfigureCause}
+use Rattle.bd_top.specs.Fault.{config_fault}
+use Rattle.bd_top.specs.Files.{IsTooLong}
+use Rattle.bd_top.specs.Run.{Cause, FileCause, IsConfigWrong, IsConfigured, IsDevices, IsDue, IsMeant, IsNoScript, IsNoText, IsNotSupported, IsOutside, IsPlayed, IsScriptWrong, IsWrong, NothingFails}
+use Rattle.bd_top.specs.Words.{Arguments, arguments_of}
+use Rattle.bd_top.proofs.ConfigureLemmas.{nothing_wrong}
+use Rattle.bd_top.proofs.InForm.{read_told, not_too_long, none_outside, script_inside, script_supported, text_is_no_memory, shape_is_no_memory, method_is_no_memory}
+use Rattle.bd_top.proofs.OneCause.{one_cause}
+
+-- ---- one line of a script
+
+-- lines outside the grammar stay outside with more lines after them
+outside_further : (threads m k : ℕ) (lines : List (List ℕ)) → m ≤ k → commands_of threads (take m lines) ≡ None → commands_of threads (take k lines) ≡ None
+outside_further threads m k lines le none =
+    let first : List (List ℕ) = take m (take k lines) in
+    let same : first ≡ take m lines = take-take m k lines le in
+    let parted : commands_of threads (first ++ drop m (take k lines)) ≡ commands_of threads (take k lines) = ap (commands_of threads) (take-append-drop m (take k lines)) in
+    sym parted
+    ∙ from-append threads (Some []) 1 first (drop m (take k lines))
+    ∙ ap (λ s. commands_from threads s (1 + length first) (drop m (take k lines))) (ap (commands_of threads) same ∙ none)
+    ∙ from-none threads (1 + length first) (drop m (take k lines))
+
+not_outside_before : (threads m n : ℕ) (bytes : List ℕ) → m < n → IsFirstOutside threads bytes m → IsFirstOutside threads bytes n → ⊥
+not_outside_before threads m n bytes lt p q =
+    let none : commands_of threads (take (n - 1) (text_lines bytes)) ≡ None = outside_further threads m (n - 1) (text_lines bytes) (omega arith) p.outside in
+    let both : None ≡ Some q.before.0 = sym none ∙ q.before.1 in
+    absurd (cc)
+
+outside_once : (threads m n : ℕ) (bytes : List ℕ) → IsFirstOutside threads bytes m → IsFirstOutside threads bytes n → m ≡ n
+outside_once threads m n bytes p q = go (nat_le m n) (nat_le n m) refl refl
+  where
+    go : (a b : Bool) → nat_le m n ≡ a → nat_le n m ≡ b → m ≡ n
+    go true true e f = grind (arith, nat_tests, e, f)
+    go true false e f = absurd (not_outside_before threads m n bytes (grind (arith, nat_tests, e, f)) p q)
+    go false b e f = absurd (not_outside_before threads n m bytes (grind (arith, nat_tests, e, f)) q p)
+
+neither : (b : Bool) → (b && false) ≡ true → ⊥
+neither true h = cc
+neither false h = cc
+
+-- the number of a line that isn't carried out isn't below the first
+not_built_from : (m n : ℕ) (lines : List Line) → list_any (is_not_built_at m) lines ≡ true → list_all (is_built_before n) lines ≡ true → n ≤ m
+not_built_from m n [] some all = absurd (cc)
+not_built_from m n (line ∷ lines) some all = go (is_not_built_at m line) refl some (and_parts (is_built_before n line) (list_all (is_built_before n) lines) all) (not_built_from m n lines)
+  where
+    here : (number : ℕ) (built : Bool) → ((number == m) && not built) ≡ true → (built || nat_le n number) ≡ true → n ≤ m
+    here number true h k = absurd (neither (number == m) h)
+    here number false h k = grind (arith, nat_tests, h, k)
+
+    go : (b : Bool) → is_not_built_at m line ≡ b → (b || list_any (is_not_built_at m) lines) ≡ true
+        → (is_built_before n line ≡ true) × (list_all (is_built_before n) lines ≡ true)
+        → (list_any (is_not_built_at m) lines ≡ true → list_all (is_built_before n) lines ≡ true → n ≤ m) → n ≤ m
+    go true e some all later = here line.number (is_built_line line) e all.0
+    go false e some all later = later some all.1
+
+first_once : (m n : ℕ) (lines : List Line) → IsFirstNotBuilt lines m → IsFirstNotBuilt lines n → m ≡ n
+first_once m n lines p q =
+    let up : n ≤ m = not_built_from m n lines p.here q.before in
+    let down : m ≤ n = not_built_from n m lines q.here p.before in
+    omega arith
+
+supported_once : (threads m n : ℕ) (t : Told) (file : List ℕ) → t ≡ Content file → IsNotSupported threads t m → IsNotSupported threads t n → m ≡ n
+supported_once threads m n t file e p q =
+    let same : scripts_of threads p.bytes ≡ scripts_of threads q.bytes = ap (scripts_of threads) (read_told t file p.bytes e p.read ∙ sym (read_told t file q.bytes e q.read)) in
+    let both : Some p.scripts ≡ Some q.scripts = sym p.means ∙ same ∙ q.means in
+    let one : p.scripts ≡ q.scripts = cc in
+    first_once m n (lines_in p.scripts) p.first (subst (λ (s : List Script). IsFirstNotBuilt (lines_in s) n) (sym one) q.first)
+
+text_or_supported : (threads m n : ℕ) (t : Told) (file : List ℕ) → t ≡ Content file → IsNoText threads t m → IsNotSupported threads t n → ⊥
+text_or_supported threads m n t file e p q =
+    let same : scripts_of threads p.bytes ≡ scripts_of threads q.bytes = ap (scripts_of threads) (read_told t file p.bytes e p.read ∙ sym (read_told t file q.bytes e q.read)) in
+    none_outside threads p.bytes q.scripts m (same ∙ q.means) p.outside
+
+text_once : (threads m n : ℕ) (t : Told) (file : List ℕ) → t ≡ Content file → IsNoText threads t m → IsNoText threads t n → m ≡ n
+text_once threads m n t file e p q =
+    let same : p.bytes ≡ q.bytes = read_told t file p.bytes e p.read ∙ sym (read_told t file q.bytes e q.read) in
+    outside_once threads m n p.bytes p.outside (subst (λ (bytes : List ℕ). IsFirstOutside threads bytes n) (sym same) q.outside)
+
+line_once : (threads m n : ℕ) (t : Told) (file : List ℕ) → t ≡ Content file → IsNoScript threads t m → IsNoScript threads t n → m ≡ n
+line_once threads m n t file e (inl p) (inl q) = text_once threads m n t file e p q
+line_once threads m n t file e (inl p) (inr q) = absurd (text_or_supported threads m n t file e p q)
+line_once threads m n t file e (inr p) (inl q) = absurd (text_or_supported threads n m t file e q p)
+line_once threads m n t file e (inr p) (inr q) = supported_once threads m n t file e p q
+
+-- ---- one thing
+
+same_fault : (threads : ℕ) (config : List ℕ) (why given : ConfigureNo) → ConfigureCause threads config why → ¬ (why ≡ config_nos.OutOfMemory) → ConfigureCause threads config given
+    → (config_fault given ≡ config_fault why) ⊎ (config_fault given ≡ faults.OutOfMemory)
+same_fault threads config why given cause known other = go (one_cause threads config why given cause other)
+  where
+    go : (why ≡ given) ⊎ ((why ≡ config_nos.OutOfMemory) ⊎ (given ≡ config_nos.OutOfMemory)) → (config_fault given ≡ config_fault why) ⊎ (config_fault given ≡ faults.OutOfMemory)
+    go (inl e) = inl (sym (ap config_fault e))
+    go (inr (inl e)) = absurd (known e)
+    go (inr (inr e)) = inr (ap config_fault e)
+
+outside_bytes : (threads : ℕ) (t : Told) (config : List ℕ) (why : ConfigureNo) → t ≡ Content config → IsOutside threads t why → ConfigureCause threads config why
+outside_bytes threads t config why e out = subst (λ (bytes : List ℕ). ConfigureCause threads bytes why) (read_told t config out.bytes e out.read) out.outside
+
+devices_bytes : (threads : ℕ) (t : Told) (config : List ℕ) (devices : Progress) → t ≡ Content config → IsDevices threads t devices → Configures threads config devices
+devices_bytes threads t config devices e is = subst (λ (bytes : List ℕ). Configures threads bytes devices) (read_told t config is.bytes e is.read) is.means
+
+module _ (words : List (List ℕ)) (host : HostState) (fault : Fault) (wrong : IsWrong words host fault) where
+  abbrev threads : ℕ
+  threads = wrong.arguments.threads
+
+  abbrev config_told : Told
+  config_told = host.told wrong.arguments.config
+
+  abbrev jobs_told : Told
+  jobs_told = host.told wrong.arguments.jobs
+
+  -- a configuration that makes devices isn't what is wrong
+  no_devices : (devices : Progress) → IsConfigWrong threads wrong.config fault → IsDevices threads config_told devices → ⊥
+  no_devices devices bad is = bad.known (nothing_wrong threads wrong.config devices bad.why (devices_bytes threads config_told wrong.config devices wrong.told is) bad.cause)
+
+  -- of a configuration that makes devices the bytes have no cause
+  no_cause : (why : ConfigureNo) → IsScriptWrong threads wrong.config jobs_told fault → IsOutside threads config_told why → why ≡ config_nos.OutOfMemory
+  no_cause why bad out = nothing_wrong threads wrong.config bad.devices why bad.means (outside_bytes threads config_told wrong.config why wrong.told out)
+
+  of_config : (given : ConfigureNo) → (given ≡ config_nos.OutOfMemory → ⊥) → IsOutside threads config_told given → config_fault given ≡ fault
+  of_config given some out = go wrong.wrong
+    where
+      one : (bad : IsConfigWrong threads wrong.config fault) → (config_fault given ≡ config_fault bad.why) ⊎ (config_fault given ≡ faults.OutOfMemory) → config_fault given ≡ fault
+      one bad (inl e) = e ∙ sym bad.is
+      one bad (inr e) = absurd (some (memory given e))
+        where
+          memory : (why : ConfigureNo) → config_fault why ≡ faults.OutOfMemory → why ≡ config_nos.OutOfMemory
+          memory config_nos.OutOfMemory e = refl
+          memory config_nos.Text e = absurd (cc)
+          memory (config_nos.Shape place) e = absurd (cc)
+          memory (config_nos.Method index code) e = absurd (cc)
+
+      go : IsConfigWrong threads wrong.config fault ⊎ IsScriptWrong threads wrong.config jobs_told fault → config_fault given ≡ fault
+      go (inl bad) = one bad (same_fault threads wrong.config bad.why given bad.cause bad.known (outside_bytes threads config_told wrong.config given wrong.told out))
+      go (inr bad) = absurd (some (no_cause given bad out))
+
+  of_script : (line : ℕ) → IsConfigured threads config_told → IsNoScript threads jobs_told line → faults.JobText line ≡ fault
+  of_script line made outside = go wrong.wrong
+    where
+      go : IsConfigWrong threads wrong.config fault ⊎ IsScriptWrong threads wrong.config jobs_told fault → faults.JobText line ≡ fault
+      go (inl bad) = absurd (no_devices made.0 bad made.1)
+      go (inr bad) = ap faults.JobText (line_once threads line bad.line jobs_told bad.bytes bad.told outside bad.first) ∙ sym bad.is
+
+  too_long : (name : List ℕ) → IsDue host wrong.arguments.config wrong.arguments.jobs threads name → IsTooLong (host.told name) → ⊥
+  too_long name (inl e) long = not_too_long (host.told name) wrong.config (ap host.told e ∙ wrong.told) wrong.short long
+  too_long name (inr due) long = go wrong.wrong
+    where
+      go : IsConfigWrong threads wrong.config fault ⊎ IsScriptWrong threads wrong.config jobs_told fault → ⊥
+      go (inl bad) = no_devices due.1.0 bad due.1.1
+      go (inr bad) = not_too_long (host.told name) bad.bytes (ap host.told due.0 ∙ bad.told) bad.short long
+
+  module _ (new : HostState) (before after : SinkState) (quiet : NothingFails host new before after) where
+    of_file : (given : Fault) → FileCause host new wrong.arguments.config wrong.arguments.jobs threads given → (given ≡ fault) ⊎ (given ≡ faults.OutOfMemory)
+    of_file faults.Usage cause = absurd cause
+    of_file (faults.NoFile name) cause = absurd (quiet.files (string_bytes name) cause.2)
+    of_file (faults.TooLong name) cause = absurd (too_long (string_bytes name) cause.0 cause.1)
+    of_file (faults.ReadFault name) cause = absurd (quiet.host (string_bytes name) cause.1)
+    of_file faults.ConfigText cause = inl (of_config config_nos.Text text_is_no_memory cause)
+    of_file (faults.ConfigShape place) cause = inl (of_config (config_nos.Shape place) (shape_is_no_memory place) cause)
+    of_file (faults.Method index code) cause = inl (of_config (config_nos.Method index code) (method_is_no_memory index code) cause)
+    of_file (faults.JobText line) cause = inl (of_script line cause.0 cause.1)
+    of_file faults.WriteFault cause = absurd cause
+    of_file faults.OutOfMemory cause = inr refl
+
+    same_arguments : (asked : Arguments) → arguments_of words ≡ Some asked → asked ≡ wrong.arguments
+    same_arguments asked named =
+        let both : Some asked ≡ Some wrong.arguments = sym named ∙ wrong.named in
+        cc
+
+    of_files : (asked : Arguments) (given : Fault) → arguments_of words ≡ Some asked → FileCause host new asked.config asked.jobs asked.threads given → (given ≡ fault) ⊎ (given ≡ faults.OutOfMemory)
+    of_files asked given named cause = of_file given (subst (λ (a : Arguments). FileCause host new a.config a.jobs a.threads given) (same_arguments asked named) cause)
+
+    -- the cause of the answer is that one thing, or out of memory
+    pub only_this : (given : Fault) → Cause words host new before after given → (given ≡ fault) ⊎ (given ≡ faults.OutOfMemory)
+    only_this faults.Usage cause =
+        let both : Some wrong.arguments ≡ None = sym wrong.named ∙ cause in
+        absurd (cc)
+    only_this (faults.NoFile name) cause = of_files cause.arguments (faults.NoFile name) cause.named cause.of_file
+    only_this (faults.TooLong name) cause = of_files cause.arguments (faults.TooLong name) cause.named cause.of_file
+    only_this (faults.ReadFault name) cause = of_files cause.arguments (faults.ReadFault name) cause.named cause.of_file
+    only_this faults.ConfigText cause = of_files cause.arguments faults.ConfigText cause.named cause.of_file
+    only_this (faults.ConfigShape place) cause = of_files cause.arguments (faults.ConfigShape place) cause.named cause.of_file
+    only_this (faults.Method index code) cause = of_files cause.arguments (faults.Method index code) cause.named cause.of_file
+    only_this (faults.JobText line) cause = of_files cause.arguments (faults.JobText line) cause.named cause.of_file
+    only_this faults.WriteFault cause = absurd (quiet.output cause.failed)
+    only_this faults.OutOfMemory cause = inr refl
+
+    -- nor were the two files played
+    pub not_played : (trace : List Entry) (report : List ℕ) → IsPlayed words host.told trace report → ⊥
+    not_played trace report played =
+        let meant : IsMeant threads config_told jobs_told played.setup =
+        subst (λ (a : Arguments). IsMeant a.threads (host.told a.config) (host.told a.jobs) played.setup) (same_arguments played.arguments played.named) played.meant in
+        go meant wrong.wrong
+      where
+        of_jobs : (bad : IsScriptWrong threads wrong.config jobs_told fault) (setup : IsMeant threads config_told jobs_told played.setup) → IsNoScript threads jobs_told bad.line → ⊥
+        of_jobs bad meant (inl out) = script_inside threads jobs_told bad.bytes meant.scripts bad.line bad.told
+            (ap (scripts_of threads) (sym (read_told jobs_told bad.bytes meant.of_jobs.bytes bad.told meant.of_jobs.read)) ∙ meant.of_jobs.means) out
+        of_jobs bad meant (inr out) = script_supported threads jobs_told bad.bytes meant.scripts bad.line bad.told
+            (ap (scripts_of threads) (sym (read_told jobs_told bad.bytes meant.of_jobs.bytes bad.told meant.of_jobs.read)) ∙ meant.of_jobs.means) meant.of_jobs.built out
+
+        go : IsMeant threads config_told jobs_told played.setup → IsConfigWrong threads wrong.config fault ⊎ IsScriptWrong threads wrong.config jobs_told fault → ⊥
+        go meant (inl bad) = no_devices meant.devices bad meant.of_config
+        go meant (inr bad) = of_jobs bad meant bad.first

@@ -1,0 +1,99 @@
+//! The devices that a configuration makes, or the first thing that is wrong with it.
+ghost use Rattle.std.specs.Prelude.{◌≡◌, List, Some, Ok, IfOk, IfErr};
+ghost use Rattle.bd_base.specs.Errno.{number_of};
+ghost use Rattle.bd_config.specs.Commands.{minus};
+ghost use Rattle.bd_config.specs.Config.{IsConfig};
+ghost use Rattle.bd_config.specs.declared.command.Command.{Command as Asked};
+ghost use Rattle.bd_building.specs.Progress.{configured};
+ghost use Rattle.bd_building.specs.Served.{first_unserved};
+ghost use Rattle.bd_top.specs.Configure.{Configures, ConfigureCause, CommandsCause, UnservedCause, DoingCause};
+
+use bd_base::Errno;
+use bd_building::{BuildNo, Building, build, first_unserved};
+use bd_config::{Command, ConfigNo, read_config};
+use std::alloc::Global;
+
+/// Why bytes configure no devices.
+#[derive(Clone, Copy, Debug, PartialEq, Eq)]
+pub(crate) enum ConfigureNo {
+    OutOfMemory,
+    /// They are no JSON text.
+    Text,
+    /// The first subsystem of the wrong shape, counted from 1; 0 where there is no array of them.
+    Shape(u32),
+    /// The first command that is refused, counted from 0, and its code.
+    Method { index: u32, code: i32 },
+}
+
+// An errno as the code of a refusal: its number below zero.
+fn code_of(errno: Errno) -> i32
+    ensures { result ≡ minus (number_of errno) }
+{
+    match errno {
+        Errno::Perm => -1,
+        Errno::BadDesc => -9,
+        Errno::Busy => -16,
+        Errno::Exists => -17,
+        Errno::NoDev => -19,
+        Errno::Inval => -22,
+        Errno::NotSup => -95,
+    }
+}
+
+// The commands that bytes ask for.
+fn commands(alloc: Global, bytes: &[u8]) -> Result<Vec<Command>, ConfigureNo>
+    ensures ok { IfOk result (λ commands. IsConfig bytes.now commands.items) }
+    ensures cause { IfErr result (CommandsCause bytes.now) }
+{
+    match read_config(alloc, bytes) {
+        Ok(commands) => Ok(commands),
+        Err(ConfigNo::OutOfMemory) => Err(ConfigureNo::OutOfMemory),
+        Err(ConfigNo::Text) => Err(ConfigureNo::Text),
+        Err(ConfigNo::Shape(place)) => Err(ConfigureNo::Shape(place)),
+        Err(ConfigNo::Method { index, code }) => Err(ConfigureNo::Method { index, code }),
+    }
+}
+
+// Why commands aren't done, where the one at this place is the first that isn't served. A place without
+// a number of 32 bits answers out of memory.
+fn unserved(place: usize) -> ConfigureNo
+    ensures { (commands : List Asked) → first_unserved commands ≡ Some place → UnservedCause commands result }
+{
+    match u32::try_from(place) {
+        Ok(index) => ConfigureNo::Method {
+            index,
+            code: code_of(Errno::NotSup),
+        },
+        Err(_) => ConfigureNo::OutOfMemory,
+    }
+}
+
+// Does commands that are all served.
+fn doing(alloc: Global, threads: u32, commands: Vec<Command>) -> Result<Building, ConfigureNo>
+    ensures ok { IfOk result (λ devices. configured threads commands.items ≡ Ok devices) }
+    ensures cause { IfErr result (DoingCause threads commands.items) }
+{
+    match build(alloc, threads, commands) {
+        Ok(devices) => Ok(devices),
+        Err(BuildNo::OutOfMemory) => Err(ConfigureNo::OutOfMemory),
+        Err(BuildNo::Refused { index, errno }) => Err(ConfigureNo::Method {
+            index,
+            code: code_of(errno),
+        }),
+    }
+}
+
+/// The devices that a configuration makes for this number of threads. What is wrong is looked for in
+/// this order: its text; its shape; commands that can't be read; commands that aren't served as yet;
+/// what the commands come to, one after the other.
+#[tactic(auto, using(crate::proofs::ConfigureLemmas::read_cause, crate::proofs::ConfigureLemmas::unserved_cause, crate::proofs::ConfigureLemmas::doing_cause))]
+pub(crate) fn configure(alloc: Global, threads: u32, bytes: &[u8]) -> Result<Building, ConfigureNo>
+    ensures ok { IfOk result (Configures threads bytes.now) }
+    ensures cause { IfErr result (ConfigureCause threads bytes.now) }
+{
+    let commands = commands(alloc, bytes)?;
+    match first_unserved(commands.as_slice()) {
+        None => doing(alloc, threads, commands),
+        Some(place) => Err(unserved(place)),
+    }
+}
