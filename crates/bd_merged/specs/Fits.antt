@@ -1,11 +1,14 @@
 -- When the logs of threads fit together: what one thread took is what the other put, and the registry's journal is in the logs.
-use Rattle.std.specs.Prelude.{◌≡◌, ℕ, ◌<◌, cond, ◌==◌, List, [], ◌∷◌, ◌++◌, filter, map}
+use Rattle.std.specs.Prelude.{◌≡◌, ℕ, ◌+◌, ◌<◌, true, cond, ◌==◌, List, [], ◌∷◌, ◌++◌, filter, map, Option, Some, None, is_some}
 use Rattle.std.specs.List.{AllByRecursion}
 use Rattle.bd_base.specs.declared.act.Act.{Act}
 use Rattle.bd_base.specs.declared.act.Act.TheVariants as acts
 use Rattle.bd_base.specs.declared.act.Entry.{Entry}
 use Rattle.bd_base.specs.declared.setup.Setup.{Setup}
+use Rattle.bd_machine.specs.declared.state.Between.{Between}
 use Rattle.bd_machine.specs.declared.state.Registry.{Registry}
+use Rattle.bd_machine.specs.Changes.{between_after}
+use Rattle.bd_machine.specs.Registry.{Question}
 use Rattle.bd_machine.specs.View.{asked}
 use Rattle.bd_turns.specs.declared.queue.Post.{Post}
 use Rattle.bd_log.specs.Merge.{IsOrdered, entries_of}
@@ -65,6 +68,32 @@ event_of r = record { entry = r.entry; between = r.between }
 -- the events of a log, each with what it names as what had to follow
 abbrev pub events_in : List Row → List Event
 events_in rows = map event_of (filter (λ r. is_event r.entry) rows)
+
+-- ---- what had to follow, by a thread's own entries
+
+-- what has to follow after an entry of a thread: what an event leaves; an entry that asks nothing leaves what had to follow before it
+abbrev pub between_by : ℕ → Option Between → Option Question → Option Between
+between_by t between None = between
+between_by t between (Some q) = between_after t q.event q.answer
+
+abbrev pub between_next : Option Between → Row → Option Between
+between_next between r = between_by r.entry.thread between (asked r.entry.act)
+
+abbrev pub IsNamedIfAny : Option Between → Option Between → Option Question → Type 0
+IsNamedIfAny between named None = Unit {0}
+IsNamedIfAny between named (Some q) = named ≡ between
+
+-- where something has to follow after a row with this stamp, the next row asks the registry, with the stamp one above
+abbrev pub IsAskedNext : Option Between → ℕ → List Row → Type 0
+IsAskedNext None stamp rows = Unit {0}
+IsAskedNext (Some between) stamp [] = ⊥
+IsAskedNext (Some between) stamp (r ∷ rs) = (r.entry.stamp ≡ stamp + 1) × (is_some (asked r.entry.act) ≡ true)
+
+-- each row that asks names what the thread's own entries before it left to follow, and it is asked next
+abbrev pub IsOwnFollowed : Option Between → List Row → Type 0
+IsOwnFollowed between [] = Unit {0}
+IsOwnFollowed between (r ∷ rs) =
+    IsNamedIfAny between r.between (asked r.entry.act) × IsAskedNext (between_next between r) r.entry.stamp rs × IsOwnFollowed (between_next between r) rs
 
 -- ---- logs
 

@@ -1,9 +1,12 @@
 -- The registry's journal: the entries that asked the registry, and the Shutdown, in the order in which the registry answered.
 use Rattle.std.specs.Prelude.{◌≡◌, ℕ, Bool, ◌||◌, ◌==◌, List, [], ◌∷◌, filter, Option, Some, None, is_some, option_and_then}
 use Rattle.bd_base.specs.declared.act.Entry.{Entry}
+use Rattle.bd_base.specs.declared.id.DevId.{DevId}
 use Rattle.bd_base.specs.declared.setup.Setup.{Setup}
 use Rattle.bd_machine.specs.declared.state.Between.{Between}
+use Rattle.bd_machine.specs.declared.state.Handle.{Handle}
 use Rattle.bd_machine.specs.declared.state.Registry.{Registry}
+use Rattle.bd_machine.specs.Alone.{own_handles_after, own_channels_after}
 use Rattle.bd_machine.specs.Changes.{registry_after}
 use Rattle.bd_machine.specs.Registry.{Question, answer_to}
 use Rattle.bd_machine.specs.Step.{is_shutdown}
@@ -73,3 +76,15 @@ between_for registry e = option_and_then (λ q. registry.between) (asked e.act)
 abbrev pub followed_from : Setup → Registry → List Entry → List Event
 followed_from setup registry [] = []
 followed_from setup registry (e ∷ es) = record { entry = e; between = between_for registry e } ∷ followed_from setup (registry_next setup registry e) es
+
+-- ---- what a thread has in the registry
+
+-- a thread's handles, after these entries of its own
+abbrev pub own_handles_by : ℕ → List Handle → List Entry → List Handle
+own_handles_by t handles [] = handles
+own_handles_by t handles (e ∷ es) = own_handles_by t (own_handles_after t handles (asked e.act)) es
+
+-- a thread's references to each device, after these entries of its own
+abbrev pub own_channels_by : Setup → (DevId → Option ℕ) → List Entry → DevId → Option ℕ
+own_channels_by setup channels [] = channels
+own_channels_by setup channels (e ∷ es) = own_channels_by setup (own_channels_after setup channels (asked e.act)) es

@@ -1,22 +1,24 @@
 -- The laws of logs.
-use Rattle.std.specs.Prelude.{◌≡◌, ℕ, ◌<◌, ◌≤◌, true, false, cond, ◌==◌, List, [], ◌∷◌, ◌++◌, length, map, slice_index_or, None}
+use Rattle.std.specs.Prelude.{◌≡◌, ℕ, ◌<◌, ◌≤◌, Bool, true, false, cond, ◌==◌, List, [], ◌∷◌, ◌++◌, length, map, filter, slice_index_or, None}
 use Rattle.std.specs.List.{AllByRecursion, list_any}
 use Rattle.bd_base.specs.declared.act.Entry.{Entry}
+use Rattle.bd_base.specs.declared.id.DevId.{DevId}
 use Rattle.bd_base.specs.declared.setup.Setup.{Setup}
 use Rattle.bd_machine.specs.declared.state.Id.{Id}
 use Rattle.bd_machine.specs.declared.state.Registry.{Registry}
 use Rattle.bd_machine.specs.Content.{Told}
 use Rattle.bd_machine.specs.Lines.{shutdown_at}
 use Rattle.bd_machine.specs.Messages.{count_at}
+use Rattle.bd_machine.specs.Registry.{references}
 use Rattle.bd_machine.specs.Rest.{is_nothing_owed}
 use Rattle.bd_machine.specs.Run.{IsRun, IsCompleteRun}
 use Rattle.bd_machine.specs.Start.{registry_at_start}
-use Rattle.bd_machine.specs.View.{View}
+use Rattle.bd_machine.specs.View.{View, is_of}
 use Rattle.bd_turns.specs.Laws.{view_at_start, is_left_open_in, is_resting_here, AreBlocked, AreDestructed}
-use Rattle.bd_log.specs.Merge.{Part, IsOrdered, IsMerge}
+use Rattle.bd_log.specs.Merge.{Part, Rises, IsOrdered, entries_of, IsMerge}
 use Rattle.bd_merged.specs.Rows.{Row, entries, Accepts}
-use Rattle.bd_merged.specs.Journals.{registry_by, before, Event, entry_in, events_by, IsFollowed}
-use Rattle.bd_merged.specs.Fits.{FindsAt, events_in, Fits, IsMergeOf}
+use Rattle.bd_merged.specs.Journals.{events, registry_by, before, Event, entry_in, events_by, IsFollowed, own_handles_by, own_channels_by}
+use Rattle.bd_merged.specs.Fits.{FindsAt, events_in, IsOwnFollowed, Fits, IsMergeOf}
 
 -- ---- a run
 
@@ -89,6 +91,31 @@ LogsAreCompleteRun = (setup : Setup) (told : Told) (logs : ℕ → List Row) (jo
 abbrev pub FollowedIsFound : Type 0
 FollowedIsFound = (setup : Setup) (registry : Registry) (logs : ℕ → List Row) (js : List Event) → IsOrdered (map entry_in js) → ((t : ℕ) → events_by t js ≡ events_in (logs t)) → IsFollowed setup registry js
     → (t : ℕ) → AllByRecursion (FindsAt setup registry (map entry_in js)) (logs t)
+
+-- where stamps rise strictly in a journal that begins with nothing to follow, and each thread names what its own entries left to follow and asks for it next, each log finds what it names
+abbrev pub OwnIsFound : Type 0
+OwnIsFound = (setup : Setup) (registry : Registry) (logs : ℕ → List Row) (journal : List Entry) → registry.between ≡ None → Rises journal → ((t : ℕ) → entries_of t journal ≡ events (entries (logs t)))
+    → ((t : ℕ) → IsOwnFollowed None (logs t)) → (t : ℕ) → AllByRecursion (FindsAt setup registry journal) (logs t)
+
+-- ---- what a thread has in the registry
+
+-- in the registry that a journal leaves, a thread's handles and references are those that its own entries give
+pub record HasOwn (setup : Setup) (registry : Registry) (journal : List Entry) (t : ℕ) : Type 0 where
+  pub handles : filter (is_of t) (registry_by setup registry journal).handles ≡ own_handles_by t (filter (is_of t) registry.handles) (entries_of t journal)
+  pub channels : (dev : DevId) → references (registry_by setup registry journal) t dev ≡ own_channels_by setup (references registry t) (entries_of t journal) dev
+
+-- others' entries leave them
+abbrev pub OthersLeaveOwn : Type 0
+OthersLeaveOwn = (setup : Setup) (registry : Registry) (journal : List Entry) (t : ℕ) → HasOwn setup registry journal t
+
+-- the handles and channels that a thread sees are those that the events of its log give
+pub record SeesOwn (setup : Setup) (t : ℕ) (v : View) (rows : List Row) (w : View) : Type 0 where
+  pub handles : w.handles ≡ own_handles_by t v.handles (events (entries rows))
+  pub channels : w.channels ≡ own_channels_by setup v.channels (events (entries rows))
+
+-- so it is where the rules accept the log
+abbrev pub LogsGiveOwn : Type 0
+LogsGiveOwn = (setup : Setup) (shut : Bool) (t : ℕ) (v : View) (rows : List Row) (w : View) → Accepts setup shut t v rows w → SeesOwn setup t v rows w
 
 -- ---- the merge of parts
 

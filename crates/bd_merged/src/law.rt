@@ -1,6 +1,6 @@
 //! The laws of logs. Each function says one of them: its body is empty, and its clause is the law,
 //! which the definitions alone prove.
-ghost use Rattle.bd_merged.specs.Laws.{FollowedIsFound, LogsAreCompleteRun, LogsAreRun, MergeOfParts};
+ghost use Rattle.bd_merged.specs.Laws.{FollowedIsFound, LogsAreCompleteRun, LogsAreRun, LogsGiveOwn, MergeOfParts, OthersLeaveOwn, OwnIsFound};
 
 /// Logs that the rules accept and that fit together are merged into a run.
 pub fn logs_are_run()
@@ -17,6 +17,25 @@ pub fn logs_are_complete_run()
 /// asked, and the rows of the logs name the same, each log's rows name what had to follow.
 pub fn followed_is_found()
     ensures { FollowedIsFound }
+{}
+
+/// Where stamps rise strictly in the journal, each thread names what its own entries left to follow
+/// in the registry, and asks for that next, with the stamp one above: each log's rows name what had
+/// to follow. So a thread needs to know no other's rows, and a journal needs no more than entries.
+pub fn own_is_found()
+    ensures { OwnIsFound }
+{}
+
+/// In the registry that a journal leaves, the handles and references of a thread are those that the
+/// thread's own entries give.
+pub fn others_leave_own()
+    ensures { OthersLeaveOwn }
+{}
+
+/// The handles and channels that a thread sees are those that the events of its log give, where the
+/// rules accept the log.
+pub fn logs_give_own()
+    ensures { LogsGiveOwn }
 {}
 
 /// The merge of parts, one for each thread with the entries of its log, is the merge of the logs.

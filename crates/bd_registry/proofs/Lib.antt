@@ -1,7 +1,9 @@
+pub mod Alike
 pub mod Journals
 pub mod Keeping
 pub mod Naming
 pub mod Registering
+pub mod Registers
 pub mod Rows
 pub mod Starting
 pub mod Suiting

@@ -1,5 +1,5 @@
 -- A name that was given a place, and a device more.
-use Rattle.std.proofs.Common.{◌≡◌, ◌≢◌, ℕ, ◌+◌, ◌<◌, ◌≤◌, Bool, true, false, not, cond, ◌&&◌, ◌⊎◌, inl, inr, List, [], ◌∷◌, ◌++◌, length, Option, Some, None, nat_eq, nat_lt, eqb, get_or, take, lt-ltb, le-ltb, refl, sym, ◌∙◌, ap, ap₂, subst, eq-eqb, ne_eqb, arith}
+use Rattle.std.proofs.Common.{◌≡◌, ◌≢◌, ℕ, ◌+◌, ◌<◌, ◌≤◌, Bool, true, false, not, cond, ◌&&◌, ◌⊎◌, inl, inr, List, [], ◌∷◌, ◌++◌, length, Option, Some, None, nat_eq, nat_lt, eqb, get_or, take, lt-ltb, le-ltb, refl, sym, ◌∙◌, ap, ap₂, eq-eqb, ne_eqb, arith}
 use Rattle.std.specs.Cmp.Lexicographic.{pointwise}
 use Rattle.std.specs.List.{position, position_or_len}
 use Rattle.std.specs.Map.{lookup}

@@ -3,3 +3,4 @@ pub mod State
 pub mod Names
 pub mod Registered
 pub mod Tables
+pub mod Laws

@@ -3,6 +3,7 @@
 
 mod copies;
 mod handles;
+pub mod law;
 mod names;
 mod registry;
 mod setups;

@@ -2,15 +2,19 @@
 ghost use Rattle.std.specs.Prelude.{◌≡◌, ◌<◌, ◌++◌, ◌∷◌, [], List, IfOk, OnOk, OnErr};
 ghost use Rattle.bd_answers.specs.Named.{named_by};
 ghost use Rattle.bd_base.specs.declared.act.Entry.{Entry};
+ghost use Rattle.bd_base.specs.declared.setup.Setup.{Setup};
+ghost use Rattle.bd_log.specs.Log.{IsWithin};
+ghost use Rattle.bd_log.specs.Merge.{IsOrdered, Rises};
 ghost use Rattle.bd_machine.specs.Registry.{answer_to};
 ghost use Rattle.bd_machine.specs.Start.{registry_at_start};
+ghost use Rattle.bd_merged.specs.Journals.{events};
 
 use crate::copies::event_row;
 use crate::names::Names;
 use crate::setups::rows_of;
 use crate::tables::Tables;
 use bd_answers::answer_by;
-use bd_base::{Answer, DevId, Entry, HandleId, OutOfMemory, RegEvent, Setup};
+use bd_base::{Act, Answer, DevId, Entry, HandleId, Journaled, OutOfMemory, RegEvent, Setup};
 use bd_iodev::counts_after;
 use bd_machine::{Between, Device, Handle};
 use bd_view::Records;
@@ -18,7 +22,8 @@ use std::alloc::Global;
 use std::marker::Model;
 
 /// The registry: its rows, and what the events of its journal left of what there was at the start. Seen
-/// as `Registered`: the rows as a setup without scripts, the journal, and the journal's last stamp.
+/// as `Registered`: the rows as a setup without scripts, the journal, the journal's last stamp, and
+/// the registry that the journal leaves.
 #[derive(Drop)]
 pub struct Registry {
     setup: Setup,
@@ -26,17 +31,27 @@ pub struct Registry {
     tables: Tables,
     journal: Vec<Entry>,
     last: u128,
+    shut: bool,
 }
 
 impl Model for Registry {
+    ghost use Rattle.std.specs.Prelude.{◌≡◌};
     ghost use Rattle.bd_registry.specs.Registered.{IsRegistered};
-    ghost use Rattle.bd_registry.specs.State.{Registered, registered_by};
+    ghost use Rattle.bd_registry.specs.State.{Registered, is_shut, registered_by};
 
     ghost Value = { Registered };
 
     ghost view = { λ r. registered_by r.setup r.journal.items r.last };
 
-    ghost invariant = { λ r. IsRegistered r.names r.tables (registered_by r.setup r.journal.items r.last) };
+    ghost invariant = { λ r. IsRegistered r.names r.tables (registered_by r.setup r.journal.items r.last) × (r.shut ≡ is_shut r.journal.items) };
+}
+
+impl Journaled for Registry {
+    ghost use Rattle.bd_registry.specs.State.{start_of};
+
+    ghost journal = { λ r. r.journal };
+
+    ghost start = { λ r. start_of r.setup };
 }
 
 impl Records for Registry {
@@ -72,7 +87,7 @@ impl Records for Registry {
 }
 
 impl Registry {
-    ghost use Rattle.bd_registry.specs.State.{registered, rows_of};
+    ghost use Rattle.bd_registry.specs.State.{HasRowsOf, IsFollowedFromStart, IsReplayFromStart, is_shut, left_from_start, registered, rows_of, shut_at};
 
     /// The registry of a setup before any event, with the setup's threads, devices, rates and injections.
     pub fn of(alloc: Global, setup: &Setup) -> Result<Registry, OutOfMemory>
@@ -87,6 +102,7 @@ impl Registry {
             tables,
             journal: Vec::new(alloc),
             last: 0,
+            shut: false,
         })
     }
 
@@ -95,6 +111,46 @@ impl Registry {
         ensures { result ≡ self.now.last }
     {
         self.last
+    }
+
+    /// Whether the journal has the Shutdown.
+    pub fn is_shut(&self) -> bool
+        ensures { result ≡ is_shut self.now.journal }
+    {
+        self.shut
+    }
+
+    /// The journal: the events that were answered, and the Shutdown, each with its stamp and thread.
+    /// Stamps rise. By any setup with the registry's rows it is a replay from the start, each row with
+    /// what had to follow when it was asked, and leaves what the registry is.
+    pub fn journal(&self) -> &[Entry]
+        ensures rows { result.now ≡ self.now.journal }
+        ensures rises { Rises self.now.journal }
+        ensures ordered { IsOrdered self.now.journal }
+        ensures within { IsWithin self.now.last self.now.journal }
+        ensures events { events self.now.journal ≡ self.now.journal }
+        ensures replay { (setup : Setup) → HasRowsOf self.now setup → IsReplayFromStart setup self.now.journal }
+        ensures followed { (setup : Setup) → HasRowsOf self.now setup → IsFollowedFromStart setup self.now.journal }
+        ensures leaves { (setup : Setup) → HasRowsOf self.now setup → left_from_start setup self.now.journal ≡ self.now.state }
+    {
+        self.journal.as_slice()
+    }
+
+    /// Adds the Shutdown to the journal with this stamp, as an entry of thread 0. It is never refused,
+    /// and leaves all else. Out of memory, nothing changes.
+    pub fn shut(&mut self, stamp: u128) -> Result<(), OutOfMemory>
+        requires { self.old.last < stamp }
+        ensures ok { OnOk result (self.new ≡ shut_at self.old stamp) }
+        ensures err { OnErr result (self.new ≡ self.old) }
+    {
+        self.journal.push(Entry {
+            stamp,
+            thread: 0,
+            act: Act::Shutdown,
+        })?;
+        self.last = stamp;
+        self.shut = true;
+        Ok(())
     }
 
     /// Answers an event of a thread, which the journal then has with this stamp. A refused event changes

@@ -27,6 +27,23 @@ fn answer(alloc: Global, registry: &mut Registry, words: &[&str]) -> Result<Stri
     told::told(alloc, &answer)
 }
 
+// Adds the Shutdown, and tells how many rows the journal has then.
+fn shut(alloc: Global, registry: &mut Registry) -> Result<String, OutOfMemory> {
+    let Some(stamp) = registry.last_stamp().checked_add(1) else {
+        return Err(OutOfMemory);
+    };
+    let before = registry.is_shut();
+    registry.shut(stamp)?;
+    let rows = registry.journal().len();
+    let mut told = String::new(alloc);
+    match (before, registry.is_shut()) {
+        (false, true) => write!(told, "shut, {rows} rows")?,
+        (true, true) => write!(told, "shut again, {rows} rows")?,
+        _ => write!(told, "not shut, {rows} rows")?,
+    }
+    Ok(told)
+}
+
 // What a step of a case comes to, after what the steps before it came to.
 fn tell(
     alloc: Global,
@@ -38,7 +55,10 @@ fn tell(
         told.push_str("; ")?;
     }
     let words: Vec<&str> = step.split_whitespace().collect(alloc)?;
-    let answer = answer(alloc, registry, words.as_slice())?;
+    let answer = match words.as_slice() {
+        ["shut"] => shut(alloc, registry)?,
+        words => answer(alloc, registry, words)?,
+    };
     told.push_str(answer.as_str())?;
     Ok(())
 }

@@ -17,7 +17,6 @@ mod report;
 mod steps;
 mod tables;
 mod user;
-mod walk;
 mod words;
 
 use bd_base::OutOfMemory;
@@ -43,7 +42,6 @@ fn answer(alloc: Global, subject: &str, case: &str) -> Result<String, OutOfMemor
         "retry" => steps::told(alloc, &mut Retry::new(alloc), case),
         "tables" => steps::told(alloc, &mut Tables::new(alloc), case),
         "user" => user::answer(alloc, case),
-        "walk" => walk::answer(alloc, case),
         _ => steps::said(alloc, "no such subject"),
     }
 }

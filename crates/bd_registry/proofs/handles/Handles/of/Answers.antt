@@ -1,4 +1,4 @@
-use Rattle.std.proofs.Common.{◌≡◌, ◌∷◌, ◌++◌, [], List, length, get_or, take, false, None, sym, subst, arith}
+use Rattle.std.proofs.Common.{◌≡◌, List, length, get_or, take, false, None, sym, subst, arith}
 use Rattle.std.proofs.lemmas.List.{take_more}
 use Rattle.bd_machine.specs.declared.state.Handle.{Handle}
 use Rattle.bd_registry.specs.Handles.{Keeps}

@@ -1,5 +1,3 @@
-use Rattle.std.proofs.Common.{ℕ, List, get_or}
-use Rattle.bd_base.specs.declared.device.DevRow.{DevRow}
 use Rattle.bd_registry.specs.Names.{place_of_name}
 use Rattle.bd_registry.proofs.Naming.{named_more}
 use Rattle.bd_registry.proofs.names.Names.of.Goals as goal
