@@ -9,5 +9,5 @@ mod taking;
 
 pub use incoming::fetch;
 pub use outgoing::{flush, flush_all};
-pub use replica::follow;
+pub use replica::{catch_up, follow};
 pub use taking::{append_all, take_over};

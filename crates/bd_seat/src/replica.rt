@@ -1,5 +1,6 @@
 //! A registry that follows another one, by the rows of the other's journal.
-ghost use Rattle.std.specs.Prelude.{◌≡◌, OnOk};
+ghost use Rattle.std.specs.Prelude.{◌≡◌, ◌≤◌, length, take, OnOk};
+ghost use Rattle.bd_machine.specs.Start.{registry_at_start};
 ghost use Rattle.bd_machine.specs.View.{asked};
 ghost use Rattle.bd_merged.specs.Journals.{registry_by, registry_next, IsAnswered, IsReplay};
 
@@ -35,4 +36,22 @@ pub fn follow(alloc: Global, replica: &mut Registry, rows: &[Entry]) -> Result<(
         follow_row(alloc, replica, row)?;
     }
     Ok(())
+}
+
+/// The replica, which is what the first rows of the lent registry's journal leave, this many, becomes what
+/// all of them leave: what the lent registry is. Out of memory as `follow`.
+pub fn catch_up(
+    alloc: Global,
+    replica: &mut Registry,
+    lent: &Registry,
+    seen: usize,
+) -> Result<(), OutOfMemory>
+    requires setup { replica.old.setup ≡ lent.now.setup }
+    requires seen { seen ≤ length lent.now.journal }
+    requires state { replica.old.state ≡ registry_by lent.now.setup (registry_at_start lent.now.setup) (take seen lent.now.journal) }
+    ensures setup { replica.new.setup ≡ replica.old.setup }
+    ensures state { OnOk result (replica.new.state ≡ lent.now.state) }
+{
+    let rows = lent.journal();
+    follow(alloc, replica, &rows[seen..])
 }

@@ -19,7 +19,7 @@ abbrev pub is_asking_if_any : Option Job → Bool
 is_asking_if_any None = false
 is_asking_if_any (Some job) = is_asking job
 
--- the thread owes something, or a handle's remove event was taken; or, before Shutdown, its next line asks the registry; or it is thread 0 after Shutdown
+-- something is still to be done by the thread, or a handle's remove event was taken; or, before Shutdown, its next line asks the registry; or it is thread 0 after Shutdown
 abbrev pub wants_registry : Thread → Links → Bool
 wants_registry t links =
     not (owes_nothing t) || (links.shut && (t.me == 0)) || (not links.shut && is_asking_if_any (undecided_job t.setup.now t.me t.part))

@@ -23,9 +23,9 @@ fn is_asking(job: &Job) -> bool
 }
 
 impl<'a> Thread<'a> {
-    /// Whether the thread has, or may have, something to ask the registry: it owes something, or a handle's
-    /// remove event was taken; before Shutdown, its next line opens, closes, claims or removes; after
-    /// Shutdown, it is thread 0.
+    /// Whether the thread may have something to ask the registry: something is still to be done by it, or
+    /// a handle's remove event was taken; before Shutdown, its next line opens, closes, claims or removes;
+    /// after Shutdown, it is thread 0.
     pub fn wants_registry(&self, links: &Links) -> bool
         ensures { result ≡ wants_registry self.now links.now }
     {
