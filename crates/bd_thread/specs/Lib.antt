@@ -16,4 +16,3 @@ pub mod Starts
 pub mod Endings
 pub mod Resting
 pub mod Waits
-pub mod Work

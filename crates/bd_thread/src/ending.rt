@@ -83,7 +83,7 @@ impl<'a> Thread<'a> {
         Ok(())
     }
 
-    pub(crate) fn destruct_all(&mut self, links: &mut Links) -> Result<(), OutOfMemory>
+    fn destruct_all(&mut self, links: &mut Links) -> Result<(), OutOfMemory>
         requires { self.old.me < vec_len links.old.queues }
         ensures acted { OnOk result (Acted self.old links.old self.new links.new) }
         ensures tickets { OnOk result (KeepsTickets self.old → KeepsTickets self.new) }
@@ -99,7 +99,7 @@ impl<'a> Thread<'a> {
     }
 
     // Whether the thread owes nothing, and it took no remove event.
-    pub(crate) fn owes_nothing(&self) -> bool
+    fn owes_nothing(&self) -> bool
         ensures { result ≡ owes_nothing self.now }
     {
         self.part.owed.len() == 0 && self.part.gone.len() == 0

@@ -15,7 +15,6 @@ mod thread;
 mod turn;
 mod view;
 mod walks;
-mod work;
 
 pub use links::Links;
 pub use requests::Refused;

@@ -21,7 +21,7 @@ use bd_view::Submission;
 
 /// How many messages a turn takes, pieces of a store it serves, and lines it does, at most (SPDK's
 /// batch of messages).
-pub(crate) const BATCH: u32 = 8;
+const BATCH: u32 = 8;
 
 /// The outcome of a turn.
 #[derive(Clone, Copy, Debug, PartialEq, Eq)]
@@ -32,7 +32,7 @@ pub enum Turned {
     Quiet,
 }
 
-pub(crate) fn tell(before: usize, after: usize) -> Turned
+fn tell(before: usize, after: usize) -> Turned
     requires { before ≤ after }
     ensures { result ≡ turned_of before after }
 {
@@ -91,7 +91,7 @@ impl<'a> Thread<'a> {
     }
 
     // Submits what the next line asks for, where it asks for that and there is room.
-    pub(crate) fn submit_line(&mut self, links: &mut Links) -> Result<bool, OutOfMemory>
+    fn submit_line(&mut self, links: &mut Links) -> Result<bool, OutOfMemory>
         requires me { self.old.me < vec_len links.old.queues }
         ensures acted { OnOk result (Acted self.old links.old self.new links.new) }
         ensures tickets { OnOk result (KeepsTickets self.old → KeepsTickets self.new) }
@@ -164,7 +164,7 @@ impl<'a> Thread<'a> {
         Ok(true)
     }
 
-    pub(crate) fn receive_all(&mut self, links: &mut Links) -> Result<(), OutOfMemory>
+    fn receive_all(&mut self, links: &mut Links) -> Result<(), OutOfMemory>
         requires { self.old.me < vec_len links.old.queues }
         ensures acted { OnOk result (Acted self.old links.old self.new links.new) }
         ensures tickets { OnOk result (KeepsTickets self.old → KeepsTickets self.new) }
@@ -209,7 +209,7 @@ impl<'a> Thread<'a> {
         Ok(())
     }
 
-    pub(crate) fn serve_all(&mut self, links: &mut Links) -> Result<(), OutOfMemory>
+    fn serve_all(&mut self, links: &mut Links) -> Result<(), OutOfMemory>
         requires { self.old.me < vec_len links.old.queues }
         ensures acted { OnOk result (Acted self.old links.old self.new links.new) }
         ensures tickets { OnOk result (KeepsTickets self.old → KeepsTickets self.new) }
@@ -302,7 +302,7 @@ impl<'a> Thread<'a> {
         self.put(links, to, what)
     }
 
-    pub(crate) fn put_outbox(&mut self, links: &mut Links) -> Result<(), OutOfMemory>
+    fn put_outbox(&mut self, links: &mut Links) -> Result<(), OutOfMemory>
         requires { self.old.me < vec_len links.old.queues }
         ensures acted { OnOk result (Acted self.old links.old self.new links.new) }
         ensures tickets { OnOk result (KeepsTickets self.old → KeepsTickets self.new) }
@@ -316,7 +316,7 @@ impl<'a> Thread<'a> {
         Ok(())
     }
 
-    pub(crate) fn put_all_due(&mut self, links: &mut Links) -> Result<(), OutOfMemory>
+    fn put_all_due(&mut self, links: &mut Links) -> Result<(), OutOfMemory>
         requires { self.old.me < vec_len links.old.queues }
         ensures acted { OnOk result (Acted self.old links.old self.new links.new) }
         ensures tickets { OnOk result (KeepsTickets self.old → KeepsTickets self.new) }
