@@ -1,6 +1,5 @@
 mod Fetching
 mod Flushing
 mod FlushingAll
-mod SameAnswers
 mod Suffixes
 mod TakenOver

@@ -3,7 +3,6 @@
 #![tactic(auto)]
 
 mod base;
-mod building;
 mod config;
 mod delay;
 mod devices;
@@ -29,7 +28,6 @@ use std::alloc::Global;
 fn answer(alloc: Global, subject: &str, case: &str) -> Result<String, OutOfMemory> {
     match subject {
         "base" => base::answer(alloc, case),
-        "building" => building::answer(alloc, case),
         "config" => config::answer(alloc, case),
         "delay" => delay::answer(alloc, case),
         "devices" => steps::told(alloc, &mut Devices::new(alloc, 2), case),

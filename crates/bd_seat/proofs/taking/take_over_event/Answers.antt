@@ -2,7 +2,7 @@ use Rattle.std.proofs.Common.{ℕ, ◌+◌, [], ◌∷◌, ap, subst, sym, ◌�
 use Rattle.bd_base.specs.declared.act.Act.{Act}
 use Rattle.bd_registry.specs.State.{registered}
 use Rattle.bd_seat.specs.Taking.{restamped, TakesOver}
-use Rattle.bd_seat.proofs.SameAnswers.{answer_exact}
+use Rattle.bd_merged.proofs.Exact.{answer_exact}
 use Rattle.bd_seat.proofs.TakenOver.{takes_event}
 use Rattle.bd_seat.proofs.taking.take_over_event.Goals as goal
 
