@@ -1,9 +1,10 @@
 //! The top call.
-ghost use Rattle.std.specs.Prelude.{◌≡◌, ◌<◌, [], map, string_bytes, IfOk, IfErr, None, Err};
+ghost use Rattle.std.specs.Prelude.{◌≡◌, ◌<◌, ◌⊎◌, [], map, string_bytes, IfOk, IfErr, MatchResult, None, Err};
 ghost use Rattle.bd_machine.specs.Run.{IsCompleteRun};
 ghost use Rattle.bd_outside.specs.Sink.{StaysUntold};
 ghost use Rattle.bd_report.specs.Report.{report_of};
-ghost use Rattle.bd_top.specs.Run.{IsRun, Cause, AreInForm, NothingFails, WritesNothing};
+ghost use Rattle.bd_top.specs.declared.fault.Fault.{Fault as Refusal};
+ghost use Rattle.bd_top.specs.Run.{IsRun, Cause, AreInForm, IsWrong, NothingFails, WritesNothing};
 ghost use Rattle.bd_top.specs.Words.{arguments_of};
 
 use crate::fault::Fault;
@@ -49,6 +50,7 @@ fn play_and_report(alloc: Global, setup: &Setup, schedule: u64) -> Result<Played
 /// commands as they are read, as they are served and as they are done; the script's file, its grammar,
 /// and commands that aren't carried out; the output. `cause` says when each comes: a file's fault names
 /// the file that was due, and the script is due only once the configuration makes its devices.
+#[tactic(auto, using(crate::proofs::Wrong::only_this, crate::proofs::Wrong::not_played))]
 pub fn run<H: Host, K: Sink, C: Clock, G: Gate>(
     alloc: Global,
     words: &[String],
@@ -64,6 +66,9 @@ pub fn run<H: Host, K: Sink, C: Clock, G: Gate>(
     ensures complete { AreInForm (map string_bytes words.now) (H.state host.old)
         → NothingFails (H.state host.old) (H.state host.new) (K.state out.old) (K.state out.new)
         → IfErr result (λ fault. fault ≡ Fault.OutOfMemory) }
+    ensures refused { (fault : Refusal) → IsWrong (map string_bytes words.now) (H.state host.old) fault
+        → NothingFails (H.state host.old) (H.state host.new) (K.state out.old) (K.state out.new)
+        → MatchResult result (λ _ran. ⊥) (λ given. (given ≡ fault) ⊎ (given ≡ Fault.OutOfMemory)) }
     ensures nothing { IfErr result (WritesNothing (K.state out.old) (K.state out.new)) }
     ensures untold { StaysUntold (K.state out.old) (K.state out.new) }
 {
