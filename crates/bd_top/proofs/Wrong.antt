@@ -1,5 +1,7 @@
 -- Where one thing is wrong with two files and nothing fails, a run answers it unless it is out of memory.
 use Rattle.std.proofs.Common.{◌≡◌, ℕ, ◌+◌, ◌-◌, ◌≤◌, ◌<◌, Bool, true, false, ◌==◌, nat_le, not, ◌&&◌, ◌||◌, ◌⊎◌, inl, inr, List, [], ◌∷◌, ◌++◌, length, take, drop, None, Some, refl, sym, ◌∙◌, ap, subst, arith, string_bytes}
+use Rattle.std.specs.Prelude.{Result, Ok, Err, IfErr, MatchResult}
+use Rattle.std.specs.Result.{IsErr}
 use Rattle.std.specs.List.{list_all, list_any}
 use Rattle.std.proofs.lemmas.Bool.{and_parts}
 use Rattle.std.proofs.lemmas.Bool.Decides.{nat_tests}
@@ -26,6 +28,11 @@ use Rattle.bd_top.specs.Words.{Arguments, arguments_of}
 use Rattle.bd_top.proofs.ConfigureLemmas.{nothing_wrong}
 use Rattle.bd_top.proofs.InForm.{read_told, not_too_long, none_outside, script_inside, script_supported, text_is_no_memory, shape_is_no_memory, method_is_no_memory}
 use Rattle.bd_top.proofs.OneCause.{one_cause}
+
+-- an error, of which this is known
+pub of_error : {T E : Type 0} (Q : T → Type 0) (P : E → Type 0) (r : Result T E) → IsErr r → IfErr r P → MatchResult r Q P
+of_error Q P (Ok x) is h = absurd (cc)
+of_error Q P (Err e) is h = h
 
 -- ---- one line of a script
 
