@@ -1,3 +1,4 @@
 mod Left
 pub mod Completing
 mod Holding
+mod Spent

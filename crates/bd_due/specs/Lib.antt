@@ -3,3 +3,7 @@ pub mod Pieces
 pub mod Stopping
 pub mod Sending
 pub mod Duties
+pub mod Following
+pub mod Asking
+pub mod Resting
+pub mod Tickets

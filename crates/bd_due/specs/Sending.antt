@@ -1,5 +1,5 @@
 -- Where a walk goes next, and what is kept of a token on its way.
-use Rattle.std.specs.Prelude.{ℕ, cond, List, [], ◌∷◌, Option, Some, None, unwrap_or}
+use Rattle.std.specs.Prelude.{ℕ, cond, ◌&&◌, List, [], ◌∷◌, Option, Some, None, unwrap_or}
 use Rattle.std.specs.Option.{option_map}
 use Rattle.bd_base.specs.declared.act.Token.{Token}
 use Rattle.bd_base.specs.declared.act.Token.TheVariants as tokens
@@ -10,9 +10,11 @@ use Rattle.bd_machine.specs.declared.state.Kept.TheVariants as keeps
 use Rattle.bd_machine.specs.declared.state.News.{News}
 use Rattle.bd_machine.specs.declared.state.News.TheVariants as news
 use Rattle.bd_machine.specs.declared.state.OpenWalk.{OpenWalk}
-use Rattle.bd_machine.specs.Messages.{news_of, sent}
+use Rattle.bd_machine.specs.Guards.{is_built_token}
+use Rattle.bd_machine.specs.Messages.{brings, news_of, sent}
 use Rattle.bd_machine.specs.Threads.{first_of}
 use Rattle.bd_machine.specs.Walks.{is_at_end}
+use Rattle.bd_turns.specs.declared.queue.Message.{Message}
 
 -- ---- walks
 
@@ -45,3 +47,8 @@ token_of (news.Go req threads) = tokens.Go req threads
 abbrev pub first_due : List Due → Option (ℕ × Token)
 first_due [] = None
 first_due (d ∷ ds) = Some (d.receiver, token_of d.news)
+
+-- the first message, where it brings the token that it names, and that is one that threads take as yet
+abbrev pub first_brought : List Message → Option Message
+first_brought [] = None
+first_brought (m ∷ ms) = cond (is_built_token m.what && brings m.what (Some m.kept)) (Some m) None

@@ -2,6 +2,7 @@
 //! that of a limited device put, a base handle closed, a device removed that stands on one that is being
 //! removed, and the registry told of a device that was destructed.
 ghost use Rattle.std.specs.Prelude.{◌≡◌, find, IfOk};
+ghost use Rattle.std.specs.List.{list_any};
 ghost use Rattle.bd_machine.specs.BlockMap.{row_of};
 ghost use Rattle.bd_due.specs.Duties.{duty_owed, event_of, is_duty, removal_of};
 
@@ -20,6 +21,13 @@ fn first_duty(owed: &[Owed]) -> Option<Owed>
     ensures { result ≡ find is_duty owed.now }
 {
     owed.iter().copied().find(|o| is_duty(o))
+}
+
+/// Whether the thread owes something that an event does.
+pub fn has_duty(owed: &[Owed]) -> bool
+    ensures { result ≡ list_any is_duty owed.now }
+{
+    owed.iter().any(|o| is_duty(o))
 }
 
 /// The event that removes a device; none where the setup doesn't have it.

@@ -1,15 +1,24 @@
 //! What is due on a thread, over what it sees: how a request completes, which pieces are to be put and which
-//! no longer, where a walk goes next, and which event does what the thread owes.
+//! no longer, where a walk goes next, which event does what the thread owes, what has to follow an event, and
+//! what the thread has to ask the registry for.
 #![tactic(auto)]
 
+mod asking;
 mod completion;
 mod duties;
+mod following;
 mod pieces;
+mod resting;
 mod sending;
 mod stopping;
+mod tickets;
 
+pub use asking::{asks_registry, is_any_live};
 pub use completion::{Ending, drop_request, ending_of};
-pub use duties::{duty_owed, removal_of};
-pub use pieces::{hold_pieces, send_pieces};
-pub use sending::{copy_of, first_due, leave, send_off, send_on};
+pub use duties::{duty_owed, has_duty, removal_of};
+pub use following::{close_due, get_due};
+pub use pieces::{hold_pieces, piece_count, send_pieces};
+pub use resting::{are_done_with, is_done_with};
+pub use sending::{copy_of, first_due, leave, may_take, send_off, send_on};
 pub use stopping::{drop_unsent, stop_waiting};
+pub use tickets::{next_ticket, spend};

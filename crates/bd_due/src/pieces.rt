@@ -1,11 +1,11 @@
 //! The pieces of a request that was cut: held, and to be put.
-ghost use Rattle.std.specs.Prelude.{◌≡◌, ◌++◌, OnOk};
+ghost use Rattle.std.specs.Prelude.{◌≡◌, ◌++◌, length, IfOk, OnOk};
 ghost use Rattle.bd_machine.specs.Alone.{held_after};
 ghost use Rattle.bd_machine.specs.Requests.{pieces_made};
 ghost use Rattle.bd_links.specs.Tokens.{here_in};
 ghost use Rattle.bd_due.specs.Pieces.{pieces_to};
 
-use bd_base::{OutOfMemory, ReqId, Setup, Token};
+use bd_base::{OutOfMemory, ReqId, Rows, Setup, Token};
 use bd_blocks::new_piece;
 use bd_links::hold;
 use bd_machine::{Extent, Id, Kept, OpenRequest};
@@ -47,4 +47,14 @@ pub fn send_pieces(
         outbox.push_back((to, Token::Piece(req, k)))?;
     }
     Ok(())
+}
+
+/// How many pieces there are. More than 32 bits count answer out of memory.
+pub fn piece_count(found: &Rows<Extent>) -> Result<u32, OutOfMemory>
+    ensures { IfOk result (λ n. n ≡ length found.now) }
+{
+    match u32::try_from(found.len()) {
+        Ok(n) => Ok(n),
+        Err(_) => Err(OutOfMemory),
+    }
 }

@@ -1,13 +1,16 @@
-//! Where a walk goes next, and what leaves a thread with a token.
-ghost use Rattle.std.specs.Prelude.{◌≡◌, ◌++◌, true, is_some, IfOk, OnOk, Some, None};
+//! Where a walk goes next, what leaves a thread with a token, and whether a message may be taken.
+ghost use Rattle.std.specs.Prelude.{◌≡◌, ◌<◌, ◌++◌, true, is_some, length, IfOk, OnOk, Some, None};
+ghost use Rattle.bd_links.specs.Queues.{queues_of};
 ghost use Rattle.bd_links.specs.Tokens.{here_in, Sets};
-ghost use Rattle.bd_due.specs.Sending.{bound_for, first_due, goes_on, kept_on_way, token_of};
+ghost use Rattle.bd_due.specs.Sending.{bound_for, first_brought, first_due, goes_on, kept_on_way, token_of};
 
 use bd_base::{OutOfMemory, Token, WalkId};
 use bd_blocks::first_of;
 use bd_changes::{is_at_end, news_of, sent};
-use bd_links::{let_go, take_out};
+use bd_links::{Queue, let_go, take_out};
 use bd_machine::{Due, Id, Kept, News, OpenWalk};
+use bd_rules::brings;
+use bd_view::is_built_token;
 use std::collections::VecDeque;
 
 /// A walk is to be put to the least thread left, or back to the one that began it.
@@ -97,5 +100,19 @@ pub fn first_due(due: &[Due]) -> Result<Option<(u32, Token)>, OutOfMemory>
             Ok(Some((d.receiver, what)))
         }
         None => Ok(None),
+    }
+}
+
+/// Whether the first message to the thread brings the token that it names, and that is one that threads
+/// take.
+pub fn may_take(queues: &[Queue], me: usize) -> bool
+    requires { me < length queues.now }
+    ensures { result ≡ is_some (first_brought (queues_of queues.now me)) }
+{
+    match queues[me].first() {
+        Some(message) => {
+            is_built_token(&message.what) && brings(&message.what, Some(&message.kept))
+        }
+        None => false,
     }
 }

@@ -38,10 +38,12 @@ use Rattle.bd_blocks.specs.Digests.{digest_due}
 use Rattle.bd_thread.specs.Destructs.{may_device_go, DestructAdded, Destructs}
 use Rattle.bd_thread.specs.Duties.{duty_asked, Discharges, NoDuty}
 use Rattle.bd_thread.specs.Endings.{left_on, removal_due, ClosesLeft, RemovesLeft}
-use Rattle.bd_thread.specs.Lines.{claim_asked, close_asked, close_due, get_due, open_asked, outcome_now, remove_asked, AsksBy, Claims, Closes, ClosesBy, EndsBy, EndsLine, Follows, IsFollowed, Opens, OpensBy, Removes}
+use Rattle.bd_due.specs.Following.{close_due, get_due}
+use Rattle.bd_thread.specs.Lines.{claim_asked, close_asked, open_asked, outcome_now, remove_asked, AsksBy, Claims, Closes, ClosesBy, EndsBy, EndsLine, Follows, IsFollowed, Opens, OpensBy, Removes}
 use Rattle.bd_thread.specs.Moves.{Comes, CompletesOwn}
 use Rattle.bd_thread.specs.Seen.{view_of}
-use Rattle.bd_thread.specs.Sent.{first_brought, may_put, Puts, PutsBy, Takes, TakesBy}
+use Rattle.bd_due.specs.Sending.{first_brought}
+use Rattle.bd_thread.specs.Sent.{may_put, Puts, PutsBy, Takes, TakesBy}
 use Rattle.bd_thread.specs.Walking.{visit_due, StopsFor, Visits, VisitsBy}
 use Rattle.bd_thread.specs.Waits.{Idles, IsIdle, NoDestructOn, NoHandleOn, NoLine, NoMessage, NoRemovalOn, NoSubmission}
 use Rattle.bd_links.proofs.Longer.{length-longer}

@@ -16,3 +16,6 @@ pub mod Idle
 pub mod Waiting
 pub mod Walking
 pub mod Aborting
+pub mod Alone
+pub mod Wanted
+pub mod Working

@@ -49,7 +49,8 @@ use Rattle.bd_links.specs.Tokens.{here_in}
 use Rattle.bd_thread.specs.declared.links.Links.{Links}
 use Rattle.bd_thread.specs.declared.thread.Thread.{Thread}
 use Rattle.bd_thread.specs.Acted.{Acted}
-use Rattle.bd_thread.specs.Lines.{answered, asked_registry, change_by, claim_if_bound, claim_of, close_asked, close_due, close_of, get_due, handle_if_any, if_asked, if_closable, job_now, may_ask, may_ask_after, may_close, open_of, remove_of, AsksBy, IsAnswered, IsFollowed, OpensBy}
+use Rattle.bd_due.specs.Following.{close_due, get_due}
+use Rattle.bd_thread.specs.Lines.{answered, asked_registry, change_by, claim_if_bound, claim_of, close_asked, close_of, handle_if_any, if_asked, if_closable, job_now, may_ask, may_ask_after, may_close, open_of, remove_of, AsksBy, IsAnswered, IsFollowed, OpensBy}
 use Rattle.bd_thread.specs.Requests.{KeepsTickets}
 use Rattle.bd_thread.specs.Seen.{local, local_at, untaken, view_of}
 use Rattle.bd_links.proofs.Longer.{length-longer}

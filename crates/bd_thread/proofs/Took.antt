@@ -27,7 +27,7 @@ use Rattle.bd_turns.specs.declared.queue.Message.{Message}
 use Rattle.bd_turns.specs.Local.{first_of}
 use Rattle.bd_turns.proofs.Going.{first_comes}
 use Rattle.bd_thread.specs.Seen.{local_at, untaken}
-use Rattle.bd_thread.specs.Sent.{first_brought}
+use Rattle.bd_due.specs.Sending.{first_brought}
 use Rattle.bd_thread.proofs.Going.{Steps, steps, local_eq, still_shut}
 
 module _ (setup : Setup) (t : ℕ) (p : Part) (here : Id → Option Kept) (registry : Registry) (shut : Bool) (stamp : ℕ) (queues : ℕ → List Message) (m : Message) (number : ℕ) where

@@ -16,3 +16,4 @@ pub mod Starts
 pub mod Endings
 pub mod Resting
 pub mod Waits
+pub mod Work

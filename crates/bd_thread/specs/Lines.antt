@@ -1,5 +1,5 @@
 -- What a line asks of the registry, and what the answer leaves; what has to follow there at once; what a line's end changes, and when it comes.
-use Rattle.std.specs.Prelude.{◌≡◌, ℕ, Bool, true, false, cond, ◌&&◌, ◌==◌, List, [], ◌∷◌, ◌++◌, length, Option, Some, None}
+use Rattle.std.specs.Prelude.{◌≡◌, ℕ, Bool, true, false, cond, ◌&&◌, List, [], ◌∷◌, ◌++◌, length, Option, Some, None}
 use Rattle.bd_base.specs.declared.act.Act.TheVariants as acts
 use Rattle.bd_base.specs.declared.act.Outcome.{Outcome}
 use Rattle.bd_base.specs.declared.event.Answer.{Answer}
@@ -13,7 +13,7 @@ use Rattle.bd_base.specs.declared.job.Job.TheVariants as jobs
 use Rattle.bd_base.specs.declared.id.WalkId.{WalkId}
 use Rattle.bd_base.specs.declared.job.Line.{Line}
 use Rattle.bd_machine.specs.declared.state.Between.{Between}
-use Rattle.bd_machine.specs.declared.state.Between.TheVariants.{Opening, Closing}
+use Rattle.bd_machine.specs.declared.state.Between.TheVariants.{Closing}
 use Rattle.bd_machine.specs.declared.state.Handle.{Handle}
 use Rattle.bd_machine.specs.declared.state.OpenWalk.{OpenWalk}
 use Rattle.bd_machine.specs.declared.state.Part.{Part}
@@ -30,6 +30,7 @@ use Rattle.bd_changes.specs.Begun.{begun}
 use Rattle.bd_changes.specs.Lone.{lone}
 use Rattle.bd_registry.specs.State.{Registered, event_row}
 use Rattle.bd_view.specs.Came.{came_between, came_shut}
+use Rattle.bd_due.specs.Following.{close_due, get_due}
 use Rattle.bd_links.specs.Entries.{longer, next_stamp}
 use Rattle.bd_links.specs.Tokens.{here_in}
 use Rattle.bd_thread.specs.declared.links.Links.{Links}
@@ -150,16 +151,6 @@ pub record IsAnswered (event : RegEvent) (old : Thread) (before : Links) (new : 
   }
 
 -- ---- what has to follow at once
-
--- the channel that has to follow an open of this thread
-abbrev pub get_due : ℕ → Option Between → Option RegEvent
-get_due me (Some (Opening u dev)) = cond (u == me) (Some (events.GetChannel dev)) None
-get_due me _ = None
-
--- the close of this handle, where it has to follow a put of this thread
-abbrev pub close_due : HandleId → ℕ → Option Between → Option RegEvent
-close_due id me (Some (Closing u dev)) = cond (u == me) (Some (events.Close id)) None
-close_due id me _ = None
 
 -- where an event is due, the registry answered it; else nothing changes
 abbrev pub Follows : Thread → Links → Thread → Links → Option RegEvent → Type 0

@@ -1,5 +1,5 @@
 -- The outcome of a turn, and of steps of it.
-use Rattle.std.specs.Prelude.{◌≡◌, ℕ, ◌-◌, ◌<◌, ◌==◌, Bool, true, false, cond, List, [], ◌∷◌, ◌++◌, length, Option, Some, None, is_some}
+use Rattle.std.specs.Prelude.{◌≡◌, ℕ, ◌-◌, ◌==◌, Bool, true, false, cond, List, [], ◌∷◌, ◌++◌, length, Option, Some, None, is_some}
 use Rattle.bd_base.specs.declared.act.Act.TheVariants as acts
 use Rattle.bd_base.specs.declared.act.ApplyEnd.TheVariants as ends
 use Rattle.bd_base.specs.declared.act.Token.{Token}
@@ -9,7 +9,6 @@ use Rattle.bd_base.specs.declared.id.ReqId.{ReqId}
 use Rattle.bd_base.specs.declared.id.WalkId.{WalkId}
 use Rattle.bd_machine.specs.declared.state.Id.{Id}
 use Rattle.bd_machine.specs.declared.state.Id.TheVariants as ids
-use Rattle.bd_machine.specs.Asked.{no_request}
 use Rattle.bd_machine.specs.Messages.{count_at}
 use Rattle.bd_links.specs.Entries.{longer}
 use Rattle.bd_thread.specs.declared.links.Links.{Links}
@@ -28,12 +27,6 @@ turned_of before after = cond (before == after) Quiet (Moved (after - before))
 -- the answer tells how many acts were added
 abbrev pub AddsMore : Links → Links → Turned → Type 0
 AddsMore before after turned = turned ≡ turned_of (length before.entries) (length after.entries)
-
--- the ticket has the number that the thread gives next, which names a request
-pub record IsNextTicket (thread next : ℕ) (id : ReqId) : Type 0 where
-  pub own : id.thread ≡ thread
-  pub next_is : id.seq ≡ next
-  pub names : id.seq < no_request
 
 -- ---- a home serves a piece
 

@@ -1,16 +1,13 @@
 -- When a thread has nothing under way.
-use Rattle.std.specs.Prelude.{ℕ, Bool, true, not, ◌&&◌, ◌||◌, ◌==◌, ◌^◌, nat_lt, List, length, is_none}
-use Rattle.std.specs.List.{list_all, list_any, range_with_len}
+use Rattle.std.specs.Prelude.{Bool, true, ◌&&◌, ◌||◌, ◌==◌, ◌^◌, nat_lt, List, length, is_none}
+use Rattle.std.specs.List.{list_all, range_with_len}
 use Rattle.bd_base.specs.declared.act.Act.TheVariants as acts
-use Rattle.bd_base.specs.declared.id.DevId.{DevId}
 use Rattle.bd_base.specs.declared.id.HandleId.{HandleId}
-use Rattle.bd_base.specs.declared.setup.Setup.{Setup}
 use Rattle.bd_machine.specs.Asked.{is_script_blocked}
-use Rattle.bd_machine.specs.BlockMap.{home}
 use Rattle.bd_machine.specs.Registry.{handle_of}
-use Rattle.bd_machine.specs.Same.{same_dev}
-use Rattle.bd_machine.specs.Users.{dev_of, is_base_handle}
+use Rattle.bd_machine.specs.Users.{is_base_handle}
 use Rattle.bd_turns.specs.declared.queue.Message.{Message}
+use Rattle.bd_due.specs.Resting.{is_done_with}
 use Rattle.bd_links.specs.Entries.{longer}
 use Rattle.bd_thread.specs.declared.links.Links.{Links}
 use Rattle.bd_thread.specs.declared.thread.Thread.{Thread}
@@ -28,10 +25,6 @@ rests t links =
 -- its script is at its end, or the next line waits
 abbrev pub is_blocked : Thread → Links → Bool
 is_blocked t links = is_script_blocked t.setup.now t.me (view_of t links)
-
--- another thread is the device's home, or it was destructed
-abbrev pub is_done_with : Setup → ℕ → List DevId → ℕ → Bool
-is_done_with setup me destructed n = not (home setup (dev_of n) == me) || list_any (same_dev (dev_of n)) destructed
 
 -- the thread destructed each device whose home it is
 abbrev pub has_destructed_all : Thread → Bool

@@ -1,22 +1,18 @@
 -- What a thread takes from its queue and puts into others', and the entries that say so.
-use Rattle.std.specs.Prelude.{◌≡◌, ℕ, Bool, true, false, cond, ◌&&◌, nat_lt, vec_len, List, [], ◌∷◌, Option, Some, None}
+use Rattle.std.specs.Prelude.{◌≡◌, ℕ, Bool, true, false, ◌&&◌, nat_lt, vec_len, Option, Some, None}
 use Rattle.bd_base.specs.declared.act.Act.TheVariants as acts
 use Rattle.bd_base.specs.declared.act.Token.{Token}
 use Rattle.bd_machine.specs.declared.state.Id.{Id}
 use Rattle.bd_machine.specs.Guards.{is_built_token}
-use Rattle.bd_machine.specs.Messages.{brings, count_at, may_go}
+use Rattle.bd_machine.specs.Messages.{count_at, may_go}
 use Rattle.bd_turns.specs.declared.queue.Message.{Message}
 use Rattle.bd_turns.specs.Tied.{id_next}
+use Rattle.bd_due.specs.Sending.{first_brought}
 use Rattle.bd_links.specs.Entries.{longer}
 use Rattle.bd_links.specs.Queues.{queues_of}
 use Rattle.bd_thread.specs.declared.links.Links.{Links}
 use Rattle.bd_thread.specs.declared.thread.Thread.{Thread}
 use Rattle.bd_thread.specs.Seen.{local}
-
--- the first message, where it brings the token that it names, and that is one that threads take as yet
-abbrev pub first_brought : List Message → Option Message
-first_brought [] = None
-first_brought (m ∷ ms) = cond (is_built_token m.what && brings m.what (Some m.kept)) (Some m) None
 
 -- one Took of this message, whose token is given; without a message nothing changes
 abbrev pub TakesBy : Thread → Links → Thread → Links → Option Id → Option Message → Type 0

@@ -4,7 +4,6 @@ use Rattle.bd_base.specs.declared.act.Token.{Token}
 use Rattle.bd_base.specs.declared.id.DevId.{DevId}
 use Rattle.bd_base.specs.declared.job.Job.{Job}
 use Rattle.bd_base.specs.declared.job.Job.TheVariants as jobs
-use Rattle.bd_base.specs.declared.id.HandleId.{HandleId}
 use Rattle.bd_base.specs.declared.setup.Setup.{Setup}
 use Rattle.bd_blocks.specs.Digests.{digest_due}
 use Rattle.bd_machine.specs.declared.state.Due.{Due}
@@ -14,9 +13,9 @@ use Rattle.bd_machine.specs.BlockMap.{is_malloc}
 use Rattle.bd_machine.specs.Guards.{is_built_token}
 use Rattle.bd_machine.specs.Homes.{is_base}
 use Rattle.bd_machine.specs.Messages.{may_go}
-use Rattle.bd_machine.specs.Users.{is_base_handle}
 use Rattle.bd_machine.specs.View.{View}
-use Rattle.bd_due.specs.Sending.{token_of}
+use Rattle.bd_due.specs.Asking.{is_base_if_any}
+use Rattle.bd_due.specs.Sending.{first_brought, token_of}
 use Rattle.bd_links.specs.Queues.{is_full, queues_of}
 use Rattle.bd_thread.specs.declared.links.Links.{Links}
 use Rattle.bd_thread.specs.declared.thread.Thread.{Thread}
@@ -27,7 +26,6 @@ use Rattle.bd_thread.specs.Duties.{NoDuty}
 use Rattle.bd_thread.specs.Endings.{left_on, removal_due}
 use Rattle.bd_thread.specs.Lines.{claim_asked, close_asked, job_now, open_asked, outcome_now, remove_asked}
 use Rattle.bd_thread.specs.Seen.{local, view_of}
-use Rattle.bd_thread.specs.Sent.{first_brought}
 use Rattle.bd_thread.specs.Served.{next_due}
 
 -- ---- messages and pieces
@@ -71,10 +69,6 @@ pub record NoLine (t : Thread) (links : Links) : Type 0 where
   pub removing : remove_asked t links ≡ None
   pub submission : NoSubmission t links
   pub outcome : outcome_now t links ≡ None
-
-abbrev pub is_base_if_any : Setup → Option HandleId → Bool
-is_base_if_any setup None = false
-is_base_if_any setup (Some id) = is_base_handle setup id
 
 -- what no thread does yet: a reset or an abort; nor does a script close a base handle
 abbrev pub is_unbuilt : Setup → View → Job → Bool

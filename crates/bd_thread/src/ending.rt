@@ -5,6 +5,7 @@ ghost use Rattle.bd_thread.specs.Acted.{Acted};
 ghost use Rattle.bd_thread.specs.Endings.{is_left, left_on, owes_nothing, removal_left, ClosesLeft, RemovesLeft};
 ghost use Rattle.bd_thread.specs.Requests.{KeepsTickets};
 ghost use Rattle.bd_thread.specs.Waits.{Idles, NoDestruct, NoHandle, NoHandleOn, NoRemoval, NothingLeft, NothingOwn};
+ghost use Rattle.bd_thread.specs.Work.{AsksNothing};
 ghost use Rattle.bd_registry.specs.State.{rows_of};
 
 use crate::links::Links;
@@ -25,7 +26,7 @@ impl<'a> Thread<'a> {
     }
 
     // The first of the thread's handles on the device that it closes by itself.
-    fn left_on(&self, links: &Links, dev: DevId) -> Option<Handle>
+    pub(crate) fn left_on(&self, links: &Links, dev: DevId) -> Option<Handle>
         ensures { result ≡ left_on dev self.now links.now }
     {
         for h in self.handles_of(links, dev) {
@@ -83,12 +84,18 @@ impl<'a> Thread<'a> {
         Ok(())
     }
 
-    fn destruct_all(&mut self, links: &mut Links) -> Result<(), OutOfMemory>
+    // Destructs what the thread was told to.
+    #[tactic(auto, using(crate::proofs::Alone::alone_none))]
+    pub(crate) fn destruct_all(&mut self, links: &mut Links) -> Result<(), OutOfMemory>
         requires { self.old.me < vec_len links.old.queues }
         ensures acted { OnOk result (Acted self.old links.old self.new links.new) }
         ensures tickets { OnOk result (KeepsTickets self.old → KeepsTickets self.new) }
         ensures quiet { OnOk result (Idles NoDestruct self.old links.old self.new links.new) }
+        ensures alone { OnOk result (AsksNothing links.old links.new) }
     {
+        if self.owes_nothing() {
+            return Ok(());
+        }
         for place in 0..self.setup.devices.len() {
             let Ok(dev) = u32::try_from(place) else {
                 return Ok(());

@@ -15,6 +15,7 @@ mod thread;
 mod turn;
 mod view;
 mod walks;
+mod work;
 
 pub use links::Links;
 pub use requests::Refused;

@@ -8,8 +8,9 @@ ghost use Rattle.bd_machine.specs.Registry.{device_named};
 ghost use Rattle.bd_machine.specs.View.{View};
 ghost use Rattle.bd_registry.specs.State.{rows_of};
 ghost use Rattle.bd_view.specs.Came.{came_shut};
+ghost use Rattle.bd_due.specs.Following.{close_due};
 ghost use Rattle.bd_thread.specs.Acted.{Acted};
-ghost use Rattle.bd_thread.specs.Lines.{close_asked, close_due, get_due, made_by, may_ask, may_ask_after, may_close, Claims, Closes, EndsLine, Follows, IsAnswered, IsFollowed, Opens, Removes};
+ghost use Rattle.bd_thread.specs.Lines.{close_asked, made_by, may_ask, may_ask_after, may_close, Claims, Closes, EndsLine, Follows, IsAnswered, IsFollowed, Opens, Removes};
 ghost use Rattle.bd_thread.specs.Requests.{KeepsTickets};
 ghost use Rattle.bd_thread.specs.Seen.{view_of};
 ghost use Rattle.bd_base.specs.declared.event.RegEvent.TheVariants as events;
@@ -18,39 +19,14 @@ use crate::links::Links;
 use crate::thread::Thread;
 use bd_answers::made;
 use bd_asked::{asks_event, bound_to, next_line, outcome_of, undecided_job};
-use bd_base::{
-    Act, Answer, DevId, DevList, HandleId, Job, Name, OutOfMemory, RegEvent, Rows, WalkId,
-};
+use bd_base::{Act, Answer, DevId, DevList, Job, Name, OutOfMemory, RegEvent, Rows, WalkId};
 use bd_blocks::number_named;
 use bd_changes::{closed, decide, line_done};
+use bd_due::{close_due, get_due};
 use bd_events::{dropped, freed, got, put_down, removal_paid};
 use bd_links::next_stamp;
 use bd_machine::{Between, Handle, OpenWalk};
 use bd_view::{Records, Sees};
-
-// The channel that has to follow an open of this thread.
-fn get_due(me: u32, between: Option<Between>) -> Option<RegEvent>
-    ensures { result ≡ get_due me between }
-{
-    match between {
-        Some(Between::Opening { thread, dev }) if thread == me => {
-            Some(RegEvent::GetChannel { dev })
-        }
-        _ => None,
-    }
-}
-
-// The close of the handle, where it has to follow a put of this thread.
-fn close_due(handle: HandleId, me: u32, between: Option<Between>) -> Option<RegEvent>
-    ensures { result ≡ close_due handle me between }
-{
-    match between {
-        Some(Between::Closing { thread, dev: _ }) if thread == me => {
-            Some(RegEvent::Close { handle })
-        }
-        _ => None,
-    }
-}
 
 impl<'a> Thread<'a> {
     /// Ends the next line, where it goes on: true. Else, or after Shutdown, nothing changes. More

@@ -1,34 +1,19 @@
 //! Messages of a thread: those that it takes, and those that it puts.
-ghost use Rattle.std.specs.Prelude.{◌≡◌, ◌<◌, is_some, length, vec_len, IfOk, OnOk};
-ghost use Rattle.bd_links.specs.Queues.{queues_of};
+ghost use Rattle.std.specs.Prelude.{◌≡◌, ◌<◌, vec_len, IfOk, OnOk};
 ghost use Rattle.bd_thread.specs.Acted.{Acted};
 ghost use Rattle.bd_thread.specs.Requests.{KeepsTickets};
-ghost use Rattle.bd_thread.specs.Sent.{first_brought, may_put, KeepsRequests, Puts, Takes};
+ghost use Rattle.bd_thread.specs.Sent.{may_put, KeepsRequests, Puts, Takes};
 
 use crate::links::Links;
 use crate::thread::Thread;
 use bd_base::{Act, OutOfMemory, Token};
 use bd_changes::{arrived, took};
-use bd_due::{copy_of, leave};
-use bd_links::{Queue, hold_begun, land, pop, push};
+use bd_due::{copy_of, leave, may_take};
+use bd_links::{hold_begun, land, pop, push};
 use bd_machine::Id;
-use bd_rules::{brings, count_at, id_of, may_go};
+use bd_rules::{count_at, id_of, may_go};
 use bd_turns::Message;
 use bd_view::is_built_token;
-
-// Whether the first message to the thread brings the token that it names, and that is one that threads
-// take.
-fn may_take(queues: &[Queue], me: usize) -> bool
-    requires { me < length queues.now }
-    ensures { result ≡ is_some (first_brought (queues_of queues.now me)) }
-{
-    match queues[me].first() {
-        Some(message) => {
-            is_built_token(&message.what) && brings(&message.what, Some(&message.kept))
-        }
-        None => false,
-    }
-}
 
 impl<'a> Thread<'a> {
     /// Takes the first message, where it brings the token that it names, and that is one that threads

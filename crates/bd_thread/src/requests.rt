@@ -1,6 +1,5 @@
 //! A thread's own requests: submitted, cut and completed.
-ghost use Rattle.std.specs.Prelude.{◌≡◌, ◌<◌, length, vec_len, Some, None, IfOk, IfErr, IfSome, IfNone, OnOk, true, false};
-ghost use Rattle.bd_msg.specs.Purse.{without};
+ghost use Rattle.std.specs.Prelude.{◌≡◌, ◌<◌, length, vec_len, Some, None, IfOk, IfErr, OnOk, true, false};
 ghost use Rattle.bd_machine.specs.Asked.{is_handle_on};
 ghost use Rattle.bd_machine.specs.Kept.{request_here};
 ghost use Rattle.bd_machine.specs.Registry.{handle_of};
@@ -15,13 +14,13 @@ ghost use Rattle.bd_thread.specs.Seen.{number_of, view_of};
 use crate::links::Links;
 use crate::thread::Thread;
 use bd_asked::{MOST_REQUESTS, next_line};
-use bd_base::{Act, DevId, Errno, HandleId, OutOfMemory, ReqId, Rows, Status};
+use bd_base::{Act, DevId, Errno, HandleId, OutOfMemory, ReqId};
 use bd_blocks::{extents, home};
 use bd_changes::{accepted, completed};
-use bd_due::{Ending, drop_request, ending_of, hold_pieces, send_pieces};
+use bd_due::{Ending, drop_request, ending_of, hold_pieces, piece_count, send_pieces, spend};
 use bd_links::hold;
-use bd_machine::{Decided, Extent, Id, Kept, Open, OpenRequest};
-use bd_msg::{Purse, Ticket};
+use bd_machine::{Decided, Id, Kept, Open, OpenRequest};
+use bd_msg::Ticket;
 use bd_rules::{admit, new_request, uncut};
 use bd_view::Submission;
 
@@ -37,23 +36,6 @@ pub enum Refused {
     Full,
     /// Memory ran out, and the run halts: nothing is said of the thread from then on.
     OutOfMemory,
-}
-
-// How many pieces there are. More than 32 bits count answer out of memory.
-fn piece_count(found: &Rows<Extent>) -> Result<u32, OutOfMemory>
-    ensures { IfOk result (λ n. n ≡ length found.now) }
-{
-    match u32::try_from(found.len()) {
-        Ok(n) => Ok(n),
-        Err(_) => Err(OutOfMemory),
-    }
-}
-
-// The ticket of a request that completed is spent.
-fn spend(purse: &mut Purse, req: ReqId, status: Status)
-    ensures { purse.new.ids ≡ without req purse.old.ids }
-{
-    let _ = purse.finish(req, status);
 }
 
 impl<'a> Thread<'a> {

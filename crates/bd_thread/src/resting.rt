@@ -1,35 +1,15 @@
 //! When a thread has nothing under way.
-ghost use Rattle.std.specs.Prelude.{◌≡◌, ◌-◌};
-ghost use Rattle.std.specs.List.{list_all, list_any, range_with_len};
-ghost use Rattle.bd_machine.specs.Same.{same_dev};
-ghost use Rattle.bd_thread.specs.Resting.{has_destructed_all, is_blocked, is_done_with, is_settled, rests};
+ghost use Rattle.std.specs.Prelude.{◌≡◌};
+ghost use Rattle.std.specs.List.{list_all};
+ghost use Rattle.bd_thread.specs.Resting.{has_destructed_all, is_blocked, is_settled, rests};
 
 use crate::links::Links;
 use crate::thread::Thread;
 use bd_asked::is_script_blocked;
-use bd_base::{DevId, HandleId, Setup};
-use bd_blocks::{home, is_base_handle};
-use bd_rules::has_destructed;
+use bd_base::HandleId;
+use bd_blocks::is_base_handle;
+use bd_due::are_done_with;
 use bd_view::Sees;
-
-// Whether another thread is the device's home, or it was destructed.
-fn is_done_with(setup: &Setup, me: u32, destructed: &[DevId], n: u32) -> bool
-    ensures { result ≡ is_done_with setup.now me destructed.now n }
-{
-    home(setup, DevId(n)) != me || has_destructed(destructed, DevId(n))
-}
-
-#[tactic(auto, using(crate::proofs::Left::left_from))]
-fn are_done_with(setup: &Setup, me: u32, destructed: &[DevId], count: u32) -> bool
-    ensures { result ≡ list_all (is_done_with setup.now me destructed.now) (range_with_len 0 count) }
-{
-    for n in 0..count {
-        if !is_done_with(setup, me, destructed, n) {
-            return false;
-        }
-    }
-    true
-}
 
 impl<'a> Thread<'a> {
     // Whether the handle is a base handle, or isn't open on this thread.

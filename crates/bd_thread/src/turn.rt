@@ -1,27 +1,27 @@
 //! A thread's turn: messages, the work of its stores, the script, and what is still to be put.
-ghost use Rattle.std.specs.Prelude.{◌≡◌, ◌+◌, ◌<◌, ◌≤◌, Some, true, vec_len, IfOk, IfSome, OnOk};
+ghost use Rattle.std.specs.Prelude.{◌≡◌, ◌<◌, ◌≤◌, Some, true, vec_len, IfOk, OnOk};
 ghost use Rattle.bd_thread.specs.Acted.{Acted};
 ghost use Rattle.bd_thread.specs.Seen.{number_of, setup_of};
 ghost use Rattle.bd_thread.specs.Requests.{IsAsked, IsFresh, KeepsTickets};
-ghost use Rattle.bd_thread.specs.Moves.{turned_of, AddsMore, Comes, IsNextTicket, Receives, SendsFirst, Serves};
+ghost use Rattle.bd_thread.specs.Moves.{turned_of, AddsMore, Comes, Receives, SendsFirst, Serves};
 ghost use Rattle.bd_thread.specs.Waits.{may_send, Idles, IsFilled, NoLine, NoMessage, NoPiece, NoPieceOn, NoSubmission, NothingToPost, NothingToSend, Quiets};
+ghost use Rattle.bd_thread.specs.Work.{AsksNothing};
 ghost use Rattle.bd_registry.specs.State.{rows_of};
 
 use crate::links::Links;
 use crate::requests::Refused;
 use crate::thread::Thread;
 use bd_asked::{MOST_REQUESTS, bound_to, undecided_job};
-use bd_base::{DevId, Errno, HandleId, Job, OutOfMemory, ReqId, ThreadId, Token};
-use bd_due::first_due;
+use bd_base::{DevId, Errno, HandleId, Job, OutOfMemory, Token};
+use bd_due::{first_due, next_ticket};
 use bd_links::is_full;
 use bd_machine::Id;
-use bd_msg::{Mint, Ticket};
 use bd_rules::has_range;
 use bd_view::Submission;
 
 /// How many messages a turn takes, pieces of a store it serves, and lines it does, at most (SPDK's
 /// batch of messages).
-const BATCH: u32 = 8;
+pub(crate) const BATCH: u32 = 8;
 
 /// The outcome of a turn.
 #[derive(Clone, Copy, Debug, PartialEq, Eq)]
@@ -32,7 +32,8 @@ pub enum Turned {
     Quiet,
 }
 
-fn tell(before: usize, after: usize) -> Turned
+// What a turn answers, by the number of entries before it and after it.
+pub(crate) fn tell(before: usize, after: usize) -> Turned
     requires { before ≤ after }
     ensures { result ≡ turned_of before after }
 {
@@ -43,22 +44,9 @@ fn tell(before: usize, after: usize) -> Turned
     }
 }
 
-/// A ticket with the number that the thread gives next, while there are numbers.
-pub(crate) fn next_ticket(thread: u32, next: u64) -> Option<Ticket>
-    ensures { IfSome result (λ ticket. IsNextTicket thread next ticket) }
-{
-    if next >= 1 << 62 {
-        return None;
-    }
-    let mut mint = Mint::new(ThreadId(thread));
-    if next > 0 {
-        mint.meet(next - 1);
-    }
-    Some(mint.issue())
-}
-
 impl<'a> Thread<'a> {
     // Submits through a handle, and cuts what was accepted.
+    #[tactic(auto, using(crate::proofs::Alone::alone_none))]
     fn submit_through(
         &mut self,
         links: &mut Links,
@@ -70,6 +58,7 @@ impl<'a> Thread<'a> {
         ensures acted { OnOk result (Acted self.old links.old self.new links.new) }
         ensures tickets { OnOk result (KeepsTickets self.old → KeepsTickets self.new) }
         ensures quiet { OnOk result (Idles IsFilled self.old links.old self.new links.new) }
+        ensures alone { OnOk result (AsksNothing links.old links.new) }
     {
         let Some(ticket) = next_ticket(self.me, self.part.next_request) else {
             return Err(OutOfMemory);
@@ -91,11 +80,13 @@ impl<'a> Thread<'a> {
     }
 
     // Submits what the next line asks for, where it asks for that and there is room.
-    fn submit_line(&mut self, links: &mut Links) -> Result<bool, OutOfMemory>
+    #[tactic(auto, using(crate::proofs::Alone::alone_none))]
+    pub(crate) fn submit_line(&mut self, links: &mut Links) -> Result<bool, OutOfMemory>
         requires me { self.old.me < vec_len links.old.queues }
         ensures acted { OnOk result (Acted self.old links.old self.new links.new) }
         ensures tickets { OnOk result (KeepsTickets self.old → KeepsTickets self.new) }
         ensures quiet { OnOk result (Idles NoSubmission self.old links.old self.new links.new) }
+        ensures alone { OnOk result (AsksNothing links.old links.new) }
     {
         if links.shut || MOST_REQUESTS <= self.part.requests.len() {
             return Ok(false);
@@ -156,6 +147,7 @@ impl<'a> Thread<'a> {
         ensures tickets { OnOk result (KeepsTickets self.old → KeepsTickets self.new) }
         ensures quiet { OnOk result (Idles NoMessage self.old links.old self.new links.new) }
         ensures receives { IfOk result (Receives self.old links.old self.new links.new) }
+        ensures alone { OnOk result (AsksNothing links.old links.new) }
     {
         let Some(id) = self.take(links)? else {
             return Ok(false);
@@ -164,11 +156,12 @@ impl<'a> Thread<'a> {
         Ok(true)
     }
 
-    fn receive_all(&mut self, links: &mut Links) -> Result<(), OutOfMemory>
+    pub(crate) fn receive_all(&mut self, links: &mut Links) -> Result<(), OutOfMemory>
         requires { self.old.me < vec_len links.old.queues }
         ensures acted { OnOk result (Acted self.old links.old self.new links.new) }
         ensures tickets { OnOk result (KeepsTickets self.old → KeepsTickets self.new) }
         ensures quiet { OnOk result (Idles NoMessage self.old links.old self.new links.new) }
+        ensures alone { OnOk result (AsksNothing links.old links.new) }
     {
         for _round in 0..BATCH {
             if !self.receive(links)? {
@@ -179,12 +172,14 @@ impl<'a> Thread<'a> {
     }
 
     // Serves the first piece of a store, and asks for it to be sent back.
+    #[tactic(auto, using(crate::proofs::Alone::alone_none))]
     fn serve(&mut self, links: &mut Links, dev: DevId) -> Result<bool, OutOfMemory>
         requires { self.old.me < vec_len links.old.queues }
         ensures acted { OnOk result (Acted self.old links.old self.new links.new) }
         ensures tickets { OnOk result (KeepsTickets self.old → KeepsTickets self.new) }
         ensures quiet { OnOk result (Idles (NoPieceOn dev) self.old links.old self.new links.new) }
         ensures serves { IfOk result (Serves self.old links.old self.new links.new dev) }
+        ensures alone { OnOk result (AsksNothing links.old links.new) }
     {
         let Some(id) = self.apply(links, dev)? else {
             return Ok(false);
@@ -200,6 +195,7 @@ impl<'a> Thread<'a> {
         ensures acted { OnOk result (Acted self.old links.old self.new links.new) }
         ensures tickets { OnOk result (KeepsTickets self.old → KeepsTickets self.new) }
         ensures quiet { OnOk result (Idles (NoPieceOn dev) self.old links.old self.new links.new) }
+        ensures alone { OnOk result (AsksNothing links.old links.new) }
     {
         for _round in 0..BATCH {
             if !self.serve(links, dev)? {
@@ -209,11 +205,12 @@ impl<'a> Thread<'a> {
         Ok(())
     }
 
-    fn serve_all(&mut self, links: &mut Links) -> Result<(), OutOfMemory>
+    pub(crate) fn serve_all(&mut self, links: &mut Links) -> Result<(), OutOfMemory>
         requires { self.old.me < vec_len links.old.queues }
         ensures acted { OnOk result (Acted self.old links.old self.new links.new) }
         ensures tickets { OnOk result (KeepsTickets self.old → KeepsTickets self.new) }
         ensures quiet { OnOk result (Idles NoPiece self.old links.old self.new links.new) }
+        ensures alone { OnOk result (AsksNothing links.old links.new) }
     {
         for place in 0..self.setup.devices.len() {
             let Ok(dev) = u32::try_from(place) else {
@@ -269,12 +266,14 @@ impl<'a> Thread<'a> {
 
     // Puts the first of the outbox on its way, where it may go and there is room. Else it stays
     // there.
+    #[tactic(auto, using(crate::proofs::Alone::alone_none))]
     fn put_next(&mut self, links: &mut Links) -> Result<bool, OutOfMemory>
         requires { self.old.me < vec_len links.old.queues }
         ensures acted { OnOk result (Acted self.old links.old self.new links.new) }
         ensures tickets { OnOk result (KeepsTickets self.old → KeepsTickets self.new) }
         ensures quiet { OnOk result (Idles NothingToSend self.old links.old self.new links.new) }
         ensures sends { IfOk result (SendsFirst self.old links.old self.new links.new) }
+        ensures alone { OnOk result (AsksNothing links.old links.new) }
     {
         if !self.may_send(links) {
             return Ok(false);
@@ -287,11 +286,13 @@ impl<'a> Thread<'a> {
 
     // Puts the first message that is due on its way, where it is one that threads put, unless the queue
     // that it goes to is full.
+    #[tactic(auto, using(crate::proofs::Alone::alone_none))]
     fn put_due(&mut self, links: &mut Links) -> Result<bool, OutOfMemory>
         requires { self.old.me < vec_len links.old.queues }
         ensures acted { OnOk result (Acted self.old links.old self.new links.new) }
         ensures tickets { OnOk result (KeepsTickets self.old → KeepsTickets self.new) }
         ensures quiet { OnOk result (Idles NothingToPost self.old links.old self.new links.new) }
+        ensures alone { OnOk result (AsksNothing links.old links.new) }
     {
         let Some((to, what)) = first_due(self.part.due.as_slice())? else {
             return Ok(false);
@@ -302,11 +303,12 @@ impl<'a> Thread<'a> {
         self.put(links, to, what)
     }
 
-    fn put_outbox(&mut self, links: &mut Links) -> Result<(), OutOfMemory>
+    pub(crate) fn put_outbox(&mut self, links: &mut Links) -> Result<(), OutOfMemory>
         requires { self.old.me < vec_len links.old.queues }
         ensures acted { OnOk result (Acted self.old links.old self.new links.new) }
         ensures tickets { OnOk result (KeepsTickets self.old → KeepsTickets self.new) }
         ensures quiet { OnOk result (Idles NothingToSend self.old links.old self.new links.new) }
+        ensures alone { OnOk result (AsksNothing links.old links.new) }
     {
         for _round in 0..self.outbox.len() {
             if !self.put_next(links)? {
@@ -316,11 +318,12 @@ impl<'a> Thread<'a> {
         Ok(())
     }
 
-    fn put_all_due(&mut self, links: &mut Links) -> Result<(), OutOfMemory>
+    pub(crate) fn put_all_due(&mut self, links: &mut Links) -> Result<(), OutOfMemory>
         requires { self.old.me < vec_len links.old.queues }
         ensures acted { OnOk result (Acted self.old links.old self.new links.new) }
         ensures tickets { OnOk result (KeepsTickets self.old → KeepsTickets self.new) }
         ensures quiet { OnOk result (Idles NothingToPost self.old links.old self.new links.new) }
+        ensures alone { OnOk result (AsksNothing links.old links.new) }
     {
         for _round in 0..self.part.due.len() {
             if !self.put_due(links)? {

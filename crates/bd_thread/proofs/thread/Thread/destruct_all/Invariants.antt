@@ -1,6 +1,7 @@
 use Rattle.bd_thread.specs.Acted.{Acted}
 use Rattle.bd_thread.specs.Requests.{KeepsTickets}
 use Rattle.bd_thread.specs.Waits.{Idles, NoDestructBelow}
+use Rattle.bd_thread.specs.Work.{AsksNothing}
 use Rattle.bd_thread.proofs.thread.Thread.destruct_all.Given as goal
 
 abbrev pub invariant-loop-place : goal.invariant-loop-place
@@ -8,4 +9,5 @@ invariant-loop-place l = record {
   acted : Acted l.initial.self l.initial.links l.self l.links;
   tickets : KeepsTickets l.initial.self → KeepsTickets l.self;
   quiet : Idles (NoDestructBelow l.place) l.initial.self l.initial.links l.self l.links;
+  alone : AsksNothing l.initial.links l.links;
 }

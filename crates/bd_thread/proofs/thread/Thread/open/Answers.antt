@@ -4,7 +4,8 @@ use Rattle.bd_base.specs.declared.event.RegEvent.{RegEvent}
 use Rattle.bd_base.specs.declared.event.RegEvent.TheVariants as events
 use Rattle.bd_machine.specs.Asked.{undecided_job}
 use Rattle.bd_machine.specs.Guards.{is_built_event}
-use Rattle.bd_thread.specs.Lines.{get_due, job_now, may_ask, open_of, Follows}
+use Rattle.bd_due.specs.Following.{get_due}
+use Rattle.bd_thread.specs.Lines.{job_now, may_ask, open_of, Follows}
 use Rattle.bd_thread.proofs.Going.{acted_then}
 use Rattle.bd_thread.proofs.Registering.{get_asked, get_built, open_named, opened_by, unopened_by}
 use Rattle.bd_thread.proofs.thread.Thread.open.Goals as goal

@@ -2,6 +2,7 @@ use Rattle.std.proofs.Common.{◌<◌}
 use Rattle.bd_thread.specs.Acted.{Acted}
 use Rattle.bd_thread.specs.Requests.{KeepsTickets}
 use Rattle.bd_thread.specs.Waits.{Idles, NothingToPost}
+use Rattle.bd_thread.specs.Work.{AsksNothing}
 use Rattle.bd_thread.proofs.thread.Thread.put_all_due.Given as goal
 
 abbrev pub invariant-loop-round : goal.invariant-loop-round
@@ -9,4 +10,5 @@ invariant-loop-round l = record {
   acted : Acted l.initial.self l.initial.links l.self l.links;
   tickets : KeepsTickets l.initial.self → KeepsTickets l.self;
   quiet : Idles (λ t links. 0 < l._round → NothingToPost t links) l.initial.self l.initial.links l.self l.links;
+  alone : AsksNothing l.initial.links l.links;
 }

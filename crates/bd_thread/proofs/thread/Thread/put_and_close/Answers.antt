@@ -2,7 +2,8 @@ use Rattle.std.proofs.Common.{◌≡◌, true, Option, IfSome, sym, ◌∙◌, a
 use Rattle.std.proofs.lemmas.Result.{on_ok_weaker}
 use Rattle.bd_base.specs.declared.event.RegEvent.{RegEvent}
 use Rattle.bd_machine.specs.Guards.{is_built_event}
-use Rattle.bd_thread.specs.Lines.{close_due, may_ask, Follows}
+use Rattle.bd_due.specs.Following.{close_due}
+use Rattle.bd_thread.specs.Lines.{may_ask, Follows}
 use Rattle.bd_thread.proofs.Going.{acted_then}
 use Rattle.bd_thread.proofs.Registering.{close_built, close_follows}
 use Rattle.bd_thread.proofs.thread.Thread.put_and_close.Goals as goal

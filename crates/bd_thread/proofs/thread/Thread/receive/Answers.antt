@@ -1,5 +1,6 @@
 use Rattle.std.proofs.Common.{None, Some, refl, subst}
 use Rattle.bd_thread.specs.Sent.{Takes}
+use Rattle.bd_thread.proofs.Alone.{alone_then, comes_alone, takes_alone}
 use Rattle.bd_thread.proofs.Going.{acted_then}
 use Rattle.bd_thread.proofs.Idle.{comes_idle, idle_then, takes_idle}
 use Rattle.bd_thread.proofs.thread.Thread.receive.Goals as goal
@@ -12,6 +13,13 @@ returns-clause-quiet c =
     idle_then {Q = λ t links. Unit {0}} _ _ _ _ _ _ c.in_ok-id.ensures.acted c.in_ok-came.ensures.acted (λ none here. none)
     (takes_idle _ _ _ _ _ c.in_ok-id.ensures.takes)
     (comes_idle _ _ _ _ _ tt c.in_ok-came.ensures.came)
+
+pub returns-clause-alone : goal.returns-clause-alone
+returns-clause-alone c =
+    alone_then _ _ _ (takes_alone _ _ _ _ _ c.in_ok-id.ensures.keeps c.in_ok-id.ensures.takes) (comes_alone c.in-Some.id c.take.new.self c.take.new.links c.came.new.self c.came.new.links c.in_ok-came.ensures.came)
+
+pub returns-in_default-clause-alone : goal.returns-in_default-clause-alone
+returns-in_default-clause-alone c = takes_alone _ _ _ _ _ c.in_ok-id.ensures.keeps c.in_ok-id.ensures.takes
 
 pub returns-clause-receives : goal.returns-clause-receives
 returns-clause-receives c = record {

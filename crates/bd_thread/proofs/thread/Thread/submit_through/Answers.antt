@@ -2,8 +2,9 @@ use Rattle.std.proofs.Common.{ℕ, ◌≤◌, sym, ap, subst, le_refl}
 use Rattle.bd_base.specs.declared.id.ReqId.{ReqId}
 use Rattle.bd_thread.specs.declared.links.Links.{Links}
 use Rattle.bd_thread.specs.declared.thread.Thread.{Thread}
-use Rattle.bd_thread.specs.Moves.{IsNextTicket}
+use Rattle.bd_due.specs.Tickets.{IsNextTicket}
 use Rattle.bd_thread.specs.Requests.{IsFresh}
+use Rattle.bd_thread.proofs.Alone.{accepted_alone, alone_then, cuts_alone}
 use Rattle.bd_thread.proofs.Going.{acted_then}
 use Rattle.bd_thread.proofs.Idle.{more_then}
 use Rattle.bd_thread.proofs.thread.Thread.submit_through.Goals as goal
@@ -19,4 +20,5 @@ returns-in_ok-cut-in-Ok c = record {
   acted = acted_then _ _ _ _ _ _ c.in-Ok.ensures.acted c.in_ok-cut-in-Ok.ensures.acted;
   tickets = λ keeps. c.in_ok-cut-in-Ok.ensures.tickets (c.in-Ok.ensures.tickets keeps);
   quiet = λ few. absurd (more_then c.args.self.now.me c.args.links.now c.submit.new.links _ c.submit.new.self c.cut.new.self c.cut.new.links (ap (λ (l : Links). l.entries) c.in-Ok.ensures.accepted.1.opens.links) c.in_ok-cut-in-Ok.ensures.acted few);
+  alone = alone_then _ _ _ (accepted_alone _ _ _ _ _ _ _ c.in-Ok.ensures.accepted.1) (cuts_alone c.in-Ok.req c.submit.new.self c.submit.new.links c.cut.new.self c.cut.new.links c.in_ok-cut-in-Ok.field-0 c.in_ok-cut-in-Ok.ensures.cut);
 }

@@ -1,0 +1,29 @@
+//! Which devices a thread is done with: those whose home is another thread, and those that were destructed.
+ghost use Rattle.std.specs.Prelude.{◌≡◌, ◌-◌};
+ghost use Rattle.std.specs.List.{list_all, list_any, range_with_len};
+ghost use Rattle.bd_machine.specs.Same.{same_dev};
+ghost use Rattle.bd_due.specs.Resting.{is_done_with};
+
+use bd_base::{DevId, Setup};
+use bd_blocks::home;
+use bd_rules::has_destructed;
+
+/// Whether another thread is the device's home, or it was destructed.
+pub fn is_done_with(setup: &Setup, me: u32, destructed: &[DevId], n: u32) -> bool
+    ensures { result ≡ is_done_with setup.now me destructed.now n }
+{
+    home(setup, DevId(n)) != me || has_destructed(destructed, DevId(n))
+}
+
+/// Whether the thread is done with each device below this number.
+#[tactic(auto, using(crate::proofs::Left::left_from))]
+pub fn are_done_with(setup: &Setup, me: u32, destructed: &[DevId], count: u32) -> bool
+    ensures { result ≡ list_all (is_done_with setup.now me destructed.now) (range_with_len 0 count) }
+{
+    for n in 0..count {
+        if !is_done_with(setup, me, destructed, n) {
+            return false;
+        }
+    }
+    true
+}
