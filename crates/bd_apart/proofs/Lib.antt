@@ -1,0 +1,11 @@
+pub mod Lists
+pub mod Rows
+pub mod Arriving
+pub mod Acting
+pub mod Leaving
+pub mod Following
+pub mod Shutting
+pub mod Senders
+pub mod Delivered
+pub mod Journaled
+pub mod Ending
