@@ -136,7 +136,8 @@ fn count_sender(queue: &Queue, pass: &mut Pass<Letter, View>)
 // The pass of the next sender.
 fn next_sender(queue: &Queue, pass: &mut Pass<Letter, View>, number: u32) -> SendPass
     requires queue { IsPassOf queue.now pass.old }
-    requires receiver { ((known pass.old).receives ≡ true) × ((known pass.old).ended ≡ []) × ((known pass.old).made ≡ number) × (number < (known pass.old).senders) }
+    requires receiver { ((known pass.old).receives ≡ true) × ((known pass.old).ended ≡ [])
+        × ((known pass.old).made ≡ number) × (number < (known pass.old).senders) }
     ensures queue { IsPassOf queue.now pass.new }
     ensures receiver { known pass.new ≡ receiver (known pass.old).senders ((known pass.old).made + 1) (known pass.old).ended (known pass.old).taken }
     ensures sender { result ≡ record { ring = queue.now.table.shared.table_id; senders = (known pass.old).senders; number = number; put = [] } }

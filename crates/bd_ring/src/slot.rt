@@ -75,7 +75,8 @@ impl<R: Journaled> Model for SlotSettling<R> {
 // The pass of one more thread.
 fn next_pass<R: Journaled>(queue: &Queue<R>, pass: &mut Pass<R, SlotView>) -> SlotPass<R>
     requires queue { IsPassOf queue.now pass.old }
-    requires leads { ((known pass.old).leads ≡ true) × ((known pass.old).opened ≡ true) × ((known pass.old).holds ≡ false) × ((known pass.old).ended ≡ []) × ((known pass.old).viewed ≡ []) × (0 < (known pass.old).made) }
+    requires leads { ((known pass.old).leads ≡ true) × ((known pass.old).opened ≡ true) × ((known pass.old).holds ≡ false)
+        × ((known pass.old).ended ≡ []) × ((known pass.old).viewed ≡ []) × (0 < (known pass.old).made) }
     ensures queue { IsPassOf queue.now pass.new }
     ensures leads { known pass.new ≡ one_more (known pass.old) }
     ensures next { result ≡ holder queue.now.table.shared.table_id (known pass.old).start (known pass.old).made 0 }

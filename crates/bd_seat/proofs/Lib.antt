@@ -1,3 +1,4 @@
+mod Causes
 mod Fetching
 mod Flushing
 mod FlushingAll

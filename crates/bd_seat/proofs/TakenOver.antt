@@ -1,5 +1,5 @@
 -- What was taken over: nothing, an event, another act, and some and then some more.
-use Rattle.std.proofs.Common.{◌≡◌, ℕ, ◌+◌, ◌≤◌, Bool, false, cond, ◌||◌, List, [], ◌∷◌, ◌++◌, length, Option, Some, None, is_some, refl, sym, ◌∙◌, ap, ap₂, append_assoc, append-nil, length-append, arith}
+use Rattle.std.proofs.Common.{◌≡◌, ℕ, ◌+◌, ◌≤◌, Bool, true, false, cond, ◌||◌, List, [], ◌∷◌, ◌++◌, length, Option, Some, None, is_some, refl, sym, ◌∙◌, ap, ap₂, subst, append_assoc, append-nil, length-append, arith}
 use Rattle.std.proofs.lemmas.List.Elements.{filter-append}
 use Rattle.bd_base.specs.declared.act.Act.{Act}
 use Rattle.bd_base.specs.declared.act.Act.TheVariants as acts
@@ -13,9 +13,10 @@ use Rattle.bd_machine.specs.Registry.{Question}
 use Rattle.bd_machine.specs.Step.{is_shutdown}
 use Rattle.bd_machine.specs.View.{asked}
 use Rattle.bd_log.specs.Log.{Written, entry_of}
-use Rattle.bd_merged.specs.Journals.{events, is_event, registry_by, registry_next}
+use Rattle.bd_merged.specs.Journals.{events, is_event, registry_by, registry_next, IsReplay}
 use Rattle.bd_registry.specs.State.{Registered, registered}
-use Rattle.bd_seat.specs.Taking.{acts_of, is_event_act, restamped, Appends, AppendsAlone, TakesOver}
+use Rattle.bd_apart.specs.Course.{acts_of, restamped}
+use Rattle.bd_seat.specs.Taking.{is_event_act, Appends, AppendsAlone, TakesOver}
 
 pub appends_none : (log : Written) → Appends log [] log
 appends_none log = record { thread = refl; entries = sym (append-nil log.entries); last = omega arith }
@@ -86,13 +87,15 @@ none_asked None b h = refl
 none_asked (Some q) b h = cc
 
 pub takes_act : (log log' : Written) (r : Registered) (act : Act)
-    → is_event_act act ≡ false
+    → is_some (asked act) ≡ false
+    → is_shutdown act ≡ false
     → r.last ≤ log.last
     → log'.entries ≡ log.entries ++ entry_of log act ∷ []
     → log'.last ≡ log.last + 1
     → log'.thread ≡ log.thread
     → TakesOver log r (restamped log.thread log.last (act ∷ [])) log' r
-takes_act log log' r act is within entries last thread =
+takes_act log log' r act asks shuts within entries last thread =
+    let is : is_event_act act ≡ false = ap₂ (λ (a b : Bool). a || b) asks shuts in
     let alone : AppendsAlone log (restamped log.thread log.last (act ∷ [])) log' = alone_one log log' act is entries last thread in
     record {
       log_is = alone.log_is;
@@ -126,3 +129,21 @@ stamps_next log log' added e es whole thread last is =
     append_assoc added (restamped log.thread log.last (e.act ∷ [])) (restamped log'.thread log'.last (acts_of es))
     ∙ ap₂ (λ (t n : ℕ). added ++ (restamped log.thread log.last (e.act ∷ []) ++ restamped t n (acts_of es))) thread last
     ∙ is
+
+-- where none of the entries asks the registry, the first doesn't, and none of the others
+pub none_first : (e : Entry) (es : List Entry) → events (e ∷ es) ≡ [] → (is_event_act e.act ≡ false) × (events es ≡ [])
+none_first e es none = go (is_event_act e.act) refl none
+  where
+    go : (b : Bool) → is_event_act e.act ≡ b → cond b (e ∷ events es) (events es) ≡ [] → (is_event_act e.act ≡ false) × (events es ≡ [])
+    go true is h = absurd (let some : e ∷ events es ≡ [] = h in cc)
+    go false is h = (is, h)
+
+-- what the registry answers to the others, once the first was taken over
+pub replay_next : (log log' : Written) (r r' : Registered) (e : Entry) (es : List Entry)
+    → e.thread ≡ log.thread
+    → TakesOver log r (restamped log.thread log.last (e.act ∷ [])) log' r'
+    → IsReplay r.setup (registry_next r.setup r.state e) es
+    → IsReplay r'.setup r'.state es
+replay_next log log' r r' e es own took left =
+    subst (λ (s : Setup). IsReplay s r'.state es) (sym took.setup)
+    (subst (λ (q : Registry). IsReplay r.setup q es) (ap (λ (t : ℕ). registry_after r.setup r.state t (asked e.act)) own ∙ sym took.state) left)

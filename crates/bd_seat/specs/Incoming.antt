@@ -25,7 +25,8 @@ pub record IsMet (senders last : ℕ) (p : Post) : Type 0 where
   pub stamp : p.stamp ≤ last
 
 -- these posts were taken, in order; their messages are last in the thread's queue, the other queues stayed, and the log has met their stamps
-pub record Fetched (me : ℕ) (pass : Receiver) (log : Written) (queues : List (List Message)) (pass' : Receiver) (log' : Written) (queues' : List (List Message)) : Type 0 where
+pub record Fetched (me : ℕ) (pass : Receiver) (log : Written) (queues : List (List Message))
+    (pass' : Receiver) (log' : Written) (queues' : List (List Message)) : Type 0 where
   pub posts : List Post
   pub taken : pass' ≡ record pass { taken = pass.taken ++ posts }
   pub queued : queues_of queues' ≡ with_last me (messages_of posts) (queues_of queues)

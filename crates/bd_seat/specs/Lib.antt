@@ -1,3 +1,4 @@
+pub mod Causes
 pub mod Incoming
 pub mod Outgoing
 pub mod Taking

@@ -40,7 +40,11 @@ abbrev pub FlushedIf : Bool → ℕ → Sender → List Message → Sender → L
 FlushedIf true stamp pass queue pass' queue' = (pass' ≡ pass) × (queue' ≡ queue)
 FlushedIf false stamp pass queue pass' queue' = Flushed stamp pass queue pass' queue'
 
+-- so it is with the queue of this number
+abbrev pub FlushedAt : ℕ → ℕ → List Sender → List (List Message) → List Sender → List (List Message) → ℕ → Sender → Type 0
+FlushedAt me stamp sends queues sends' queues' k d =
+    FlushedIf (k == me) stamp (slice_index_or sends k d) (slice_index_or queues k []) (slice_index_or sends' k d) (slice_index_or queues' k [])
+
 -- so it is with each queue
 abbrev pub FlushedAll : ℕ → ℕ → List Sender → List (List Message) → List Sender → List (List Message) → Type 0
-FlushedAll me stamp sends queues sends' queues' =
-    (k : ℕ) (d : Sender) → k < length queues → FlushedIf (k == me) stamp (slice_index_or sends k d) (slice_index_or queues k []) (slice_index_or sends' k d) (slice_index_or queues' k [])
+FlushedAll me stamp sends queues sends' queues' = (k : ℕ) (d : Sender) → k < length queues → FlushedAt me stamp sends queues sends' queues' k d

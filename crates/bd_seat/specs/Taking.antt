@@ -1,5 +1,5 @@
 -- What a turn did, taken over into the thread's own log and into the registry that it was lent.
-use Rattle.std.specs.Prelude.{◌≡◌, ℕ, ◌+◌, ◌≤◌, Bool, ◌||◌, List, [], ◌∷◌, ◌++◌, length, map, is_some}
+use Rattle.std.specs.Prelude.{◌≡◌, ◌+◌, ◌≤◌, Bool, ◌||◌, List, [], ◌++◌, length, is_some}
 use Rattle.bd_base.specs.declared.act.Act.{Act}
 use Rattle.bd_base.specs.declared.act.Entry.{Entry}
 use Rattle.bd_machine.specs.Step.{is_shutdown}
@@ -11,17 +11,6 @@ use Rattle.bd_registry.specs.State.{Registered}
 -- the act asks the registry, or is the Shutdown
 abbrev pub is_event_act : Act → Bool
 is_event_act act = is_some (asked act) || is_shutdown act
-
-abbrev pub act_of : Entry → Act
-act_of e = e.act
-
-abbrev pub acts_of : List Entry → List Act
-acts_of entries = map act_of entries
-
--- the acts as entries of a thread, with the stamps after this one
-abbrev pub restamped : ℕ → ℕ → List Act → List Entry
-restamped thread last [] = []
-restamped thread last (act ∷ acts) = record { stamp = last + 1; thread = thread; act = act } ∷ restamped thread (last + 1) acts
 
 -- the log has these entries more
 pub record Appends (log : Written) (added : List Entry) (log' : Written) : Type 0 where

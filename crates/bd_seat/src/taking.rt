@@ -1,38 +1,41 @@
 //! What a turn did, taken over into the thread's own log and into the registry that it was lent.
-ghost use Rattle.std.specs.Prelude.{◌≡◌, ◌+◌, ◌≤◌, ◌∷◌, [], ◌++◌, IfSome, OnOk};
+ghost use Rattle.std.specs.Prelude.{◌≡◌, ◌+◌, ◌≤◌, ◌∷◌, [], ◌++◌, true, false, length, is_some, IfErr, OnOk};
+ghost use Rattle.std.specs.List.{AllByRecursion};
+ghost use Rattle.bd_apart.specs.Course.{acts_of, restamped};
 ghost use Rattle.bd_log.specs.Log.{entry_of};
-ghost use Rattle.bd_seat.specs.Taking.{acts_of, is_event_act, restamped, AppendsAlone, TakesOver};
+ghost use Rattle.bd_machine.specs.Step.{is_shutdown};
+ghost use Rattle.bd_machine.specs.View.{asked};
+ghost use Rattle.bd_merged.specs.Journals.{events, IsAnswered, IsReplay};
+ghost use Rattle.bd_seat.specs.Causes.{IsCause};
+ghost use Rattle.bd_seat.specs.Taking.{is_event_act, AppendsAlone, TakesOver};
 
-use bd_base::{Act, Entry, OutOfMemory, Rows};
-use bd_log::Log;
+use crate::seat_no::SeatNo;
+use bd_base::{Act, Entry, Rows};
+use bd_log::{Log, LogNo};
 use bd_registry::Registry;
-use bd_view::same_answer;
 use std::alloc::Global;
 use std::collections::VecDeque;
 
-// Whether the act asks the registry, or is the Shutdown.
-fn is_event_act(act: &Act) -> bool
-    ensures { result ≡ is_event_act act.now }
+// Whether the act asks the registry.
+fn asks(act: &Act) -> bool
+    ensures { result ≡ is_some (asked act.now) }
 {
-    matches!(act, Act::Reg { .. } | Act::Shutdown)
-}
-
-// The next stamp, while there is one.
-fn stamp_after(last: u128) -> Option<u128>
-    ensures { IfSome result (λ n. n ≡ last + 1) }
-{
-    last.checked_add(1)
+    matches!(act, Act::Reg { .. })
 }
 
 // Appends an act to the log, with the stamp after its last.
-fn push(log: &mut Log, act: Act) -> Result<(), OutOfMemory>
+#[tactic(auto, using(crate::proofs::Causes::not_spent))]
+fn push(log: &mut Log, act: Act) -> Result<(), SeatNo>
     ensures entries { OnOk result (log.new.entries ≡ log.old.entries ++ entry_of log.old act ∷ []) }
     ensures last { OnOk result (log.new.last ≡ log.old.last + 1) }
     ensures thread { log.new.thread ≡ log.old.thread }
+    ensures cause { IfErr result (λ no. IsCause no log.new.last) }
+    ensures stamps { log.new.last ≤ log.old.last + 1 }
 {
     match log.push(act) {
         Ok(_) => Ok(()),
-        Err(_) => Err(OutOfMemory),
+        Err(LogNo::OutOfMemory) => Err(SeatNo::OutOfMemory),
+        Err(LogNo::StampsSpent(_)) => Err(SeatNo::StampsSpent),
     }
 }
 
@@ -43,21 +46,23 @@ fn take_over_event(
     log: &mut Log,
     registry: &mut Registry,
     act: Act,
-) -> Result<(), OutOfMemory>
+) -> Result<(), SeatNo>
     requires me { me ≡ log.old.thread }
     requires last { registry.old.last ≤ log.old.last }
+    requires asks { is_some (asked act) ≡ true }
+    requires answered { IsAnswered registry.old.setup registry.old.state me (asked act) }
     ensures taken { OnOk result (TakesOver log.old registry.old (restamped log.old.thread log.old.last (act ∷ [])) log.new registry.new) }
+    ensures cause { IfErr result (λ no. IsCause no log.new.last) }
+    ensures stamps { log.new.last ≤ log.old.last + 1 }
 {
     let Act::Reg { event, answer } = act else {
-        return Err(OutOfMemory);
+        unreachable!()
     };
-    let Some(stamp) = stamp_after(log.last()) else {
-        return Err(OutOfMemory);
-    };
-    let given = registry.event(alloc, me, stamp, &event)?;
-    if !same_answer(&given, &answer) {
-        return Err(OutOfMemory);
+    let last = log.last();
+    if last == u128::MAX {
+        return Err(SeatNo::StampsSpent);
     }
+    let _given = registry.event(alloc, me, last + 1, &event)?;
     push(log, Act::Reg { event, answer })?;
     Ok(())
 }
@@ -70,12 +75,16 @@ fn take_over_one(
     log: &mut Log,
     registry: &mut Registry,
     act: Act,
-) -> Result<(), OutOfMemory>
+) -> Result<(), SeatNo>
     requires me { me ≡ log.old.thread }
     requires last { registry.old.last ≤ log.old.last }
+    requires no_shutdown { is_shutdown act ≡ false }
+    requires answered { IsAnswered registry.old.setup registry.old.state me (asked act) }
     ensures taken { OnOk result (TakesOver log.old registry.old (restamped log.old.thread log.old.last (act ∷ [])) log.new registry.new) }
+    ensures cause { IfErr result (λ no. IsCause no log.new.last) }
+    ensures stamps { log.new.last ≤ log.old.last + 1 }
 {
-    if is_event_act(&act) {
+    if asks(&act) {
         return take_over_event(alloc, me, log, registry, act);
     }
     push(log, act)?;
@@ -84,19 +93,24 @@ fn take_over_one(
 
 /// Takes over what a turn of the log's thread did: each act is appended to the log, with the next stamp,
 /// and the registry, which the thread was lent, answers each event among them, with the stamp that it has
-/// in the log. It answers out of memory also where the registry's answer isn't the one that the entry
-/// names, where an entry is a Shutdown, and where stamps run out; then a prefix may have been taken over,
-/// and the thread has to halt.
+/// in the log. The entries are this thread's, none is a Shutdown, and from what the registry is they name
+/// its answers; their own stamps don't matter. Where memory or stamps run out a prefix may have been taken
+/// over, and the thread has to halt.
 pub fn take_over(
     alloc: Global,
     me: u32,
     log: &mut Log,
     registry: &mut Registry,
     entries: Rows<Entry>,
-) -> Result<(), OutOfMemory>
+) -> Result<(), SeatNo>
     requires me { me ≡ log.old.thread }
     requires last { registry.old.last ≤ log.old.last }
+    requires threads { AllByRecursion (λ e. e.thread ≡ me) entries }
+    requires no_shutdown { AllByRecursion (λ e. is_shutdown e.act ≡ false) entries }
+    requires replay { IsReplay registry.old.setup registry.old.state entries }
     ensures taken { OnOk result (TakesOver log.old registry.old (restamped log.old.thread log.old.last (acts_of entries)) log.new registry.new) }
+    ensures cause { IfErr result (λ no. IsCause no log.new.last) }
+    ensures stamps { log.new.last ≤ log.old.last + length entries }
 {
     let mut left = VecDeque::from(entries.into_vec());
     while let Some(entry) = left.pop_front() {
@@ -107,21 +121,24 @@ pub fn take_over(
 
 // An act that isn't an event is appended to the log.
 #[tactic(auto, using(crate::proofs::TakenOver::alone_one))]
-fn append_alone(log: &mut Log, act: Act) -> Result<(), OutOfMemory>
+fn append_alone(log: &mut Log, act: Act) -> Result<(), SeatNo>
+    requires { is_event_act act ≡ false }
     ensures appended { OnOk result (AppendsAlone log.old (restamped log.old.thread log.old.last (act ∷ [])) log.new) }
+    ensures cause { IfErr result (λ no. IsCause no log.new.last) }
+    ensures stamps { log.new.last ≤ log.old.last + 1 }
 {
-    if is_event_act(&act) {
-        return Err(OutOfMemory);
-    }
     push(log, act)?;
     Ok(())
 }
 
 /// Takes over what a turn without the registry did: each act is appended to the log, with the next stamp.
-/// It answers out of memory also where an entry asks the registry or is a Shutdown, and where stamps run
-/// out; then a prefix may have been taken over, and the thread has to halt.
-pub fn append_all(log: &mut Log, entries: Rows<Entry>) -> Result<(), OutOfMemory>
+/// None of the entries asks the registry or is a Shutdown; their own stamps don't matter. Where memory or
+/// stamps run out a prefix may have been taken over, and the thread has to halt.
+pub fn append_all(log: &mut Log, entries: Rows<Entry>) -> Result<(), SeatNo>
+    requires none_asks { events entries ≡ [] }
     ensures appended { OnOk result (AppendsAlone log.old (restamped log.old.thread log.old.last (acts_of entries)) log.new) }
+    ensures cause { IfErr result (λ no. IsCause no log.new.last) }
+    ensures stamps { log.new.last ≤ log.old.last + length entries }
 {
     let mut left = VecDeque::from(entries.into_vec());
     while let Some(entry) = left.pop_front() {

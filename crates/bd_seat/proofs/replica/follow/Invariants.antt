@@ -1,4 +1,4 @@
-use Rattle.std.proofs.Common.{◌≡◌, drop}
+use Rattle.std.proofs.Common.{◌≡◌, ◌+◌, ◌≤◌, drop}
 use Rattle.bd_merged.specs.Journals.{registry_by, IsReplay}
 use Rattle.bd_seat.proofs.replica.follow.Given as goal
 
@@ -8,4 +8,5 @@ invariant-loop-row l = record {
   setup : l.replica.setup ≡ l.initial.replica.setup;
   replay : IsReplay l.initial.replica.setup l.replica.state (drop l.row-index l.rows);
   leaves : registry_by l.initial.replica.setup l.replica.state (drop l.row-index l.rows) ≡ registry_by l.initial.replica.setup l.initial.replica.state l.rows;
+  last : l.replica.last ≤ l.initial.replica.last + l.row-index;
 }
