@@ -1,0 +1,4 @@
+pub mod EndRows
+pub mod Exchanging
+pub mod Lists
+pub mod NewRows
