@@ -1,19 +1,21 @@
--- The words of a command line: run CONFIG JOBS, and after the files the options --threads N and --schedule N.
-use Rattle.std.specs.Prelude.{ℕ, Bool, false, not, ◌&&◌, ◌==◌, nat_le, List, [], ◌∷◌, codes, Option, None, Some, if◌then◌else◌}
+-- The words of a command line: run CONFIG JOBS, and after the files the options --threads N and one of --schedule N and --reactors N.
+use Rattle.std.specs.Prelude.{ℕ, Bool, false, not, ◌&&◌, ◌==◌, nat_le, List, [], ◌∷◌, codes, Option, None, Some, option_map, if◌then◌else◌}
 use Rattle.bd_base.specs.Name.{same_name}
 use Rattle.bd_jobs.specs.Words.{number_of}
+use Rattle.bd_node.specs.declared.run.Drive.{Drive}
+use Rattle.bd_node.specs.declared.run.Drive.TheVariants.{Schedule, Reactors}
 use Rattle.bd_top.specs.declared.words.Arguments as words
 
--- what a run is asked: its two files, how many threads play, and by which schedule
+-- what a run is asked: its two files, how many threads play, and who drives them
 pub record Arguments : Type 0 where
   pub config : List ℕ
   pub jobs : List ℕ
   pub threads : ℕ
-  pub schedule : ℕ
+  pub drive : Drive
 
 -- the arguments as the program holds them
 abbrev pub seen : words.Arguments → Arguments
-seen a = record { config = a.config.now; jobs = a.jobs.now; threads = a.threads; schedule = a.schedule }
+seen a = record { config = a.config.now; jobs = a.jobs.now; threads = a.threads; drive = a.drive }
 
 -- a file's name isn't empty, and doesn't begin with -
 abbrev pub is_file : List ℕ → Bool
@@ -24,21 +26,35 @@ is_file (b ∷ bs) = not (b == 45)
 abbrev pub is_thread_count : ℕ → Bool
 is_thread_count n = nat_le 1 n && nat_le n 16
 
-abbrev pub arguments_with : List ℕ → List ℕ → Option ℕ → Option ℕ → Option Arguments
-arguments_with config jobs (Some threads) (Some schedule) =
-    if is_thread_count threads then Some (record { config = config; jobs = jobs; threads = threads; schedule = schedule }) else None
+-- the least and the most reactors of a run
+abbrev pub is_reactor_count : ℕ → Bool
+is_reactor_count n = nat_le 1 n && nat_le n 8
+
+abbrev pub reactors_with : Option ℕ → Option Drive
+reactors_with (Some reactors) = if is_reactor_count reactors then Some (Reactors reactors) else None
+reactors_with None = None
+
+-- who drives the threads, by an option and its number: a schedule with this seed, or this number of reactors
+abbrev pub drive_of : List ℕ → List ℕ → Option Drive
+drive_of name value =
+    if same_name name (codes "--schedule") then option_map Schedule (number_of value)
+    else if same_name name (codes "--reactors") then reactors_with (number_of value)
+    else None
+
+abbrev pub arguments_with : List ℕ → List ℕ → Option ℕ → Option Drive → Option Arguments
+arguments_with config jobs (Some threads) (Some drive) =
+    if is_thread_count threads then Some (record { config = config; jobs = jobs; threads = threads; drive = drive }) else None
 arguments_with config jobs _ _ = None
 
--- the options after two files, in either order, each once at most: without them one thread plays by schedule 0
+-- the options after two files, --threads and one that says who drives, in either order, each once at most: without them one thread plays, and one reactor drives
 abbrev pub with_options : List ℕ → List ℕ → List (List ℕ) → Option Arguments
-with_options config jobs [] = arguments_with config jobs (Some 1) (Some 0)
+with_options config jobs [] = arguments_with config jobs (Some 1) (Some (Reactors 1))
 with_options config jobs (name ∷ value ∷ []) =
-    if same_name name (codes "--threads") then arguments_with config jobs (number_of value) (Some 0)
-    else if same_name name (codes "--schedule") then arguments_with config jobs (Some 1) (number_of value)
-    else None
+    if same_name name (codes "--threads") then arguments_with config jobs (number_of value) (Some (Reactors 1))
+    else arguments_with config jobs (Some 1) (drive_of name value)
 with_options config jobs (name ∷ value ∷ other ∷ more ∷ []) =
-    if same_name name (codes "--threads") && same_name other (codes "--schedule") then arguments_with config jobs (number_of value) (number_of more)
-    else if same_name name (codes "--schedule") && same_name other (codes "--threads") then arguments_with config jobs (number_of more) (number_of value)
+    if same_name name (codes "--threads") then arguments_with config jobs (number_of value) (drive_of other more)
+    else if same_name other (codes "--threads") then arguments_with config jobs (number_of more) (drive_of name value)
     else None
 with_options config jobs _ = None
 

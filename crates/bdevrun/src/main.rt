@@ -12,20 +12,23 @@ use std::env;
 use std::io::{self, ErrorKind};
 use std::process::ExitCode;
 use std::rt::Runtime;
+use std::sync::Wait;
+use std::thread::Threads;
 
 const VERSION: &str = "bdevrun 0.1.0";
 
 const HELP: &str = "\
 bdevrun: plays a job script over block devices and reports what they did
 
-usage: bdevrun run CONFIG JOBS [--threads N] [--schedule N]
+usage: bdevrun run CONFIG JOBS [--threads N] [--reactors N | --schedule N]
                            reads the configuration CONFIG (JSON) and the
                            script JOBS, and prints the report
        bdevrun --help      prints this
        bdevrun --version   prints the version
 
   --threads N    plays on N threads, 1 to 16 (1)
-  --schedule N   lets them take turns as the number N says, 0 to 2^64 - 1 (0)
+  --reactors N   drives them by N reactors beside each other, 1 to 8 (1)
+  --schedule N   lets them take turns as the number N says, 0 to 2^64 - 1
 
 A configuration, a script, a report and every fault are described in the file
 docs/FORMATS.md of the repository.";
@@ -53,16 +56,19 @@ fn print<R: Runtime>(rt: &R, text: &str) -> Result<u8, Fault> {
 }
 
 // Plays the script that the words name, with the files, the output and the clock of the system.
-fn play<R: Runtime + AllocGlobal>(rt: &R, words: &[String]) -> Result<u8, Fault> {
+fn play<R: Runtime + AllocGlobal + Threads + Wait + Sync>(
+    rt: &R,
+    words: &[String],
+) -> Result<u8, Fault> {
     let mut host = SystemHost::new(rt.alloc(), rt);
     let mut out = Output::new(io::writer(rt));
     let clock = SystemClock::new(rt);
-    let ran = run(rt.alloc(), words, &mut host, &mut out, &clock, &OpenGate)?;
+    let ran = run(rt, words, &mut host, &mut out, &clock, &OpenGate)?;
     Ok(ran.status)
 }
 
 // Does what the command line asks for, and gives the status to end with.
-fn serve<R: Runtime + AllocGlobal>(rt: &R) -> Result<u8, Fault> {
+fn serve<R: Runtime + AllocGlobal + Threads + Wait + Sync>(rt: &R) -> Result<u8, Fault> {
     let words = words(rt)?;
     match words.as_slice() {
         [word] if word.as_str() == "--help" => print(rt, HELP),

@@ -9,7 +9,9 @@ use bd_machine::guard::OUTCOME_DUE;
 use bd_outside::{MemHost, MemSink, OpenGate, StillClock};
 use bd_top::run;
 use std::alloc::Global;
+use std::sync::Wait;
 use std::test::Fail;
+use std::thread::Threads;
 
 const CONFIG: &str =
     "{\"subsystems\":[{\"subsystem\":\"bdev\",\"config\":[{\"method\":\"bdev_malloc_create\",\"params\":{\"name\":\"Malloc0\",\"num_blocks\":64,\"block_size\":512}}]}]}";
@@ -189,7 +191,12 @@ fn file(alloc: Global, name: &str, text: &str) -> Result<(Name, Bytes), Fail> {
 
 // The history of the run over CONFIG and a script with these options; empty where the run has a
 // fault.
-fn history(alloc: Global, script: &str, options: &[&str]) -> Result<Vec<Entry>, Fail> {
+fn history<R: AllocGlobal + Threads + Wait + Sync>(
+    rt: &R,
+    script: &str,
+    options: &[&str],
+) -> Result<Vec<Entry>, Fail> {
+    let alloc = rt.alloc();
     let mut files = Vec::new(alloc);
     files.push(file(alloc, "c", CONFIG)?)?;
     files.push(file(alloc, "j", script)?)?;
@@ -203,28 +210,29 @@ fn history(alloc: Global, script: &str, options: &[&str]) -> Result<Vec<Entry>, 
         words.push(String::from_str(alloc, word)?)?;
     }
     let clock = StillClock::new(0);
-    match run(
-        alloc,
-        words.as_slice(),
-        &mut host,
-        &mut out,
-        &clock,
-        &OpenGate,
-    ) {
+    match run(rt, words.as_slice(), &mut host, &mut out, &clock, &OpenGate) {
         Ok(ran) => Ok(ran.trace.into_rows().into_vec()),
         Err(_) => Ok(Vec::new(alloc)),
     }
 }
 
 // A script, its words by thread, and the options of the run.
-const COMPLETE: [(&str, &[&[Word]], &[&str]); 8] = [
+const COMPLETE: [(&str, &[&[Word]], &[&str]); 12] = [
     (FIRST, &[&FIRST_WORDS], &[]),
+    (FIRST, &[&FIRST_WORDS], &["--schedule", "0"]),
     (REFUSALS, &[&REFUSALS_WORDS], &[]),
     ("", &[&[]], &[]),
-    ("", &[&[], &[], &[]], &["--threads", "3"]),
+    ("", &[&[], &[], &[]], &["--threads", "3", "--reactors", "8"]),
     (BOTH, &BOTH_WORDS, &["--threads", "2"]),
+    (BOTH, &BOTH_WORDS, &["--reactors", "2", "--threads", "2"]),
+    (BOTH, &BOTH_WORDS, &["--threads", "2", "--schedule", "0"]),
     (BOTH, &BOTH_WORDS, &["--schedule", "7", "--threads", "2"]),
     (CLAIMS, &CLAIMS_WORDS, &["--threads", "2"]),
+    (
+        CLAIMS,
+        &CLAIMS_WORDS,
+        &["--threads", "2", "--reactors", "2"],
+    ),
     (
         CLAIMS,
         &CLAIMS_WORDS,
@@ -237,7 +245,7 @@ fn histories_of_runs_are_complete(rt: HostRuntime) -> Result<(), Fail> {
     let alloc = rt.alloc();
     for row in &COMPLETE {
         let (script, words, options) = *row;
-        let trace = history(alloc, script, options)?;
+        let trace = history(&rt, script, options)?;
         let setup = setup(alloc, words)?;
         let judged = judge(alloc, &setup, trace.as_slice());
         assert!(rt; judged == Ok(Verdict::Complete), "{script}: {judged:?}");
@@ -249,7 +257,7 @@ fn histories_of_runs_are_complete(rt: HostRuntime) -> Result<(), Fail> {
 #[test]
 fn without_its_end_a_run_is_unfinished(rt: HostRuntime) -> Result<(), Fail> {
     let alloc = rt.alloc();
-    let mut trace = history(alloc, FIRST, &[])?;
+    let mut trace = history(&rt, FIRST, &[])?;
     let last = trace.pop();
     let is_told = last.is_some_and(|entry| {
         matches!(
@@ -271,7 +279,7 @@ fn without_its_end_a_run_is_unfinished(rt: HostRuntime) -> Result<(), Fail> {
 #[test]
 fn without_a_completion_a_wait_is_not_due(rt: HostRuntime) -> Result<(), Fail> {
     let alloc = rt.alloc();
-    let mut trace = history(alloc, FIRST, &[])?;
+    let mut trace = history(&rt, FIRST, &[])?;
     let completed = trace
         .iter()
         .find(|entry| matches!(entry.act, Act::Complete { .. }))

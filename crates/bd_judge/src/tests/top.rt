@@ -5,7 +5,9 @@ use bd_base::{Bytes, Name};
 use bd_outside::{MemHost, MemSink, OpenGate, StillClock};
 use bd_top::{Fault, Ran, run};
 use std::alloc::Global;
+use std::sync::Wait;
 use std::test::Fail;
+use std::thread::Threads;
 
 const CONFIG: [&str; 1] = [
     "{\"subsystems\":[{\"subsystem\":\"bdev\",\"config\":[{\"method\":\"bdev_malloc_create\",\"params\":{\"name\":\"Malloc0\",\"num_blocks\":64,\"block_size\":512}}]}]}",
@@ -59,13 +61,14 @@ fn file(alloc: Global, name: &str, lines: &[&str]) -> Result<(Name, Bytes), Fail
 
 // Runs these words, after `run`, over the configuration `c` and a script `j`; `e` is a configuration
 // without devices, `n` a script without lines. The host's calls of these numbers fail.
-fn ran(
-    alloc: Global,
+fn ran<R: AllocGlobal + Threads + Wait + Sync>(
+    rt: &R,
     words: &[&str],
     script: &[&str],
     fails: &[u64],
     out: &mut MemSink,
 ) -> Result<Result<Ran, Fault>, Fail> {
+    let alloc = rt.alloc();
     let mut files = Vec::new(alloc);
     files.push(file(alloc, "c", &CONFIG)?)?;
     files.push(file(alloc, "j", script)?)?;
@@ -78,7 +81,7 @@ fn ran(
         list.push(String::from_str(alloc, word)?)?;
     }
     let clock = StillClock::new(0);
-    Ok(run(alloc, list.as_slice(), &mut host, out, &clock, &OpenGate))
+    Ok(run(rt, list.as_slice(), &mut host, out, &clock, &OpenGate))
 }
 
 // The outside's failures: the host's call that fails (0: none), the room of the output, the words
@@ -106,7 +109,7 @@ fn faults_of_the_outside(rt: HostRuntime) -> Result<(), Fail> {
     for row in &OUTSIDE {
         let (call, room, words, line, text) = *row;
         let mut out = MemSink::new(alloc, room)?;
-        let fault = match ran(alloc, &words, &SCRIPT, &[call], &mut out)? {
+        let fault = match ran(&rt, &words, &SCRIPT, &[call], &mut out)? {
             Ok(_) => String::new(alloc),
             Err(fault) => format!(in alloc; "{fault}, status {}", fault.status())?,
         };
@@ -125,7 +128,7 @@ fn first_path_or_out_of_memory(rt: HostRuntime) -> Result<(), Fail> {
     let alloc = rt.alloc();
     let report = text_of(alloc, &REPORT)?;
     let mut out = MemSink::new(alloc, 10_000)?;
-    match ran(alloc, &["c", "j"], &SCRIPT, &[], &mut out)? {
+    match ran(&rt, &["c", "j"], &SCRIPT, &[], &mut out)? {
         Ok(_) => assert!(rt; out.bytes() == report.as_bytes()),
         Err(fault) => {
             assert!(rt; matches!(fault, Fault::OutOfMemory));
@@ -154,7 +157,7 @@ fn a_schedule_says_who_begins(rt: HostRuntime) -> Result<(), Fail> {
     for (schedule, thread) in FIRST_THREADS {
         let words = ["c", "j", "--threads", "2", "--schedule", schedule];
         let mut out = MemSink::new(rt.alloc(), 10_000)?;
-        let first = match ran(rt.alloc(), &words, &TWO_OPENS, &[], &mut out)? {
+        let first = match ran(&rt, &words, &TWO_OPENS, &[], &mut out)? {
             Ok(ran) => ran.trace.entries().first().map(|entry| entry.thread),
             Err(_) => None,
         };

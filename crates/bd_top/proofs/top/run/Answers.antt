@@ -11,7 +11,7 @@ returns-in_err-setup-clause-complete g c form quiet = IfErr-weaker _ _ _ (only_m
 
 pub returns-in-Ok-write_all-clause-run : goal.returns-in-Ok-write_all-clause-run
 returns-in-Ok-write_all-clause-run g c =
-    let asked : Arguments = record { config = c.in-Some.asked.config.now; jobs = c.in-Some.asked.jobs.now; threads = c.in-Some.asked.threads; schedule = c.in-Some.asked.schedule } in
+    let asked : Arguments = record { config = c.in-Some.asked.config.now; jobs = c.in-Some.asked.jobs.now; threads = c.in-Some.asked.threads; drive = c.in-Some.asked.drive } in
     record {
       report = c.as_slice.result.now;
       played =
@@ -22,7 +22,7 @@ returns-in-Ok-write_all-clause-run g c =
 
 pub returns-clause-cause : goal.returns-clause-cause
 returns-clause-cause g c =
-    let asked : Arguments = record { config = c.in-Some.asked.config.now; jobs = c.in-Some.asked.jobs.now; threads = c.in-Some.asked.threads; schedule = c.in-Some.asked.schedule } in
+    let asked : Arguments = record { config = c.in-Some.asked.config.now; jobs = c.in-Some.asked.jobs.now; threads = c.in-Some.asked.threads; drive = c.in-Some.asked.drive } in
     record {
       trace = c.in-Ok.field-0.trace;
       report = c.as_slice.result.now;
@@ -41,7 +41,7 @@ returns-in_err-setup-clause-refused g c fault wrong quiet =
 
 pub returns-in-Ok-write_all-clause-refused : goal.returns-in-Ok-write_all-clause-refused
 returns-in-Ok-write_all-clause-refused g c fault wrong quiet =
-    let asked : Arguments = record { config = c.in-Some.asked.config.now; jobs = c.in-Some.asked.jobs.now; threads = c.in-Some.asked.threads; schedule = c.in-Some.asked.schedule } in
+    let asked : Arguments = record { config = c.in-Some.asked.config.now; jobs = c.in-Some.asked.jobs.now; threads = c.in-Some.asked.threads; drive = c.in-Some.asked.drive } in
     not_played (map string_bytes c.args.words.now) (g.H.Host.state c.args.host.now) fault wrong (g.H.Host.state c.read_setup.new.host) (g.K.Sink.state c.args.out.now) (g.K.Sink.state c.write_all.new.out) quiet
     c.in-Ok.field-0.trace c.as_slice.result.now
     (played (map string_bytes c.args.words.now) (g.H.Host.state c.args.host.now).told asked c.in_ok-setup.setup c.in-Ok.field-0.trace c.as_slice.result.now

@@ -1,0 +1,131 @@
+-- A worker works, without the registry and with it: the seat goes on.
+use Rattle.std.proofs.Common.{◌≡◌, ℕ, ◌==◌, Bool, cond, List, [], ◌∷◌, ◌++◌, All, drop, length, refl, sym, ◌∙◌, ap, ap₂, subst, eq-eqb}
+use Rattle.std.proofs.lemmas.List.Elements.{filter-append, All-head, All-tail}
+use Rattle.bd_base.specs.declared.act.Entry.{Entry}
+use Rattle.bd_base.specs.declared.setup.Setup.{Setup}
+use Rattle.bd_log.specs.Merge.{entries_of}
+use Rattle.bd_registry.specs.State.{Registered, start_of}
+use Rattle.bd_ring.specs.SlotRule.{StartsWith, rows_of}
+use Rattle.bd_ring.specs.Slots.{Holder, after_give, after_take, IsTakenBy}
+use Rattle.bd_apart.specs.Course.{Course, Phase}
+use Rattle.bd_turns.specs.declared.queue.Post.{Post}
+use Rattle.bd_wires.specs.declared.wires.Wires.{Wires}
+use Rattle.bd_node.specs.declared.seat.Seat.{Seat}
+use Rattle.bd_node.specs.declared.worker.Worker.{Worker}
+use Rattle.bd_node.specs.Seats.{Continues, GoesAlone, GoesWith, IsLent, IsLentTo, IsSeat, IsSitting, IsWorking, Sits, WentAlone, WentWith}
+
+-- ---- without the registry
+
+abbrev with_worker : Seat → Worker → Seat
+with_worker s worker = record s { worker = worker }
+
+pub alone : (w : Wires) (s : Seat) (worker : Worker) → GoesAlone s.worker worker → Continues w s (with_worker s worker)
+alone w s worker g = record {
+  flag = g.0;
+  halted = refl;
+  sits = λ setup t p h. on setup t p h.course h.seat;
+}
+  where
+    on : (setup : Setup) (t : ℕ) (p : Phase) (c : Course) → IsSeat setup t p c w s → Sits setup t p w (with_worker s worker)
+    on setup t p c q =
+        let went : WentAlone setup t p c worker = g.1 setup t p c q.worker in
+        record {
+          course = went.course;
+          seat = record {
+            worker = went.at;
+            linked = q.linked;
+            start = q.start;
+            taken = q.taken ∙ sym went.posts.taken;
+            sent = λ r. q.sent r ∙ ap (λ (f : ℕ → List Post). f r) (sym went.posts.sent);
+            seen = q.seen ∙ sym went.seen;
+            wrote = q.wrote ∙ ap (entries_of t) (sym went.seen);
+            count = q.count ∙ ap (λ (es : List Entry). length es) (sym went.seen);
+          };
+        }
+
+-- who sits works
+pub works : (w : Wires) (s : Seat) → IsSitting w s → IsWorking s.worker
+works w s h = record { setup = h.setup; t = h.t; p = h.p; c = h.sits.course; at = h.sits.seat.worker }
+
+-- ---- with it
+
+-- what the slot gave was lent as the worker wants it
+pub lent_is : (setup : Setup) (t : ℕ) (p : Phase) (c : Course) (w : Wires) (s : Seat) (lent : Registered) (pass : Holder)
+    → IsSeat setup t p c w s → IsTakenBy s.passes.slot lent.journal (start_of lent.setup) pass → IsLent setup t c s.seen lent
+lent_is setup t p c w s lent pass q took = record {
+  start = took.3 ∙ q.start;
+  begins = subst (λ (es : List Entry). StartsWith lent.journal es) q.seen took.1;
+  own = ap (λ (n : ℕ). rows_of n lent.journal) (sym q.linked.thread) ∙ took.2 ∙ q.wrote;
+  count = q.count;
+}
+
+pub lent_to : (w : Wires) (s : Seat) (lent : Registered) (pass : Holder) → IsSitting w s → IsTakenBy s.passes.slot lent.journal (start_of lent.setup) pass → IsLentTo s.worker s.seen lent
+lent_to w s lent pass h took = record {
+  setup = h.setup;
+  t = h.t;
+  p = h.p;
+  c = h.sits.course;
+  at = h.sits.seat.worker;
+  lent_is = lent_is h.setup h.t h.p h.sits.course w s lent pass h.sits.seat took;
+}
+
+-- what comes after the first rows
+rest_after : (xs ys : List Entry) → drop (length xs) (xs ++ ys) ≡ ys
+rest_after [] ys = refl
+rest_after (x ∷ xs) ys = rest_after xs ys
+
+-- rows of one thread alone are its rows
+pub own_rows : (t : ℕ) (xs : List Entry) → All (λ r. r.thread ≡ t) xs → rows_of t xs ≡ xs
+own_rows t [] all = refl
+own_rows t (x ∷ xs) all =
+    ap₂ (λ (b : Bool) (es : List Entry). cond b (x ∷ es) es) (eq-eqb x.thread t (All-head (λ (r : Entry). r.thread ≡ t) x xs all)) (own_rows t xs (All-tail (λ (r : Entry). r.thread ≡ t) x xs all))
+
+module _ (w : Wires) (s : Seat) (worker : Worker) (lent lent' : Registered) (pass : Holder) (took : IsTakenBy s.passes.slot lent.journal (start_of lent.setup) pass)
+    (g : GoesWith s.seen s.worker lent worker lent') where
+  -- the pass once the registry is back in its slot
+  abbrev given : Holder
+  given = after_give pass lent'.journal
+
+  abbrev new : Seat
+  new = record s { worker = worker; passes = record s.passes { slot = given }; seen = length lent'.journal }
+
+  on : (setup : Setup) (t : ℕ) (p : Phase) (c : Course) → IsSeat setup t p c w s → Sits setup t p w new
+  on setup t p c q =
+      let lends : IsLent setup t c s.seen lent = lent_is setup t p c w s lent pass q took in
+      let went : WentWith setup t p c lent worker lent' = g.1 setup t p c q.worker lends in
+      let added : List Entry = went.adds.0 in
+      let journal : lent'.journal ≡ lent.journal ++ added = went.adds.1 in
+      let taken-is : pass ≡ after_take s.passes.slot lent.journal = took.0 in
+      let wrote : given.wrote ≡ s.passes.slot.wrote ++ added =
+      ap (λ (h : Holder). h.wrote ++ drop (length h.seen) lent'.journal) taken-is
+      ∙ ap (λ (es : List Entry). s.passes.slot.wrote ++ es) (ap (drop (length lent.journal)) journal ∙ rest_after lent.journal added) in
+      let rows : entries_of t lent'.journal ≡ s.passes.slot.wrote ++ added =
+      ap (entries_of t) journal ∙ filter-append (λ x. x.thread == t) lent.journal added
+      ∙ ap₂ (λ (xs ys : List Entry). xs ++ ys) (lends.own ∙ sym q.wrote) (own_rows t added went.adds.2) in
+      record {
+        course = went.course;
+        seat = record {
+          worker = went.at;
+          linked = record {
+            rings = q.linked.rings;
+            takes = q.linked.takes;
+            senders = q.linked.senders;
+            sends = q.linked.sends;
+            sends_to = q.linked.sends_to;
+            numbers = q.linked.numbers;
+            slot = ap (λ (h : Holder). h.slot) taken-is ∙ q.linked.slot;
+            thread = ap (λ (h : Holder). h.thread) taken-is ∙ q.linked.thread;
+            passes = λ e. ap (λ (h : Holder). h.passes) taken-is ∙ q.linked.passes e;
+            free = refl;
+          };
+          start = ap (λ (h : Holder). h.start) taken-is ∙ q.start;
+          taken = q.taken ∙ sym went.posts.taken;
+          sent = λ r. q.sent r ∙ ap (λ (f : ℕ → List Post). f r) (sym went.posts.sent);
+          seen = sym went.seen;
+          wrote = wrote ∙ sym rows ∙ ap (entries_of t) (sym went.seen);
+          count = ap (λ (es : List Entry). length es) (sym went.seen);
+        };
+      }
+
+  pub borrowed_continues : Continues w s new
+  borrowed_continues = record { flag = g.0; halted = refl; sits = λ setup t p h. on setup t p h.course h.seat }

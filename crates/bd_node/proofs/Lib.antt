@@ -1,0 +1,13 @@
+pub mod Places
+pub mod Workers
+pub mod Seats
+pub mod Departing
+pub mod Borrowing
+pub mod Resting
+pub mod Settling
+pub mod Lent
+pub mod Rounds
+pub mod Starts
+pub mod Shut
+pub mod Marks
+pub mod Advancing

@@ -1,0 +1,60 @@
+-- After a turn of a seat, and after a round of all: the seats are where they have to be.
+use Rattle.std.proofs.Common.{◌≡◌, ℕ, ◌<◌, Bool, true, List, length, set, Option, Some, None, is_none, ◌⊎◌, inl, inr, refl, sym, ◌∙◌, ap, subst}
+use Rattle.std.specs.List.{All, list_all, slice_get}
+use Rattle.std.specs.Prelude.{slice_index_or}
+use Rattle.std.proofs.lemmas.Bool.{cases_eq}
+use Rattle.std.proofs.lemmas.List.{length-set}
+use Rattle.std.proofs.lemmas.Option.{get_or_from_slice_get, same_Some, slice_get-get_or, slice_get_within}
+use Rattle.bd_base.specs.declared.setup.Setup.{Setup}
+use Rattle.bd_seat.specs.declared.seat_no.SeatNo.{SeatNo}
+use Rattle.bd_apart.specs.Course.{Phase}
+use Rattle.bd_wires.specs.declared.wires.Wires.{Wires}
+use Rattle.bd_node.specs.declared.seat.Seat.{Seat}
+use Rattle.bd_node.specs.Seats.{AllWentOn, Continues, IsSitting}
+use Rattle.bd_node.specs.Whole.{seat_goes, AreSeated, IsIn}
+use Rattle.bd_node.proofs.Places.{all_at, has_at, set_else, set_here}
+
+no_halt : (o : Option SeatNo) → is_none o ≡ true → o ≡ None
+no_halt None h = refl
+no_halt (Some x) h = cc
+
+module _ (setup : Setup) (w : Wires) (seats : List Seat) (shut : Bool) (phases : ℕ → Phase) (a : AreSeated setup w seats shut phases) where
+  -- each seat sits
+  pub all_sit : All (IsSitting w) seats
+  all_sit k d lt = record { setup = setup; t = k; p = phases k; sits = (a.each k (slice_index_or seats k d) (slice_get-get_or seats k d lt)).sits }
+
+  pub one_sits : (i : ℕ) (s : Seat) → slice_get seats i ≡ Some s → IsSitting w s
+  one_sits i s at = record { setup = setup; t = i; p = phases i; sits = (a.each i s at).sits }
+
+  went : (i : ℕ) (s s' : Seat) → slice_get seats i ≡ Some s → Continues w s s' → s'.halted ≡ None → IsIn setup w shut phases i s'
+  went i s s' at on goes = record { sits = on.sits setup i (phases i) (a.each i s at).sits; flag = on.flag ∙ (a.each i s at).flag; goes = goes }
+
+  -- one seat had a turn
+  pub one_turned : (i : ℕ) (s s' : Seat) → slice_get seats i ≡ Some s → Continues w s s' → AreSeated setup w (set seats i s') shut phases
+  one_turned i s s' at on = record { some = a.some; len = length-set seats i s' ∙ a.len; each = each }
+    where
+      here : IsIn setup w shut phases i s'
+      here = went i s s' at on (on.halted ∙ (a.each i s at).goes)
+
+      each : (j : ℕ) (x : Seat) → slice_get (set seats i s') j ≡ Some x → IsIn setup w shut phases j x
+      each j x h = go (cases_eq i j)
+        where
+          go : (i ≡ j) ⊎ (i ≡ j → ⊥) → IsIn setup w shut phases j x
+          go (inl same) =
+              let e : s' ≡ x = same_Some s' x (sym (set_here seats i s' (slice_get_within seats i s at)) ∙ ap (slice_get (set seats i s')) same ∙ h) in
+              subst (λ (k : ℕ). IsIn setup w shut phases k x) same (subst (λ (y : Seat). IsIn setup w shut phases i y) e here)
+          go (inr ne) = a.each j x (sym (set_else seats i j s' ne) ∙ h)
+
+  -- all had their turns, and none has to halt
+  pub all_turned : (seats' : List Seat) → length seats' ≡ length seats → AllWentOn w seats seats' → list_all seat_goes seats' ≡ true → AreSeated setup w seats' shut phases
+  all_turned seats' len on go = record {
+    some = a.some;
+    len = len ∙ a.len;
+    each = λ i x h.
+        let within : i < length seats = subst (λ (n : ℕ). i < n) len (slice_get_within seats' i x h) in
+        let old = has_at seats i within in
+        let goes : x.halted ≡ None = no_halt x.halted (all_at seat_goes seats' i x go h) in
+        let old-is : slice_index_or seats i x ≡ old.0 = get_or_from_slice_get seats i old.0 x old.1 in
+        let new-is : slice_index_or seats' i x ≡ x = get_or_from_slice_get seats' i x x h in
+        went i old.0 x old.1 (subst (λ (y : Seat). Continues w old.0 y) new-is (subst (λ (y : Seat). Continues w y (slice_index_or seats' i x)) old-is (on i x within (ap (λ (y : Seat). y.halted) new-is ∙ goes)))) goes;
+  }

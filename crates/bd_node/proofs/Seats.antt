@@ -1,0 +1,113 @@
+-- A seat goes on: posts come and go, and its worker works, without the registry and with it.
+use Rattle.std.proofs.Common.{◌≡◌, ◌≢◌, ℕ, ◌+◌, ◌<◌, ◌≤◌, Bool, true, false, cond, ◌==◌, List, [], ◌∷◌, ◌++◌, length, map, vec_len, Option, Some, None, refl, sym, ◌∙◌, ap, ap₂, subst, arith}
+use Rattle.std.specs.List.{AllByRecursion, slice_get}
+use Rattle.std.specs.Prelude.{slice_index_or}
+use Rattle.bd_base.specs.declared.setup.Setup.{Setup}
+use Rattle.bd_turns.specs.declared.queue.Message.{Message}
+use Rattle.bd_turns.specs.declared.queue.Post.{Post}
+use Rattle.bd_turns.specs.Local.{Local}
+use Rattle.bd_links.specs.Queues.{queues_of}
+use Rattle.bd_log.specs.Log.{Written}
+use Rattle.bd_merged.specs.Rows.{message_of}
+use Rattle.bd_ring.specs.Posts.{Brings}
+use Rattle.bd_ring.specs.Rings.{Receiver, Sender}
+use Rattle.bd_apart.specs.Course.{Course, IsCourse, Phase}
+use Rattle.bd_apart.specs.Steps.{arrived_more, with_arrived, with_queues}
+use Rattle.bd_apart.proofs.Arriving.{arrivals_are_met}
+use Rattle.bd_seat.specs.Incoming.{Fetched, IsMet}
+use Rattle.bd_thread.specs.declared.links.Links.{Links}
+use Rattle.bd_thread.specs.Seen.{local}
+use Rattle.bd_wires.specs.declared.wires.Wires.{Wires}
+use Rattle.bd_wires.specs.Wires.{put_into, IsLinked}
+use Rattle.bd_node.specs.declared.seat.Seat.{Seat}
+use Rattle.bd_node.specs.declared.worker.Worker.{Worker}
+use Rattle.bd_node.specs.Seats.{Continues, IsAt, IsSeat, IsSitting, Sits}
+
+-- ---- one after the other
+
+pub continues_still : (w : Wires) (s : Seat) → Continues w s s
+continues_still w s = record { flag = refl; halted = refl; sits = λ setup t p h. h }
+
+pub continues_then : (w : Wires) (a b c : Seat) → Continues w a b → Continues w b c → Continues w a c
+continues_then w a b c f g = record { flag = g.flag ∙ f.flag; halted = g.halted ∙ f.halted; sits = λ setup t p h. g.sits setup t p (f.sits setup t p h) }
+
+-- who sat there sits there still
+pub sitting_then : (w : Wires) (a b : Seat) → IsSitting w a → Continues w a b → IsSitting w b
+sitting_then w a b s f = record { setup = s.setup; t = s.t; p = s.p; sits = f.sits s.setup s.t s.p s.sits }
+
+-- ---- posts come
+
+-- what was met has stamps and senders that the thread's course may have
+stamps_of : (senders last : ℕ) (posts : List Post) → AllByRecursion (IsMet senders last) posts → AllByRecursion (λ m. m.stamp ≤ last) posts
+stamps_of senders last [] all = tt
+stamps_of senders last (m ∷ ms) all = (all.0.stamp, stamps_of senders last ms all.1)
+
+senders_of : (senders last : ℕ) (posts : List Post) → AllByRecursion (IsMet senders last) posts → AllByRecursion (λ m. m.message.sender < senders) posts
+senders_of senders last [] all = tt
+senders_of senders last (m ∷ ms) all = (all.0.sender, senders_of senders last ms all.1)
+
+-- the seat with what was taken of its ring
+abbrev with_taken : Seat → Receiver → Written → Links → Seat
+with_taken s take log links = record s { worker = record s.worker { links = links; log = log }; passes = record s.passes { take = take } }
+
+module _ (w : Wires) (s : Seat) (take : Receiver) (log : Written) (links : Links) (links-is : links ≡ record s.worker.links { queues = links.queues }) (len : vec_len links.queues ≡ vec_len s.worker.links.queues)
+    (f : Fetched s.worker.me s.passes.take s.worker.log s.worker.links.queues.items take log links.queues.items) where
+  abbrev new : Seat
+  new = with_taken s take log links
+
+  abbrev posts : List Post
+  posts = f.posts
+
+  seat : (setup : Setup) (t : ℕ) (p : Phase) (c : Course) → IsSeat setup t p c w s → IsSeat setup t p (arrived_more c posts log.last) w new
+  seat setup t p c q =
+      let a : IsAt setup t p c s.worker = q.worker in
+      let same : s.worker.me ≡ t = a.me in
+      let senders : s.passes.take.senders ≡ setup.threads = q.linked.senders in
+      let later : c.last ≤ log.last = subst (λ (n : ℕ). n ≤ log.last) a.log_last f.later in
+      let l : Local = local s.worker.thread s.worker.links in
+      let course : IsCourse setup t p (arrived_more c posts log.last) (with_queues l (with_arrived t (map message_of posts) l.shared.queues)) =
+      arrivals_are_met setup t p c l posts log.last later (stamps_of s.passes.take.senders log.last posts f.met)
+      (subst (λ (n : ℕ). AllByRecursion (λ m. m.message.sender < n) posts) senders (senders_of s.passes.take.senders log.last posts f.met)) a.course in
+      record {
+        worker = record {
+          me = a.me;
+          number = a.number;
+          given = a.given;
+          within = a.within;
+          tickets = a.tickets;
+          queues = len ∙ a.queues;
+          rows = ap (λ (x : Links). x.registry.setup) links-is ∙ a.rows;
+          empty = ap (λ (x : Links). x.entries) links-is ∙ a.empty;
+          log_thread = ap (λ (x : Written). x.thread) f.log_is ∙ a.log_thread;
+          log_entries = ap (λ (x : Written). x.entries) f.log_is ∙ a.log_entries;
+          log_last = refl;
+          course =
+              subst (λ (x : Links). IsCourse setup t p (arrived_more c posts log.last) (local s.worker.thread x)) (sym links-is)
+              (subst (λ (qs : ℕ → List Message). IsCourse setup t p (arrived_more c posts log.last) (with_queues l qs)) (sym (f.queued ∙ ap (λ (n : ℕ). with_arrived n (map message_of posts) (queues_of s.worker.links.queues.items)) same)) course);
+        };
+        linked = record {
+          rings = q.linked.rings;
+          takes = λ d. ap (λ (x : Receiver). x.ring) f.taken ∙ q.linked.takes d;
+          senders = ap (λ (x : Receiver). x.senders) f.taken ∙ q.linked.senders;
+          sends = q.linked.sends;
+          sends_to = q.linked.sends_to;
+          numbers = q.linked.numbers;
+          slot = q.linked.slot;
+          thread = q.linked.thread;
+          passes = q.linked.passes;
+          free = q.linked.free;
+        };
+        start = q.start;
+        taken = ap (λ (x : Receiver). x.taken) f.taken ∙ ap (λ (ms : List Post). ms ++ posts) q.taken;
+        sent = q.sent;
+        seen = q.seen;
+        wrote = q.wrote;
+        count = q.count;
+      }
+
+  pub received_continues : Continues w s new
+  received_continues = record {
+    flag = ap (λ (x : Links). x.shut) links-is;
+    halted = refl;
+    sits = λ setup t p h. record { course = arrived_more h.course posts log.last; seat = seat setup t p h.course h.seat };
+  }

@@ -1,0 +1,123 @@
+-- Seats before any entry, and a node of them.
+use Rattle.std.proofs.Common.{◌≡◌, ℕ, zero, suc, ◌+◌, ◌<◌, List, [], ◌∷◌, ◌++◌, length, vec_len, drop, Some, None, ◌⊎◌, inl, inr, refl, sym, ◌∙◌, ap, subst, add-one, rules}
+use Rattle.std.specs.List.{slice_get}
+use Rattle.std.specs.Prelude.{false}
+use Rattle.std.proofs.lemmas.List.{length-replicate}
+use Rattle.std.proofs.lemmas.Option.{same_Some}
+use Rattle.bd_base.specs.declared.setup.Setup.{Setup}
+use Rattle.bd_turns.specs.declared.queue.Message.{Message}
+use Rattle.bd_turns.specs.Local.{Local}
+use Rattle.bd_registry.specs.State.{Registered, start_of}
+use Rattle.bd_apart.specs.Course.{IsCourse}
+use Rattle.bd_apart.specs.Steps.{first_phase, new_course}
+use Rattle.bd_apart.proofs.Arriving.{course_begins}
+use Rattle.bd_thread.proofs.Starting.{new_is_at_start}
+use Rattle.bd_wires.specs.declared.wires.Passes.{Passes}
+use Rattle.bd_wires.specs.declared.wires.Wires.{Wires}
+use Rattle.bd_wires.specs.Wires.{put_into, AreNew, IsLinked, IsUnused}
+use Rattle.bd_node.specs.declared.seat.Seat.{Seat}
+use Rattle.bd_node.specs.Seats.{IsSeat}
+use Rattle.bd_node.specs.Starting.{AreNewSeats, IsNewSeat}
+use Rattle.bd_node.specs.Whole.{AreSeated}
+use Rattle.bd_node.proofs.Places.{has_at, is_below}
+
+-- ---- seats, one after the other
+
+pub none_new : (setup : Setup) (passes : List Passes) → AreNewSeats setup passes []
+none_new setup passes = record { each = λ i s q h e. absurd (none i s h) }
+  where
+    none : (i : ℕ) (s : Seat) → slice_get [] i ≡ Some s → ⊥
+    none zero s h = cc
+    none (suc i) s h = cc
+
+-- after a push the list has what was there, or what was pushed
+push_at : {X : Type 0} (xs : List X) (x : X) (i : ℕ) (y : X) → slice_get (xs ++ x ∷ []) i ≡ Some y → (slice_get xs i ≡ Some y) ⊎ ((i ≡ length xs) × (x ≡ y))
+push_at [] x zero y h = inr (refl, same_Some x y h)
+push_at [] x (suc i) y h = absurd (let e : None ≡ Some y = h in cc)
+push_at (z ∷ xs) x zero y h = inl h
+push_at (z ∷ xs) x (suc i) y h = go (push_at xs x i y h)
+  where
+    go : (slice_get xs i ≡ Some y) ⊎ ((i ≡ length xs) × (x ≡ y)) → (slice_get xs i ≡ Some y) ⊎ ((suc i ≡ length (z ∷ xs)) × (x ≡ y))
+    go (inl e) = inl e
+    go (inr p) = inr (ap suc p.0, p.1)
+
+-- the first of what is left stands at the place up to which all was taken
+pub at_drop : {X : Type 0} (xs : List X) (n : ℕ) → slice_get (drop n xs) 0 ≡ slice_get xs n
+at_drop [] zero = refl
+at_drop [] (suc n) = refl
+at_drop (x ∷ xs) zero = refl
+at_drop (x ∷ xs) (suc n) = at_drop xs n
+
+-- and the others are left after it
+pub drop_next : {X : Type 0} (xs : List X) (n : ℕ) → drop 1 (drop n xs) ≡ drop (n + 1) xs
+drop_next {X = X} xs n = rw add-one (go xs n)
+  where
+    go : (xs : List X) (n : ℕ) → drop 1 (drop n xs) ≡ drop (suc n) xs
+    go [] zero = refl
+    go [] (suc n) = refl
+    go (y ∷ xs) zero = refl
+    go (y ∷ xs) (suc n) = go xs n
+
+pub new_more : (setup : Setup) (passes : List Passes) (seats : List Seat) (n : ℕ) (s : Seat) (q : Passes) → length seats ≡ n → AreNewSeats setup passes seats → slice_get passes n ≡ Some q
+    → IsNewSeat n setup q s → AreNewSeats setup passes (seats ++ s ∷ [])
+new_more setup passes seats n s q len a at new = record { each = λ i u r h e. go i u r e (push_at seats s i u h) }
+  where
+    go : (i : ℕ) (u : Seat) (r : Passes) → slice_get passes i ≡ Some r → (slice_get seats i ≡ Some u) ⊎ ((i ≡ length seats) × (s ≡ u)) → IsNewSeat i setup r u
+    go i u r e (inl h) = a.each i u r h e
+    go i u r e (inr p) =
+        let same : n ≡ i = sym (p.0 ∙ len) in
+        let pass : q ≡ r = same_Some q r (sym at ∙ ap (λ (k : ℕ). slice_get passes k) same ∙ e) in
+        subst (λ (x : Seat). IsNewSeat i setup r x) p.1 (subst (λ (x : Passes). IsNewSeat i setup x s) pass (subst (λ (k : ℕ). IsNewSeat k setup q s) same new))
+
+-- ---- a seat
+
+-- a new thread with new passes is at the start of its course
+pub seat_begins : (setup : Setup) (w : Wires) (i : ℕ) (s : Seat) (q : Passes) → i < setup.threads → IsNewSeat i setup q s → IsLinked setup.threads w i q → IsUnused (start_of setup) q
+    → IsSeat setup i (first_phase setup i) new_course w s
+seat_begins setup w i s q within new linked unused =
+    let passes : s.passes ≡ q = new.passes_are in
+    record {
+      worker = record {
+        me = new.me_is;
+        number = new.thread.own;
+        given = new.thread.given;
+        within = within;
+        tickets = new.tickets;
+        queues =
+            (let e : vec_len s.worker.links.queues ≡ length s.worker.links.queues.items = search rules in e)
+            ∙ ap (λ (qs : List (List Message)). length qs) new.links.queues
+            ∙ length-replicate setup.threads [];
+        rows = ap (λ (r : Registered). r.setup) new.links.registry;
+        empty = new.links.entries;
+        log_thread = new.log_thread;
+        log_entries = new.log_entries;
+        log_last = new.log_last;
+        course =
+            subst (λ (l : Local). IsCourse setup i (first_phase setup i) new_course l) (sym (new_is_at_start i setup s.worker.thread s.worker.links new.thread new.links)) (course_begins setup i);
+      };
+      linked = subst (λ (x : Passes). IsLinked setup.threads w i x) (sym passes) linked;
+      start = ap (λ (x : Passes). x.slot.start) passes ∙ unused.start_is;
+      taken = ap (λ (x : Passes). x.take.taken) passes ∙ unused.taken;
+      sent = λ r. ap (λ (x : Passes). put_into x r) passes ∙ unused.put r;
+      seen = ap (λ (x : Passes). x.slot.seen) passes ∙ unused.seen;
+      wrote = ap (λ (x : Passes). x.slot.wrote) passes ∙ unused.wrote;
+      count = new.seen;
+    }
+
+-- ---- a node
+
+pub seated_at_start : (setup : Setup) (w : Wires) (seats : List Seat) (passes : List Passes) → 0 < setup.threads → length seats ≡ setup.threads
+    → AreNew setup.threads (start_of setup) w passes → AreNewSeats setup passes seats → AreSeated setup w seats false (first_phase setup)
+seated_at_start setup w seats passes some len wires new = record {
+  some = some;
+  len = len;
+  each = λ i s h.
+      let within : i < setup.threads = subst (λ (n : ℕ). i < n) len (is_below seats i s h) in
+      let q = has_at passes i (subst (λ (n : ℕ). i < n) (sym wires.len) within) in
+      let is : IsNewSeat i setup q.0 s = new.each i s q.0 h q.1 in
+      record {
+        sits = record { course = new_course; seat = seat_begins setup w i s q.0 within is (wires.linked.1 i q.0 q.1) (wires.unused i q.0 q.1) };
+        flag = is.links.running;
+        goes = is.goes;
+      };
+}

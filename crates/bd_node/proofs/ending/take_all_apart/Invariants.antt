@@ -1,0 +1,13 @@
+-- What was taken apart and what is left are all seats.
+use Rattle.std.proofs.Common.{◌≡◌, ◌++◌, length, map}
+use Rattle.bd_node.proofs.ending.take_all_apart.Given as goal
+
+abbrev pub invariant-loop-seat : goal.invariant-loop-seat
+invariant-loop-seat l =
+    record {
+      logs : l.logs.items ++ map (λ s. s.worker.log) l.left.items ≡ map (λ s. s.worker.log) l.fn.seats.items;
+      passes : l.passes.items ++ map (λ s. s.passes) l.left.items ≡ map (λ s. s.passes) l.fn.seats.items;
+    }
+
+abbrev pub decreases-loop-seat : goal.decreases-loop-seat
+decreases-loop-seat l = length l.left.items

@@ -1,0 +1,20 @@
+use Rattle.std.proofs.Common.{refl, subst, ap}
+use Rattle.bd_base.specs.declared.journal.Start.{Start}
+use Rattle.bd_registry.specs.State.{Registered, start_of}
+use Rattle.bd_apart.specs.Steps.{first_phase}
+use Rattle.bd_wires.specs.Wires.{AreNew}
+use Rattle.bd_node.proofs.Starts.{seated_at_start}
+use Rattle.bd_node.proofs.node.Node.build.Goals as goal
+
+pub returns-clause-node : goal.returns-clause-node
+returns-clause-node g c =
+    let setup = c.args.setup.now in
+    let wires = c.in_ok-wires.wires in
+    let passes = c.in_ok-wires.passes.items in
+    record {
+      phases = first_phase setup;
+      seated =
+          seated_at_start setup wires c.in_ok-seats.seats.items passes c.requires c.in_ok-seats.ensures.len
+          (subst (λ (s : Start). AreNew setup.threads s wires passes) (ap (λ (r : Registered). start_of r.setup) c.in_ok-registry.ensures) c.in_ok-wires.ensures.new) c.in_ok-seats.ensures.each;
+      phases_are = λ t. refl;
+    }

@@ -1,0 +1,24 @@
+-- The passes may be ended, the logs may be merged, and the merge is a complete run.
+use Rattle.std.proofs.Common.{◌≡◌, List, [], length, vec_len, sym, ◌∙◌, subst, arith}
+use Rattle.bd_base.specs.declared.act.Entry.{Entry}
+use Rattle.bd_machine.specs.Run.{IsCompleteRun}
+use Rattle.bd_node.specs.Whole.{setup_in}
+use Rattle.bd_node.proofs.Settling.{logs_fit, node_complete, passes_fit}
+use Rattle.bd_node.proofs.node.Node.settle.Goals as goal
+
+pub disconnect-registry-requires-clause-linked : goal.disconnect-registry-requires-clause-linked
+disconnect-registry-requires-clause-linked g c =
+    let many : vec_len c.in_ok-logs.passes ≡ length c.in_ok-logs.passes.items = omega arith in
+    passes_fit c.args.self c.requires.node (vec_len c.in_ok-logs.passes) c.in_ok-logs.passes.items many c.in_ok-logs.ensures.passes
+
+pub merge-requires : goal.merge-requires
+merge-requires g c = logs_fit c.args.self c.requires.node c.in_ok-logs.logs.items c.in_ok-logs.ensures.logs
+
+pub returns : goal.returns
+returns g c = record {
+  complete =
+      subst (λ (es : List Entry). IsCompleteRun (setup_in c.args.self) [] es) (sym (c.of.ensures ∙ c.from_vec.ensures))
+      (node_complete c.args.self c.requires.node c.requires.done c.in_ok-logs.logs.items c.in_ok-logs.passes.items c.in_ok-logs.ensures.logs c.in_ok-logs.ensures.passes
+      c.disconnect-registry.ensures.delivered c.disconnect-registry.result c.disconnect-registry.ensures.journal c.journal-journal.ensures.ordered c.journal-journal.ensures.replay
+      c.in_ok-merged.merged.items c.in_ok-merged.ensures);
+}

@@ -1,0 +1,53 @@
+use Rattle.std.proofs.Common.{◌≡◌, ◌<◌, ◌≤◌, ℕ, true, All, List, Option, length, length-set, vec_len, subst, sym, ◌∙◌, ap, rules}
+use Rattle.std.specs.Option.{MatchOption}
+use Rattle.std.specs.Vec.{with_item}
+use Rattle.std.proofs.lemmas.List.{with_items_is}
+use Rattle.bd_node.specs.declared.seat.Seat.{Seat}
+use Rattle.bd_node.specs.Shutting.{AreToLearn, Shuts}
+use Rattle.bd_node.specs.Whole.{AreSeated}
+use Rattle.bd_node.proofs.Marks.{first_at, node_shuts, others_learn, AreAllShut}
+use Rattle.bd_node.proofs.node.Node.shut.Goals as goal
+
+pub shut-requires-clause-sits : goal.shut-requires-clause-sits
+shut-requires-clause-sits g c =
+    let o = c.args.self.now in
+    let a = c.index_mut-first.result.now in
+    let at = first_at o a c.requires.node c.index_mut-first.ensures.value in
+    record { setup = o.setup.now; t = 0; p = c.requires.node.phases 0; sits = (c.requires.node.seated.each 0 a at).sits }
+
+pub shut-requires-clause-first : goal.shut-requires-clause-first
+shut-requires-clause-first g c =
+    let o = c.args.self.now in
+    let a = c.index_mut-first.result.now in
+    let at = first_at o a c.requires.node c.index_mut-first.ensures.value in
+    (c.requires.node.seated.each 0 a at).sits.seat.worker.me
+
+pub learn_all-requires : goal.learn_all-requires
+learn_all-requires g c =
+    let o = c.args.self.now in
+    let n = c.requires.node in
+    let a = c.index_mut-first.result.now in
+    let stamp = c.in-Some.stamp in
+    let shut = subst (λ (s : Option ℕ). MatchOption s (c.shut.new.self ≡ a) (λ k. (c.greatest-above.result < k) × Shuts o.wires k a c.shut.new.self)) c.in-Some.is c.in_ok-stamp.ensures.shut in
+    let within = subst (λ (ss : List Seat). All (λ s. s.worker.log.last ≤ c.greatest-above.result) ss) c.as_slice.ensures.value c.greatest-above.ensures in
+    subst (λ (ss : List Seat). AreToLearn stamp ss) (sym c.as_mut_slice.ensures.value)
+    (others_learn o.setup.now o.wires o.seats.items o.shut n.phases c.shut.new.self c.greatest-above.result stamp n.seated within shut.0)
+
+pub returns-clause-node : goal.returns-clause-node
+returns-clause-node g c =
+    let o = c.args.self.now in
+    let a = c.index_mut-first.result.now in
+    let news = c.learn_all.new.seats in
+    let shut = subst (λ (s : Option ℕ). MatchOption s (c.shut.new.self ≡ a) (λ k. (c.greatest-above.result < k) × Shuts o.wires k a c.shut.new.self)) c.in-Some.is c.in_ok-stamp.ensures.shut in
+    let all : AreAllShut o.setup.now o.wires news =
+    node_shuts o c.greatest-above.result c.in-Some.stamp a c.shut.new.self c.as_mut_slice.result.now news c.requires.node c.requires.idle
+    (first_at o a c.requires.node c.index_mut-first.ensures.value) shut.0 shut.1 c.as_mut_slice.ensures.value c.learn_all.ensures.len c.learn_all.ensures.first c.learn_all.ensures.others in
+    let v = with_item o.seats 0 c.shut.new.self in
+    let many : vec_len o.seats ≡ length o.seats.items = search rules in
+    let len : length news ≡ vec_len o.seats =
+    c.learn_all.ensures.len ∙ ap (λ (ss : List Seat). length ss) c.as_mut_slice.ensures.value ∙ length-set o.seats.items 0 c.shut.new.self ∙ sym many in
+    record {
+      phases = all.phases;
+      seated = subst (λ (ss : List Seat). AreSeated o.setup.now o.wires ss true all.phases) (sym (with_items_is v news len)) all.seated;
+      phases_are = all.phases_are;
+    }

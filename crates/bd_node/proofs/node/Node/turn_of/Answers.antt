@@ -1,0 +1,26 @@
+use Rattle.std.proofs.Common.{◌≡◌, ◌<◌, length, Some, refl, rules}
+use Rattle.std.specs.List.{slice_get}
+use Rattle.std.proofs.lemmas.Option.{slice_get_read}
+use Rattle.std.proofs.lemmas.Result.{on_ok_weaker}
+use Rattle.bd_node.proofs.Rounds.{one_sits, one_turned}
+use Rattle.bd_node.proofs.node.Node.turn_of.Goals as goal
+
+pub turn-requires : goal.turn-requires
+turn-requires g c =
+    let o = c.args.self.now in
+    let a = c.index_mut-seat.result.now in
+    let lt : c.args.thread < length o.seats.items = search rules in
+    let at : slice_get o.seats.items c.args.thread ≡ Some a = slice_get_read o.seats.items (length o.seats.items) c.args.thread a refl lt c.index_mut-seat.ensures.value in
+    one_sits o.setup.now o.wires o.seats.items o.shut c.requires.phases c.requires.seated c.args.thread a at
+
+pub returns-clause-node : goal.returns-clause-node
+returns-clause-node g c =
+    let o = c.args.self.now in
+    let a = c.index_mut-seat.result.now in
+    let lt : c.args.thread < length o.seats.items = search rules in
+    let at : slice_get o.seats.items c.args.thread ≡ Some a = slice_get_read o.seats.items (length o.seats.items) c.args.thread a refl lt c.index_mut-seat.ensures.value in
+    on_ok_weaker c.turn.result (λ on. record {
+      phases = c.requires.phases;
+      seated = one_turned o.setup.now o.wires o.seats.items o.shut c.requires.phases c.requires.seated c.args.thread a c.turn.new.self at on;
+      phases_are = c.requires.phases_are;
+    }) c.turn.ensures

@@ -1,0 +1,9 @@
+use Rattle.std.proofs.Common.{◌≡◌}
+use Rattle.bd_node.specs.Whole.{IsNode}
+use Rattle.bd_node.proofs.run.play_out.Given as goal
+
+abbrev pub invariant-loop : goal.invariant-loop
+invariant-loop g l = record {
+  node : IsNode l.node;
+  setup : l.node.setup ≡ l.initial.node.setup;
+}

@@ -1,0 +1,16 @@
+use Rattle.std.proofs.Common.{List, length, subst, sym}
+use Rattle.bd_base.specs.declared.act.Entry.{Entry}
+use Rattle.bd_ring.specs.Slots.{Holder}
+use Rattle.bd_node.specs.Seats.{Continues}
+use Rattle.bd_node.proofs.Borrowing.{borrowed_continues}
+use Rattle.bd_node.proofs.seat.Seat.borrow.Goals as goal
+
+pub returns : goal.returns
+returns g c =
+    let s = c.args.self.now in
+    let w = c.args.wires.now in
+    let worker = c.work_with.new.self in
+    let lent = c.work_with.new.lent in
+    subst (λ (es : List Entry). Continues w s (record s { worker = worker; passes = record s.passes { slot = c.give.new.pass }; seen = length es })) (sym c.journal.ensures.rows)
+    (subst (λ (h : Holder). Continues w s (record s { worker = worker; passes = record s.passes { slot = h }; seen = length lent.journal })) (sym c.give.ensures)
+    (borrowed_continues w s worker c.in-Some.lent lent c.try_take.new.pass c.in-Some.ensures.take c.in_ok-turned.ensures))

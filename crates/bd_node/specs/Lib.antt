@@ -1,0 +1,5 @@
+pub mod Schedule
+pub mod Seats
+pub mod Whole
+pub mod Starting
+pub mod Shutting

@@ -1,0 +1,129 @@
+-- Seats: each thread of a node with what it has for itself and its passes, and when it is on its course.
+use Rattle.std.specs.Prelude.{◌≡◌, ℕ, ◌<◌, List, [], length, vec_len, slice_index_or, None}
+use Rattle.bd_base.specs.declared.act.Entry.{Entry}
+use Rattle.bd_base.specs.declared.setup.Setup.{Setup}
+use Rattle.bd_log.specs.Merge.{entries_of}
+use Rattle.bd_registry.specs.State.{Registered, rows_of, start_of}
+use Rattle.bd_merged.specs.Rows.{entries}
+use Rattle.bd_ring.specs.SlotRule.{AddsOwn, StartsWith}
+use Rattle.bd_apart.specs.Course.{all_rows, Course, IsCourse, Phase}
+use Rattle.bd_thread.specs.Requests.{KeepsTickets}
+use Rattle.bd_thread.specs.Seen.{local, number_of, setup_of}
+use Rattle.bd_wires.specs.declared.wires.Wires.{Wires}
+use Rattle.bd_wires.specs.Wires.{put_into, IsLinked}
+use Rattle.bd_node.specs.declared.seat.Seat.{Seat}
+use Rattle.bd_node.specs.declared.worker.Worker.{Worker}
+
+-- ---- a worker
+
+-- thread t of the setup, with its links and its log, is at this place of its course
+pub record IsAt (setup : Setup) (t : ℕ) (p : Phase) (c : Course) (w : Worker) : Type 0 where
+  pub me : w.me ≡ t
+  pub number : number_of w.thread ≡ t
+  pub given : setup_of w.thread ≡ setup
+  pub within : t < setup.threads
+  pub tickets : KeepsTickets w.thread
+  pub queues : vec_len w.links.queues ≡ setup.threads
+  pub rows : w.links.registry.setup ≡ rows_of setup
+  -- what a turn did is in the log alone
+  pub empty : w.links.entries ≡ []
+  pub log_thread : w.log.thread ≡ t
+  pub log_entries : w.log.entries ≡ entries (all_rows p c)
+  pub log_last : w.log.last ≡ c.last
+  pub course : IsCourse setup t p c (local w.thread w.links)
+
+-- it is at some place of its course
+pub record IsWorking (w : Worker) : Type 0 where
+  pub setup : Setup
+  pub t : ℕ
+  pub p : Phase
+  pub c : Course
+  pub at : IsAt setup t p c w
+
+-- the same messages came and went
+pub record HasSamePosts (c c' : Course) : Type 0 where
+  pub taken : c'.taken ≡ c.taken
+  pub sent : c'.sent ≡ c.sent
+
+-- without the registry: wherever it was on its course, it is further on it
+pub record WentAlone (setup : Setup) (t : ℕ) (p : Phase) (c : Course) (new : Worker) : Type 0 where
+  pub course : Course
+  pub at : IsAt setup t p course new
+  pub posts : HasSamePosts c course
+  pub seen : course.seen ≡ c.seen
+
+abbrev pub GoesAlone : Worker → Worker → Type 0
+GoesAlone old new = (new.links.shut ≡ old.links.shut) × ((setup : Setup) (t : ℕ) (p : Phase) (c : Course) → IsAt setup t p c old → WentAlone setup t p c new)
+
+-- ---- with the registry
+
+-- the registry that it is lent is the setup's, its journal begins with what the thread saw, and has no other row of the thread
+pub record IsLent (setup : Setup) (t : ℕ) (c : Course) (seen : ℕ) (lent : Registered) : Type 0 where
+  pub start : start_of lent.setup ≡ start_of setup
+  pub begins : StartsWith lent.journal c.seen
+  pub own : entries_of t lent.journal ≡ entries_of t c.seen
+  pub count : seen ≡ length c.seen
+
+pub record IsLentTo (w : Worker) (seen : ℕ) (lent : Registered) : Type 0 where
+  pub setup : Setup
+  pub t : ℕ
+  pub p : Phase
+  pub c : Course
+  pub at : IsAt setup t p c w
+  pub lent_is : IsLent setup t c seen lent
+
+-- it saw the registry's journal to its end, in which it put rows of its own alone
+pub record WentWith (setup : Setup) (t : ℕ) (p : Phase) (c : Course) (lent : Registered) (new : Worker) (lent' : Registered) : Type 0 where
+  pub course : Course
+  pub at : IsAt setup t p course new
+  pub posts : HasSamePosts c course
+  pub seen : course.seen ≡ lent'.journal
+  pub adds : AddsOwn t lent.journal lent'.journal
+  pub start : start_of lent'.setup ≡ start_of lent.setup
+
+abbrev pub GoesWith : ℕ → Worker → Registered → Worker → Registered → Type 0
+GoesWith seen old lent new lent' =
+    (new.links.shut ≡ old.links.shut)
+    × ((setup : Setup) (t : ℕ) (p : Phase) (c : Course) → IsAt setup t p c old → IsLent setup t c seen lent → WentWith setup t p c lent new lent')
+
+-- ---- a seat
+
+-- thread t of the setup sits with its passes for these wires, at this place of its course
+pub record IsSeat (setup : Setup) (t : ℕ) (p : Phase) (c : Course) (w : Wires) (s : Seat) : Type 0 where
+  pub worker : IsAt setup t p c s.worker
+  pub linked : IsLinked setup.threads w t s.passes
+  pub start : s.passes.slot.start ≡ start_of setup
+  pub taken : s.passes.take.taken ≡ c.taken
+  pub sent : (r : ℕ) → put_into s.passes r ≡ c.sent r
+  pub seen : s.passes.slot.seen ≡ c.seen
+  pub wrote : s.passes.slot.wrote ≡ entries_of t c.seen
+  pub count : s.seen ≡ length c.seen
+
+-- thread t of the setup sits, in this phase of its course
+pub record Sits (setup : Setup) (t : ℕ) (p : Phase) (w : Wires) (s : Seat) : Type 0 where
+  pub course : Course
+  pub seat : IsSeat setup t p course w s
+
+-- some thread sits, in some phase
+pub record IsSitting (w : Wires) (s : Seat) : Type 0 where
+  pub setup : Setup
+  pub t : ℕ
+  pub p : Phase
+  pub sits : Sits setup t p w s
+
+-- whoever sat there sits there still, further on its course
+pub record Continues (w : Wires) (old new : Seat) : Type 0 where
+  pub flag : new.worker.links.shut ≡ old.worker.links.shut
+  pub halted : new.halted ≡ old.halted
+  pub sits : (setup : Setup) (t : ℕ) (p : Phase) → Sits setup t p w old → Sits setup t p w new
+
+-- whichever the wires
+abbrev pub KeepsOn : Seat → Seat → Type 0
+KeepsOn old new = (w : Wires) → Continues w old new
+
+-- unless it has to halt
+abbrev pub WentOn : Wires → Seat → Seat → Type 0
+WentOn w old new = new.halted ≡ None → Continues w old new
+
+abbrev pub AllWentOn : Wires → List Seat → List Seat → Type 0
+AllWentOn w old new = (i : ℕ) (d : Seat) → i < length old → WentOn w (slice_index_or old i d) (slice_index_or new i d)

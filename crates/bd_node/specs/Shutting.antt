@@ -1,0 +1,51 @@
+-- How a seat is shut down.
+use Rattle.std.specs.Prelude.{◌≡◌, ◌≢◌, ℕ, ◌<◌, true, List, Some, slice_get}
+use Rattle.bd_base.specs.declared.setup.Setup.{Setup}
+use Rattle.bd_merged.specs.Rows.{Row}
+use Rattle.bd_registry.specs.State.{Registered, start_of}
+use Rattle.bd_ring.specs.SlotRule.{AddsOwn}
+use Rattle.bd_apart.specs.Course.{all_rows, Course, Phase}
+use Rattle.bd_apart.specs.Steps.{second_phase}
+use Rattle.bd_thread.specs.Seen.{local}
+use Rattle.bd_wires.specs.declared.wires.Wires.{Wires}
+use Rattle.bd_node.specs.declared.seat.Seat.{Seat}
+use Rattle.bd_node.specs.declared.worker.Worker.{Worker}
+use Rattle.bd_node.specs.Seats.{HasSamePosts, IsAt, IsLent, IsSeat}
+
+-- ---- a worker
+
+-- thread 0 has the Shutdown with this stamp in its log, and the registry in its journal, which the thread saw to its end
+pub record ShutWith (setup : Setup) (p : Phase) (c : Course) (stamp : ℕ) (old : Worker) (lent : Registered) (new : Worker) (lent' : Registered) : Type 0 where
+  pub course : Course
+  pub at : IsAt setup 0 (second_phase stamp 0 p c (local old.thread old.links)) course new
+  pub posts : HasSamePosts c course
+  pub seen : course.seen ≡ lent'.journal
+  pub adds : AddsOwn 0 lent.journal lent'.journal
+  pub start : start_of lent'.setup ≡ start_of lent.setup
+
+pub record ShutsWith (seen met : ℕ) (old : Worker) (lent : Registered) (stamp : ℕ) (new : Worker) (lent' : Registered) : Type 0 where
+  pub flag : new.links.shut ≡ true
+  pub above : met < stamp
+  pub later : old.log.last < stamp
+  pub at : (setup : Setup) (p : Phase) (c : Course) → IsAt setup 0 p c old → IsLent setup 0 c seen lent → ShutWith setup p c stamp old lent new lent'
+
+-- ---- a seat
+
+-- a Shutdown came with this stamp: whoever sat there, at some place of its course, sits there in the phase after it
+pub record IsShutAt (setup : Setup) (t : ℕ) (p : Phase) (c : Course) (stamp : ℕ) (w : Wires) (old new : Seat) : Type 0 where
+  pub course : Course
+  pub seat : IsSeat setup t (second_phase stamp t p c (local old.worker.thread old.worker.links)) course w new
+
+pub record Shuts (w : Wires) (stamp : ℕ) (old new : Seat) : Type 0 where
+  pub flag : new.worker.links.shut ≡ true
+  pub halted : new.halted ≡ old.halted
+  pub later : old.worker.log.last < stamp
+  pub sits : (setup : Setup) (t : ℕ) (p : Phase) (c : Course) → IsSeat setup t p c w old → IsShutAt setup t p c stamp w old new
+
+-- so it is with any wires
+abbrev pub LearnsShut : ℕ → Seat → Seat → Type 0
+LearnsShut stamp old new = (w : Wires) → Shuts w stamp old new
+
+-- each seat but the first is another thread's than 0, and has lower stamps
+abbrev pub AreToLearn : ℕ → List Seat → Type 0
+AreToLearn stamp seats = (i : ℕ) (s : Seat) → 0 < i → slice_get seats i ≡ Some s → (s.worker.me ≢ 0) × (s.worker.log.last < stamp)

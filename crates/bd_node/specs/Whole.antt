@@ -1,0 +1,117 @@
+-- A node: when all its seats are on their courses, and how far it is.
+use Rattle.std.specs.Prelude.{◌≡◌, ℕ, ◌<◌, ◌≤◌, ◌==◌, Bool, true, false, cond, ◌&&◌, List, [], length, slice_get, Option, Some, None, is_none, not}
+use Rattle.std.specs.List.{list_all}
+use Rattle.bd_base.specs.declared.setup.Setup.{Setup}
+use Rattle.bd_machine.specs.Messages.{count_at}
+use Rattle.bd_machine.specs.View.{View}
+use Rattle.bd_merged.specs.Rows.{Row}
+use Rattle.bd_apart.specs.Course.{Phase}
+use Rattle.bd_apart.specs.Ends.{phase_after, AreMarked}
+use Rattle.bd_apart.specs.Steps.{first_phase}
+use Rattle.bd_thread.specs.Resting.{has_destructed_all, is_blocked, rests}
+use Rattle.bd_seat.specs.declared.seat_no.SeatNo.{SeatNo}
+use Rattle.bd_seat.specs.declared.seat_no.SeatNo.TheVariants.{OutOfMemory, StampsSpent}
+use Rattle.bd_wires.specs.declared.wires.Wires.{Wires}
+use Rattle.bd_node.specs.declared.node.Node.{Node}
+use Rattle.bd_node.specs.declared.node.NodeState.{NodeState}
+use Rattle.bd_node.specs.declared.node.NodeState.TheVariants.{Idle, Done, Busy}
+use Rattle.bd_node.specs.declared.seat.Seat.{Seat}
+use Rattle.bd_node.specs.Seats.{IsSitting, Sits}
+
+-- ---- all seats
+
+-- thread i sits in its phase, knows whether the Shutdown came, and doesn't halt
+pub record IsIn (setup : Setup) (w : Wires) (shut : Bool) (phases : ℕ → Phase) (i : ℕ) (s : Seat) : Type 0 where
+  pub sits : Sits setup i (phases i) w s
+  pub flag : s.worker.links.shut ≡ shut
+  pub goes : s.halted ≡ None
+
+-- each thread of the setup sits at its place
+pub record AreSeated (setup : Setup) (w : Wires) (seats : List Seat) (shut : Bool) (phases : ℕ → Phase) : Type 0 where
+  pub some : 0 < setup.threads
+  pub len : length seats ≡ setup.threads
+  pub each : (i : ℕ) (s : Seat) → slice_get seats i ≡ Some s → IsIn setup w shut phases i s
+
+-- ---- their phases
+
+-- a Shutdown came with this stamp, when all rested
+pub record AreShut (setup : Setup) (phases : ℕ → Phase) : Type 0 where
+  pub stamp : ℕ
+  pub firsts : ℕ → List Row
+  pub marks : ℕ → View
+  pub marked : AreMarked setup stamp firsts marks
+  pub none_first : (t : ℕ) → setup.threads ≤ t → firsts t ≡ []
+  pub phases_are : (t : ℕ) → phases t ≡ phase_after stamp firsts marks t
+
+abbrev pub ArePhases : Setup → Bool → (ℕ → Phase) → Type 0
+ArePhases setup false phases = (t : ℕ) → phases t ≡ first_phase setup t
+ArePhases setup true phases = AreShut setup phases
+
+pub record IsNode (n : Node) : Type 0 where
+  pub phases : ℕ → Phase
+  pub seated : AreSeated n.setup.now n.wires n.seats.items n.shut phases
+  pub phases_are : ArePhases n.setup.now n.shut phases
+
+abbrev pub seat_goes : Seat → Bool
+seat_goes s = is_none s.halted
+
+abbrev pub is_spent : Option SeatNo → Bool
+is_spent (Some StampsSpent) = true
+is_spent _ = false
+
+abbrev pub seat_has_stamps : Seat → Bool
+seat_has_stamps s = not (is_spent s.halted)
+
+-- why seats have to halt, where some have to: a thread's stamps are spent, or there was no memory
+abbrev pub halt_of : List Seat → SeatNo
+halt_of seats = cond (list_all seat_has_stamps seats) OutOfMemory StampsSpent
+
+-- ---- how far it is
+
+abbrev pub seat_rests : Seat → Bool
+seat_rests s = rests s.worker.thread s.worker.links
+
+abbrev pub seat_is_blocked : Seat → Bool
+seat_is_blocked s = is_blocked s.worker.thread s.worker.links
+
+abbrev pub seat_has_destructed : Seat → Bool
+seat_has_destructed s = has_destructed_all s.worker.thread
+
+-- as many messages were taken as were put, from the one to the other
+abbrev pub has_taken : Seat → Seat → Bool
+has_taken from to = count_at from.worker.thread.part.put to.worker.me == count_at to.worker.thread.part.taken from.worker.me
+
+abbrev pub are_all_taken : List Seat → Bool
+are_all_taken seats = list_all (λ from. list_all (λ to. has_taken from to) seats) seats
+
+-- no token is on a thread, nothing is still to be put or done, no handle is still to be closed, and no message is on its way
+abbrev pub is_at_rest : Node → Bool
+is_at_rest n = list_all seat_rests n.seats.items && are_all_taken n.seats.items
+
+-- at rest, and each script is at its end or waits
+abbrev pub is_idle : Node → Bool
+is_idle n = is_at_rest n && list_all seat_is_blocked n.seats.items
+
+-- at rest, and each device was destructed
+abbrev pub is_over : Node → Bool
+is_over n = is_at_rest n && list_all seat_has_destructed n.seats.items
+
+abbrev pub state_of : Node → NodeState
+state_of n = cond n.shut (cond (is_over n) Done Busy) (cond (is_idle n) Idle Busy)
+
+-- ---- what a caller sees of a node
+
+-- the setup that it plays
+abbrev pub setup_in : Node → Setup
+setup_in n = n.setup.now
+
+-- the number at which its generator of turns stands
+abbrev pub seed_of : Node → ℕ
+seed_of n = n.schedule.state
+
+abbrev pub HasSameSetup : Node → Node → Type 0
+HasSameSetup old new = new.setup ≡ old.setup
+
+-- the Shutdown came, or not, as before
+abbrev pub HasSameFlag : Node → Node → Type 0
+HasSameFlag old new = new.shut ≡ old.shut

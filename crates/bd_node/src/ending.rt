@@ -1,0 +1,141 @@
+//! How a node is shut down, and its seats taken apart at the end.
+ghost use Rattle.std.specs.Prelude.{◌≡◌, ◌≢◌, ◌≤◌, ◌<◌, ℕ, All, Some, length, map, slice_get, IfOk, MatchOption};
+ghost use Rattle.bd_node.specs.Seats.{Continues, IsLentTo, IsSitting};
+ghost use Rattle.bd_node.specs.declared.seat.Seat.{Seat};
+ghost use Rattle.bd_node.specs.Shutting.{AreToLearn, LearnsShut, Shuts, ShutsWith};
+
+use crate::building::abandon_all;
+use crate::seat::Seat;
+use crate::worker::Worker;
+use bd_base::{Act, OutOfMemory};
+use bd_log::Log;
+use bd_registry::Registry;
+use bd_seat::{SeatNo, catch_up};
+use bd_wires::{Passes, Wires};
+use std::alloc::Global;
+use std::collections::VecDeque;
+use std::sync::Wait;
+
+/// A stamp that no log's last is above.
+pub(crate) fn greatest<'a>(seats: &[Seat<'a>]) -> u128
+    ensures { All (λ s. s.worker.log.last ≤ result) seats.now }
+{
+    let mut greatest = 0;
+    for seat in seats {
+        greatest = greatest.max(seat.worker.log.last());
+    }
+    greatest
+}
+
+impl<'a> Worker<'a> {
+    // Thread 0 shuts down, with the stamp after this one and after all of its log and of the journal of the
+    // registry that it is lent, of which it saw this number of rows. Its registry follows the journal.
+    fn shut(
+        &mut self,
+        alloc: Global,
+        lent: &mut Registry,
+        seen: usize,
+        above: u128,
+    ) -> Result<u128, SeatNo>
+        requires { IsLentTo self.old seen lent.old }
+        ensures { IfOk result (λ stamp. ShutsWith seen above self.old lent.old stamp self.new lent.new) }
+    {
+        self.log.meet(lent.last_stamp());
+        self.log.meet(above);
+        let _journal = lent.journal();
+        catch_up(alloc, &mut self.links.registry, lent, seen)?;
+        let stamp = self.log.push(Act::Shutdown)?;
+        lent.shut(stamp)?;
+        self.links.shut = true;
+        Ok(stamp)
+    }
+}
+
+impl<'a> Seat<'a> {
+    /// Thread 0 shuts down, with a stamp above this one, which it answers. None where the registry wasn't in its
+    /// slot; then nothing changes.
+    pub fn shut<W: Wait>(
+        &mut self,
+        rt: &W,
+        alloc: Global,
+        wires: &Wires,
+        above: u128,
+    ) -> Result<Option<u128>, SeatNo>
+        requires sits { IsSitting wires.now self.old }
+        requires first { self.old.worker.me ≡ 0 }
+        ensures shut { IfOk result (λ o. MatchOption o (self.new ≡ self.old) (λ stamp. (above < stamp) × Shuts wires.now stamp self.old self.new)) }
+    {
+        let Some(mut lent) = wires.slot.try_take(rt, &mut self.passes.slot) else {
+            return Ok(None);
+        };
+        let stamp = self.worker.shut(alloc, &mut lent, self.seen, above)?;
+        self.seen = lent.journal().len();
+        wires.slot.give(rt, &mut self.passes.slot, lent);
+        Ok(Some(stamp))
+    }
+
+    /// Another thread learns of the Shutdown, whose stamp its log meets.
+    pub fn learn_shut(&mut self, stamp: u128)
+        requires other { self.old.worker.me ≢ 0 }
+        requires later { self.old.worker.log.last < stamp }
+        ensures { LearnsShut stamp self.old self.new }
+    {
+        self.worker.log.meet(stamp);
+        self.worker.links.shut = true;
+    }
+}
+
+/// All threads but the first learn of the Shutdown.
+pub(crate) fn learn_all<'a>(seats: &mut [Seat<'a>], stamp: u128)
+    requires { AreToLearn stamp seats.old }
+    ensures len { length seats.new ≡ length seats.old }
+    ensures first { slice_get seats.new 0 ≡ slice_get seats.old 0 }
+    ensures others { (i : ℕ) (a b : Seat) → 0 < i → slice_get seats.old i ≡ Some a → slice_get seats.new i ≡ Some b → LearnsShut stamp a b }
+{
+    for place in 1..seats.len() {
+        seats[place].learn_shut(stamp);
+    }
+}
+
+// A seat's log and passes; its tickets are abandoned.
+fn take_apart<'a>(seat: Seat<'a>) -> (Log, Passes)
+    ensures log { result.0 ≡ seat.entry.worker.log }
+    ensures passes { result.1 ≡ seat.entry.passes }
+{
+    let Seat {
+        worker,
+        passes,
+        seen: _,
+        halted: _,
+    } = seat;
+    let Worker {
+        me: _,
+        thread,
+        links: _,
+        log,
+    } = worker;
+    thread.abandon();
+    (log, passes)
+}
+
+/// The logs and the passes of all seats, in their order; their tickets are abandoned.
+pub(crate) fn take_all_apart<'a>(
+    alloc: Global,
+    seats: Vec<Seat<'a>>,
+) -> Result<(Vec<Log>, Vec<Passes>), OutOfMemory>
+    ensures logs { IfOk result (λ r. r.0.items ≡ map (λ s. s.worker.log) seats.entry.items) }
+    ensures passes { IfOk result (λ r. r.1.items ≡ map (λ s. s.passes) seats.entry.items) }
+{
+    let mut logs = Vec::new(alloc);
+    let mut passes = Vec::new(alloc);
+    let mut left = VecDeque::from(seats);
+    while let Some(seat) = left.pop_front() {
+        let (log, own) = take_apart(seat);
+        if logs.push(log).is_err() || passes.push(own).is_err() {
+            abandon_all(left.into());
+            return Err(OutOfMemory);
+        }
+    }
+    left.destroy_empty();
+    Ok((logs, passes))
+}

@@ -1,0 +1,20 @@
+//! A node: the threads of a setup, each with links and a log of its own, the rings and the slot through
+//! which they exchange, and the reactors that drive their turns, beside each other or by a schedule.
+#![tactic(auto)]
+
+mod building;
+mod ending;
+mod history;
+mod node;
+mod run;
+mod schedule;
+mod seat;
+#[cfg(test)]
+mod tests;
+mod turning;
+mod worker;
+mod working;
+
+pub use history::History;
+pub use node::{Node, NodeState};
+pub use run::{Drive, play};

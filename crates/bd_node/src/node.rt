@@ -1,0 +1,345 @@
+//! A node: the seats of all threads, and what they share.
+ghost use Rattle.std.specs.Prelude.{◌≡◌, ◌<◌, ◌≤◌, [], All, None, length, IfOk, OnOk};
+ghost use Rattle.std.specs.List.{list_all};
+ghost use Rattle.bd_machine.specs.Run.{IsCompleteRun};
+ghost use Rattle.bd_node.specs.Schedule.{advance, advance_by};
+ghost use Rattle.bd_node.specs.Seats.{AllWentOn, IsSitting};
+ghost use Rattle.bd_node.specs.Whole.{HasSameFlag, HasSameSetup, IsNode, are_all_taken, halt_of, has_taken, is_spent, is_at_rest, is_idle, is_over, seat_goes, seat_has_destructed, seat_has_stamps, seat_is_blocked, seat_rests, seed_of, setup_in, state_of};
+
+use crate::building::{abandon_all, seats_of};
+use crate::ending::{greatest, learn_all, take_all_apart};
+use crate::history::History;
+use crate::schedule::Schedule;
+use crate::seat::Seat;
+use crate::turning::Watch;
+use bd_base::{OutOfMemory, Rows, Setup};
+use bd_log::merge;
+use bd_outside::Gate;
+use bd_registry::Registry;
+use bd_seat::SeatNo;
+use bd_thread::Turned;
+use bd_wires::{Wires, connect, disconnect};
+use std::alloc::Global;
+use std::sync::Wait;
+use std::thread::{self, Threads};
+
+/// How many turns a round by the schedule has.
+const TURNS: u32 = 256;
+
+/// How far a node is.
+#[derive(Clone, Copy, Debug, PartialEq, Eq)]
+pub enum NodeState {
+    /// Nothing is under way and every script waits or is at its end: a Shutdown may come.
+    Idle,
+    /// It was shut, nothing is under way and every device was destructed: the run is complete.
+    Done,
+    Busy,
+}
+
+/// The threads of a setup, each at its seat, and what they share. Once a call answered an error, only
+/// `abandon` may be called.
+pub struct Node<'a> {
+    pub(crate) alloc: Global,
+    pub(crate) setup: &'a Setup,
+    pub(crate) wires: Wires,
+    pub(crate) seats: Vec<Seat<'a>>,
+    pub(crate) schedule: Schedule,
+    pub(crate) shut: bool,
+    pub(crate) rounds: u64,
+}
+
+fn all_rest<'a>(seats: &[Seat<'a>]) -> bool
+    ensures { result ≡ list_all seat_rests seats.now }
+{
+    seats
+        .iter()
+        .all(|seat| seat.worker.thread.rests(&seat.worker.links))
+}
+
+fn are_all_blocked<'a>(seats: &[Seat<'a>]) -> bool
+    ensures { result ≡ list_all seat_is_blocked seats.now }
+{
+    seats
+        .iter()
+        .all(|seat| seat.worker.thread.is_blocked(&seat.worker.links))
+}
+
+fn have_all_destructed<'a>(seats: &[Seat<'a>]) -> bool
+    ensures { result ≡ list_all seat_has_destructed seats.now }
+{
+    seats
+        .iter()
+        .all(|seat| seat.worker.thread.has_destructed_all())
+}
+
+// Whether each message that one thread put to the other was taken.
+fn has_taken<'a>(from: &Seat<'a>, to: &Seat<'a>) -> bool
+    ensures { result ≡ has_taken from.now to.now }
+{
+    let put = from.worker.thread.put_count(to.worker.me);
+    put == to.worker.thread.taken_count(from.worker.me)
+}
+
+// Whether each message of this thread was taken.
+fn are_taken_from<'a>(from: &Seat<'a>, seats: &[Seat<'a>]) -> bool
+    ensures { result ≡ list_all (λ to. has_taken from.now to) seats.now }
+{
+    seats.iter().all(|to| has_taken(from, to))
+}
+
+fn are_all_taken<'a>(seats: &[Seat<'a>]) -> bool
+    ensures { result ≡ are_all_taken seats.now }
+{
+    seats.iter().all(|from| are_taken_from(from, seats))
+}
+
+// Whether no seat has to halt.
+fn all_go<'a>(seats: &[Seat<'a>]) -> bool
+    ensures { result ≡ list_all seat_goes seats.now }
+{
+    seats.iter().all(|seat| seat.halted.is_none())
+}
+
+// Whether no thread's stamps are spent.
+fn all_have_stamps<'a>(seats: &[Seat<'a>]) -> bool
+    ensures { result ≡ list_all seat_has_stamps seats.now }
+{
+    seats.iter().all(|seat| !is_spent(seat.halted))
+}
+
+// Why seats have to halt, where some have to: a thread's stamps are spent, or there was no memory.
+fn halt_of<'a>(seats: &[Seat<'a>]) -> SeatNo
+    ensures { result ≡ halt_of seats.now }
+{
+    if all_have_stamps(seats) {
+        SeatNo::OutOfMemory
+    } else {
+        SeatNo::StampsSpent
+    }
+}
+
+fn is_spent(halted: Option<SeatNo>) -> bool
+    ensures { result ≡ is_spent halted }
+{
+    matches!(halted, Some(SeatNo::StampsSpent))
+}
+
+// Each seat has its turns of a round, on as many system threads as there are reactors.
+fn turn_all<'a, R: Threads + Wait + Sync, G: Gate + Sync>(
+    rt: &R,
+    alloc: Global,
+    seats: &mut [Seat<'a>],
+    wires: &Wires,
+    watch: &Watch<G>,
+)
+    requires sits { All (IsSitting wires.now) seats.old }
+    ensures len { length seats.new ≡ length seats.old }
+    ensures each { AllWentOn wires.now seats.old seats.new }
+{
+    let reactors = watch.reactors(seats.len());
+    thread::for_each_mut(
+        rt,
+        seats,
+        reactors,
+        &|_, seat: &mut Seat| { seat.turns(rt, alloc, wires, watch) },
+    );
+}
+
+impl<'a> Node<'a> {
+    /// A node whose threads did nothing yet, with the schedule of this seed.
+    pub fn build<R: Wait>(
+        rt: &R,
+        alloc: Global,
+        setup: &'a Setup,
+        seed: u64,
+    ) -> Result<Node<'a>, OutOfMemory>
+        requires { 0 < setup.now.threads }
+        ensures node { IfOk result IsNode }
+        ensures setup { IfOk result (λ node. setup_in node ≡ setup.now) }
+        ensures seed { IfOk result (λ node. seed_of node ≡ seed) }
+    {
+        let registry = Registry::of(alloc, setup)?;
+        let (wires, passes) = connect(rt, alloc, registry, setup.threads)?;
+        let seats = seats_of(alloc, setup, passes)?;
+        Ok(Node {
+            alloc,
+            setup,
+            wires,
+            seats,
+            schedule: Schedule { state: seed },
+            shut: false,
+            rounds: 0,
+        })
+    }
+
+    /// A turn of a thread; quiet where there is no such thread.
+    pub fn turn_of<R: Wait>(&mut self, rt: &R, thread: u32) -> Result<Turned, SeatNo>
+        requires { IsNode self.old }
+        ensures node { OnOk result (IsNode self.new) }
+        ensures setup { OnOk result (HasSameSetup self.old self.new) }
+        ensures flag { OnOk result (HasSameFlag self.old self.new) }
+        ensures schedule { OnOk result (seed_of self.new ≡ seed_of self.old) }
+        ensures none { (setup_in self.old).threads ≤ thread → OnOk result (self.new ≡ self.old) }
+    {
+        let place = thread as usize;
+        if place >= self.seats.len() {
+            return Ok(Turned::Quiet);
+        }
+        let seat = &mut self.seats[place];
+        seat.turn(rt, self.alloc, &self.wires)
+    }
+
+    // The next turn by the schedule; whether it moved.
+    fn next_turn<R: Wait>(&mut self, rt: &R) -> Result<bool, SeatNo>
+        requires { IsNode self.old }
+        ensures node { OnOk result (IsNode self.new) }
+        ensures setup { OnOk result (HasSameSetup self.old self.new) }
+        ensures flag { OnOk result (HasSameFlag self.old self.new) }
+        ensures schedule { OnOk result (seed_of self.new ≡ advance (seed_of self.old)) }
+    {
+        let thread = self.schedule.next(self.setup.threads);
+        let turned = self.turn_of(rt, thread)?;
+        Ok(turned != Turned::Quiet)
+    }
+
+    /// 256 turns by the schedule, which goes on from call to call. True where some turn moved.
+    pub fn round_by<R: Wait>(&mut self, rt: &R) -> Result<bool, SeatNo>
+        requires { IsNode self.old }
+        ensures node { OnOk result (IsNode self.new) }
+        ensures setup { OnOk result (HasSameSetup self.old self.new) }
+        ensures flag { OnOk result (HasSameFlag self.old self.new) }
+        ensures schedule { OnOk result (seed_of self.new ≡ advance_by 256 (seed_of self.old)) }
+    {
+        let mut moved = false;
+        for _ in 0..TURNS {
+            let turned = self.next_turn(rt)?;
+            moved = moved || turned;
+        }
+        Ok(moved)
+    }
+
+    /// A round: this number of reactors (from 1 on; else one) share the threads, each a run of neighbours, and
+    /// give each up to 256 turns, until one is quiet. Where there are more than one they run beside each other,
+    /// if the system has threads for them. Each passes the gate before a turn.
+    pub fn round<R: Threads + Wait + Sync, G: Gate + Sync>(
+        &mut self,
+        rt: &R,
+        reactors: u32,
+        gate: &G,
+    ) -> Result<(), SeatNo>
+        requires { IsNode self.old }
+        ensures node { OnOk result (IsNode self.new) }
+        ensures setup { OnOk result (HasSameSetup self.old self.new) }
+        ensures flag { OnOk result (HasSameFlag self.old self.new) }
+        ensures schedule { OnOk result (seed_of self.new ≡ seed_of self.old) }
+    {
+        self.rounds = self.rounds.saturating_add(1);
+        let watch = Watch {
+            gate,
+            round: self.rounds,
+            threads: self.setup.threads.div_ceil(reactors.max(1)),
+        };
+        turn_all(
+            rt,
+            self.alloc,
+            self.seats.as_mut_slice(),
+            &self.wires,
+            &watch,
+        );
+        if all_go(self.seats.as_slice()) {
+            Ok(())
+        } else {
+            Err(halt_of(self.seats.as_slice()))
+        }
+    }
+
+    fn is_at_rest(&self) -> bool
+        ensures { result ≡ is_at_rest self.now }
+    {
+        all_rest(self.seats.as_slice()) && are_all_taken(self.seats.as_slice())
+    }
+
+    fn is_idle(&self) -> bool
+        ensures { result ≡ is_idle self.now }
+    {
+        self.is_at_rest() && are_all_blocked(self.seats.as_slice())
+    }
+
+    fn is_over(&self) -> bool
+        ensures { result ≡ is_over self.now }
+    {
+        self.is_at_rest() && have_all_destructed(self.seats.as_slice())
+    }
+
+    /// How far the node is.
+    pub fn state(&self) -> NodeState
+        ensures { result ≡ state_of self.now }
+    {
+        if self.shut {
+            if self.is_over() {
+                NodeState::Done
+            } else {
+                NodeState::Busy
+            }
+        } else if self.is_idle() {
+            NodeState::Idle
+        } else {
+            NodeState::Busy
+        }
+    }
+
+    /// Thread 0 shuts down, with a stamp above all others. False where the registry wasn't in its slot; then
+    /// the node isn't shut.
+    pub fn shut<R: Wait>(&mut self, rt: &R) -> Result<bool, SeatNo>
+        requires node { IsNode self.old }
+        requires idle { state_of self.old ≡ NodeState.Idle }
+        ensures node { OnOk result (IsNode self.new) }
+        ensures setup { OnOk result (HasSameSetup self.old self.new) }
+        ensures shut { IfOk result (λ shut. self.new.shut ≡ shut) }
+    {
+        let above = greatest(self.seats.as_slice());
+        let first = &mut self.seats[0];
+        let Some(stamp) = first.shut(rt, self.alloc, &self.wires, above)? else {
+            return Ok(false);
+        };
+        learn_all(self.seats.as_mut_slice(), stamp);
+        self.shut = true;
+        Ok(true)
+    }
+
+    /// The history of a run that is complete: the threads' logs, merged by stamp and thread.
+    pub fn settle<R: Wait>(self, rt: &R) -> Result<History, OutOfMemory>
+        requires node { IsNode self }
+        requires done { state_of self ≡ NodeState.Done }
+        ensures complete { IfOk result (λ history. IsCompleteRun (setup_in self.entry) [] history) }
+    {
+        let Node {
+            alloc,
+            setup: _,
+            wires,
+            seats,
+            schedule: _,
+            shut: _,
+            rounds: _,
+        } = self;
+        let (logs, passes) = take_all_apart(alloc, seats)?;
+        let registry = disconnect(rt, wires, passes);
+        let _journal = registry.journal();
+        let merged = merge(alloc, logs)?;
+        Ok(History::of(Rows::from_vec(merged)))
+    }
+
+    /// Abandons every ticket, where the run halts.
+    pub fn abandon(self) {
+        let Node {
+            alloc: _,
+            setup: _,
+            wires: _,
+            seats,
+            schedule: _,
+            shut: _,
+            rounds: _,
+        } = self;
+        abandon_all(seats);
+    }
+}

@@ -1,0 +1,97 @@
+//! A whole run.
+ghost use Rattle.std.specs.Prelude.{◌≡◌, ◌<◌, [], true, IfOk, OnOk};
+ghost use Rattle.bd_machine.specs.Run.{IsCompleteRun};
+ghost use Rattle.bd_node.specs.declared.node.NodeState.TheVariants as states;
+ghost use Rattle.bd_node.specs.Whole.{HasSameSetup, IsNode, state_of};
+
+use crate::history::History;
+use crate::node::{Node, NodeState};
+use bd_base::{OutOfMemory, Setup};
+use bd_outside::Gate;
+use bd_seat::SeatNo;
+use std::alloc::Global;
+use std::sync::Wait;
+use std::thread::Threads;
+
+/// Who drives the threads of a node.
+#[derive(Clone, Copy, Debug, PartialEq, Eq)]
+pub enum Drive {
+    /// One system thread gives turns by the schedule of this seed.
+    Schedule(u64),
+    /// This number of reactors, beside each other.
+    Reactors(u32),
+}
+
+fn seed_of(drive: Drive) -> u64 {
+    match drive {
+        Drive::Schedule(seed) => seed,
+        Drive::Reactors(_) => 0,
+    }
+}
+
+// A round as the drive has it.
+fn round<'a, R: Threads + Wait + Sync, G: Gate + Sync>(
+    rt: &R,
+    node: &mut Node<'a>,
+    drive: Drive,
+    gate: &G,
+) -> Result<(), SeatNo>
+    requires { IsNode node.old }
+    ensures node { OnOk result (IsNode node.new) }
+    ensures setup { OnOk result (HasSameSetup node.old node.new) }
+{
+    match drive {
+        Drive::Schedule(_) => {
+            node.round_by(rt)?;
+            Ok(())
+        }
+        Drive::Reactors(reactors) => node.round(rt, reactors, gate),
+    }
+}
+
+// Rounds until every script is blocked and the node was shut, and then until it is done.
+fn play_out<'a, R: Threads + Wait + Sync, G: Gate + Sync>(
+    rt: &R,
+    node: &mut Node<'a>,
+    drive: Drive,
+    gate: &G,
+) -> Result<(), SeatNo>
+    requires { IsNode node.old }
+    ensures node { OnOk result (IsNode node.new) }
+    ensures setup { OnOk result (HasSameSetup node.old node.new) }
+    ensures done { OnOk result (state_of node.new ≡ states.Done) }
+{
+    for _ in rt.forever() {
+        match node.state() {
+            NodeState::Done => return Ok(()),
+            NodeState::Idle => {
+                node.shut(rt)?;
+            }
+            NodeState::Busy => round(rt, node, drive, gate)?,
+        }
+    }
+    unreachable!()
+}
+
+/// Plays the setup's scripts to their end on as many threads as it has: however they are driven, what is
+/// returned is a complete run of the machine. It answers out of memory also where a number of a thread
+/// runs out, as after 2^62 requests or 2^128 stamps.
+pub fn play<R: Threads + Wait + Sync, G: Gate + Sync>(
+    rt: &R,
+    alloc: Global,
+    setup: &Setup,
+    drive: Drive,
+    gate: &G,
+) -> Result<History, OutOfMemory>
+    requires { 0 < setup.now.threads }
+    ensures { IfOk result (λ history. IsCompleteRun setup.now [] history) }
+{
+    let mut node = Node::build(rt, alloc, setup, seed_of(drive))?;
+    match play_out(rt, &mut node, drive, gate) {
+        Ok(()) => node.settle(rt),
+        Err(_) => {
+            node.abandon();
+            Err(OutOfMemory)
+        }
+    }
+}

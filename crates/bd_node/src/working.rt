@@ -1,0 +1,60 @@
+//! What a worker does in a turn.
+ghost use Rattle.std.specs.Prelude.{◌≡◌, [], OnOk};
+ghost use Rattle.bd_thread.specs.Work.{wants_registry};
+ghost use Rattle.bd_node.specs.Seats.{GoesAlone, GoesWith, IsLentTo, IsWorking};
+
+use crate::worker::Worker;
+use bd_base::{Entry, Rows};
+use bd_registry::Registry;
+use bd_seat::{SeatNo, append_all, catch_up, take_over};
+use bd_thread::Turned;
+use std::alloc::Global;
+use std::mem;
+
+impl<'a> Worker<'a> {
+    /// Whether a turn could use the registry.
+    pub fn wants_registry(&self) -> bool
+        ensures { result ≡ wants_registry self.now.thread self.now.links }
+    {
+        self.thread.wants_registry(&self.links)
+    }
+
+    // What the last turn did, taken out of the links.
+    fn take_entries(&mut self, alloc: Global) -> Rows<Entry>
+        ensures entries { result ≡ self.old.links.entries }
+        ensures left { self.new ≡ record self.old { links = record self.old.links { entries = [] } } }
+    {
+        mem::replace(&mut self.links.entries, Rows::new(alloc))
+    }
+
+    /// A turn that asks the registry for nothing. What it did is in the log.
+    pub fn work(&mut self, alloc: Global) -> Result<Turned, SeatNo>
+        requires { IsWorking self.old }
+        ensures { OnOk result (GoesAlone self.old self.new) }
+    {
+        let turned = self.thread.work(&mut self.links)?;
+        let entries = self.take_entries(alloc);
+        append_all(&mut self.log, entries)?;
+        Ok(turned)
+    }
+
+    /// A turn with the registry, of whose journal the thread saw this number of rows. What it did is in the
+    /// log, and its events are in the registry.
+    pub fn work_with(
+        &mut self,
+        alloc: Global,
+        lent: &mut Registry,
+        seen: usize,
+    ) -> Result<Turned, SeatNo>
+        requires { IsLentTo self.old seen lent.old }
+        ensures { OnOk result (GoesWith seen self.old lent.old self.new lent.new) }
+    {
+        self.log.meet(lent.last_stamp());
+        let _rows = lent.journal();
+        catch_up(alloc, &mut self.links.registry, lent, seen)?;
+        let turned = self.thread.turn(&mut self.links)?;
+        let entries = self.take_entries(alloc);
+        take_over(alloc, self.me, &mut self.log, lent, entries)?;
+        Ok(turned)
+    }
+}

@@ -1,5 +1,0 @@
-pub mod Places
-pub mod Turns
-pub mod Turning
-pub mod Rest
-pub mod Starts

@@ -1,5 +1,0 @@
-use Rattle.bd_reactor.specs.Whole.{IsNode}
-use Rattle.bd_reactor.proofs.tests.turns.Given as goal
-
-abbrev pub invariant-loop-thread : goal.invariant-loop-thread
-invariant-loop-thread l = IsNode l.node
