@@ -1,25 +1,30 @@
-"""Checks a report against its script: what has to hold in whichever order the threads took their turns.
+"""Checks a report against its script: what has to hold in whichever order the threads took their turns, and where they
+took them truly beside each other.
 
-`faults(text, threads, name, blocks, size, report)` gives a list of texts, one for each thing that can't be; it is empty
-where nothing is wrong. It knows nothing of the program but docs/FORMATS.md.
+`faults(text, threads, devices, report)`, with devices as a list of (name, blocks, size), gives a list of texts, one for each
+thing that can't be; it is empty where nothing is wrong. It knows nothing of the program but docs/FORMATS.md.
 
 How it goes: the lines of the threads are partly ordered, each thread's among themselves and the post of a mark before the
-await of it. From the script, the report and this order follows what each thread is certain of at each line: that the
-removal began, that the device was destructed, that a handle was told. A line may only come to what fits all that is
-certain there. Where something isn't certain, each outcome that some order gives is let pass.
+await of it. From the script, the report and this order follows what each thread is certain of at each line: that a removal
+began, that a device was destructed, that a handle was told. A line may only come to what fits all that is certain there. Where
+something isn't certain, each outcome that some order gives is let pass. For opens, claims, closes and removals one order is
+looked for in which all of them come to what the report says. Data may be that of a write that isn't certain to come later,
+or to be covered by another one.
 """
 
 import functools
 import hashlib
 import itertools
 import re
-from bisect import bisect_left
 
 PERM, BADF, BUSY, EXIST, NODEV, INVAL = 1, 9, 16, 17, 19, 22
 MOST_BYTES = 262144
 MOST_OPEN = 1024
-# Blocks that several orders leave different are tried in at most so many ways.
-MOST_WAYS = 64
+# Blocks that several orders leave different are tried in so many ways at most, and over so many bytes.
+MOST_WAYS = 1 << 14
+MOST_HASHED = 1 << 26
+# An order of opens, claims and closes is looked for in at most so many steps.
+MOST_STEPS = 20000
 WRITERS = ("write", "zeroes", "unmap")
 REQUESTS = ("read", "write", "zeroes", "unmap", "flush")
 
@@ -36,6 +41,7 @@ class Line:
         self.words = words[1:]
         self.result = None
         self.place = None  # its place among the lines of its thread
+        self.hold = None  # the handle to which its name is bound, as the registry has it
         self.clock = None  # for each thread, how many of its lines are certain to come before this one, or are it
 
     def is_(self, *result):
@@ -83,22 +89,36 @@ class Patterns:
     """The bytes of a block by its value."""
 
     def __init__(self, size):
+        self.size = size
         # A pattern repeats every 256 bytes.
         self.blocks = {first: bytes((first + 7 * i) % 256 for i in range(256)) * (size // 256) for first in range(256)}
         self.blocks[None] = bytes(size)
 
     def digests(self, choices):
         """The first bytes and the digest of each way to choose a value for each block, or None where there are too many."""
-        ways = 1
+        ways = hashed = 1
         for choice in choices:
             ways *= len(choice)
-            if ways > MOST_WAYS:
+            hashed += ways * self.size
+            if ways > MOST_WAYS or hashed > MOST_HASHED:
                 return None
-        found = set()
-        for values in itertools.product(*choices):
-            data = b"".join(self.blocks[value] for value in values)
-            found.add((data[:8].hex(), hashlib.sha256(data).hexdigest()))
-        return found
+        found = [(None, hashlib.sha256())]
+        for one, same in itertools.groupby(choices, lambda choice: len(choice) == 1):
+            if one:
+                data = b"".join(self.blocks[value] for choice in same for value in choice)
+                for place, (first, sha) in enumerate(found):
+                    sha.update(data)
+                    found[place] = (data[:8] if first is None else first, sha)
+                continue
+            for choice in same:
+                more = []
+                for first, sha in found:
+                    for value in choice:
+                        other = sha.copy()
+                        other.update(self.blocks[value])
+                        more.append((self.blocks[value][:8] if first is None else first, other))
+                found = more
+        return {(first.hex(), sha.hexdigest()) for first, sha in found}
 
 
 @functools.lru_cache(None)
@@ -106,11 +126,44 @@ def patterns_of(size):
     return Patterns(size)
 
 
+# ---- devices, and what is known of them
+
+class Device:
+    def __init__(self, name, blocks, size):
+        self.name, self.blocks, self.size = name, blocks, size
+        self.removal = None  # the line that began its removal, if any was done
+        self.holds = []
+
+
+class Hold:
+    """A handle as the registry has it: the lines of its open, its claim and its close, where they were done."""
+
+    def __init__(self, device, line):
+        self.device, self.opened, self.claimed, self.closed, self.kind = device, line, None, None, None
+
+    def claims(self):
+        """From which line to which it holds a claim; None for one that holds none."""
+        return self.claimed and (self.claimed, self.closed)
+
+    def writes(self):
+        if self.opened.words[2] == "w":
+            return self.opened, self.closed
+        return (self.claimed, self.closed) if self.kind and self.kind[0] != "none" else None
+
+    def writes_beside(self, kind):
+        """From where to where it writes without a claim of this kind."""
+        writes = self.writes()
+        if writes and self.kind == kind:
+            return None if writes[0] is self.claimed else (writes[0], self.claimed)
+        return writes
+
+
 # ---- what a thread is certain of
 
 class Handle:
-    def __init__(self, line):
+    def __init__(self, line, device):
         self.line = line
+        self.device = device
         self.writes = line.words[2] == "w"
         self.is_told = False  # its remove event was taken
         self.is_shut = False  # its thread closed it by itself
@@ -121,19 +174,18 @@ class Handle:
 class Seat:
     def __init__(self):
         self.names = {}
-        self.began = False
-        self.destructed = False
-        self.is_marked = False
-        self.clock = None
+        # The devices whose removal began, those that were destructed, and those that are marked here.
+        self.began, self.destructed, self.marked = set(), set(), set()
 
-    def learn(self, began, destructed):
-        self.began |= began or destructed
-        self.destructed |= destructed
+    def learn(self, began, destructed=()):
+        self.began.update(began, destructed)
+        self.destructed.update(destructed)
 
 
 class Check:
-    def __init__(self, text, threads, name, blocks, size, report):
-        self.threads, self.name, self.blocks, self.size = threads, name, blocks, size
+    def __init__(self, text, threads, devices, report):
+        self.threads = threads
+        self.devices = {device[0]: Device(*device) for device in devices}
         self.faults = []
         self.lines = script_lines(text)
         self.of_thread = [[] for _ in range(threads)]
@@ -225,77 +277,172 @@ class Check:
 
     # ---- removal
 
-    def find_removal(self):
-        """Finds the one `remove` that began the removal, if any was done."""
-        tried = [line for line in self.sorted if line.word == "remove" and line.words[0] == self.name]
-        began = [line for line in tried if line.is_("ok")]
-        if len(began) > 1:
-            self.fault(began[1], "a removal began twice; before at line %d" % began[0].number)
-        if tried and not began:
-            self.fault(tried[0], "the first removal has to be ok, and none is")
-        self.removal = began[0] if began else None
+    def find_removals(self):
+        """Finds of each device the one `remove` that began its removal, if any was done."""
+        for device in self.devices.values():
+            tried = [line for line in self.sorted if line.word == "remove" and line.words[0] == device.name]
+            began = [line for line in tried if line.is_("ok")]
+            if len(began) > 1:
+                self.fault(began[1], "a removal began twice; before at line %d" % began[0].number)
+            if tried and not began:
+                self.fault(tried[0], "the first removal has to be ok, and none is")
+            device.removal = began[0] if began else None
 
-    def may_be_removing(self, line):
+    def may_be_removing(self, line, device):
         """Whether some order has the removal begun before this line."""
-        return self.removal is not None and line is not self.removal and not self.is_before(line, self.removal)
+        removal = device.removal
+        return removal is not None and line is not removal and not self.is_before(line, removal)
 
-    # ---- claims
+    # ---- the registry: opens, claims, closes and removals
 
-    def find_registry_lines(self):
-        """Of each thread the lines that changed a handle or a claim."""
-        self.changes = [[] for _ in range(self.threads)]
-        for line in self.sorted:
-            if line.word in ("open", "close", "claim") and line.is_("ok"):
-                self.changes[line.thread].append(line)
-        self.change_places = [[line.place for line in changes] for changes in self.changes]
-
-    def holders_at(self, line):
-        """The handles that are open at a line, as (thread, name) with [writes, claim]; None where that isn't certain."""
-        holders = {}
+    def find_holds(self):
+        """Gives each line that names a handle what that name is bound to there."""
         for thread in range(self.threads):
-            count = bisect_left(self.change_places[thread], line.clock[thread])
-            if thread == line.thread:
-                count = bisect_left(self.change_places[thread], line.place)
-            else:
-                for other in self.changes[thread][count:]:
-                    if not self.is_before(line, other):
-                        return None
-            for change in self.changes[thread][:count]:
-                key = (thread, change.words[0])
-                if change.word == "open":
-                    holders[key] = [change.words[2] == "w", None]
-                elif change.word == "close":
-                    holders.pop(key, None)
-                elif key in holders:
-                    kind = tuple(change.words[1:])
-                    holders[key][1] = kind
-                    holders[key][0] |= kind[0] != "none"
-        return holders
+            names = {}
+            for line in self.of_thread[thread]:
+                if not line.is_done():
+                    break
+                if line.word == "open":
+                    device = self.devices.get(line.words[1])
+                    if line.is_("ok") and device:
+                        names[line.words[0]] = line.hold = Hold(device, line)
+                        device.holds.append(line.hold)
+                elif line.word in ("close", "claim", "gone") + REQUESTS and line.words[0] in names:
+                    line.hold = names[line.words[0]]
+                    if line.word == "claim" and line.is_("ok") and not line.hold.claimed:
+                        line.hold.claimed, line.hold.kind = line, tuple(line.words[1:])
+                    if line.word == "close" and line.is_("ok"):
+                        line.hold.closed = line
+                        del names[line.words[0]]
 
-    def claim_is_refused(self, line):
-        """Whether the claim is refused with errno 1 by the table of claims; None where that isn't certain."""
-        holders = self.holders_at(line)
-        if holders is None:
-            return None
-        own = (line.thread, line.words[0])
-        kind = tuple(line.words[1:])
-        claims = [claim for _, claim in holders.values() if claim is not None]
-        others = [holder for key, holder in holders.items() if key != own]
-        if holders.get(own, [False, None])[1] is not None:
+    def causes(self, line):
+        """What stands in the way of a claim or an open, each as the lines from which to which it does."""
+        if line.word == "open":
+            holds = self.devices[line.words[1]].holds
+            return [hold.claims() for hold in holds if hold.claims()] if line.words[2] == "w" else []
+        own, kind, found = line.hold, tuple(line.words[1:]), []
+        for hold in own.device.holds:
+            if hold is own:
+                if own.claimed and own.claimed is not line:
+                    found.append(own.claims())
+                if kind[0] == "none" and own.opened.words[2] == "w":
+                    found.append((own.opened, own.closed))
+                continue
+            if hold.claims() and (kind[0] in ("exclusive", "one") or hold.kind != kind):
+                found.append(hold.claims())
+            writes = hold.writes_beside(kind) if kind[0] == "shared" else hold.writes() if kind[0] != "exclusive" else None
+            if writes:
+                found.append(writes)
+        return found
+
+    def is_refused(self, line):
+        """Whether a claim or an open is refused with errno 1 by the table of claims; None where that isn't certain."""
+        may = False
+        for begin, end in self.causes(line):
+            if self.is_before(begin, line) and (end is None or self.is_before(line, end)):
+                return True
+            if not self.is_before(line, begin) and (end is None or not self.is_before(end, line)):
+                may = True
+        return None if may else False
+
+    def fits(self, line, device, holds, removed, marks):
+        """Whether the registry answers this line so, with these handles open: each hold with (writes, kind)."""
+        word, result = line.word, line.result
+        if word == "await":
+            return line.words[0] in marks or line.words[0] not in self.posts
+        if word == "open" and line.words[1] == device.name and line.hold or word == "claim" and line.hold and line.hold.device is device:
+            claims = [(hold, kind) for hold, (_, kind) in holds.items() if kind]
+            writers = [(hold, kind) for hold, (writes, kind) in holds.items() if writes]
+        if word == "open" and line.words[1] == device.name:
+            if result == ("ok",):
+                return not removed and (line.words[2] == "r" or not claims)
+            if result == ("errno", PERM):
+                return not removed and any(kind for _, kind in holds.values())
+            return removed or result != ("errno", NODEV)
+        if word == "remove" and line.words[0] == device.name:
+            return removed != (result == ("ok",))
+        if line.hold is None or line.hold.device is not device:
             return True
-        if kind[0] == "exclusive":
-            return bool(claims)
-        if kind[0] == "one":
-            return bool(claims) or any(writes for writes, _ in others)
-        if kind[0] == "none":
-            return any(claim != kind for claim in claims) or any(writes for writes, _ in holders.values())
-        return any(claim != kind for claim in claims) or any(writes and claim != kind for writes, claim in others)
+        if word == "claim" and result in (("ok",), ("errno", PERM)):
+            own, kind = line.hold, tuple(line.words[1:])
+            if kind[0] in ("exclusive", "one"):
+                refused = bool(claims)
+            else:
+                refused = holds[own][1] is not None or any(other != kind for _, other in claims)
+            if kind[0] == "one":
+                refused |= any(hold is not own for hold, _ in writers)
+            elif kind[0] == "none":
+                refused |= bool(writers)
+            elif kind[0] == "shared":
+                refused |= any(hold is not own and other != kind for hold, other in writers)
+            return not removed and refused == (result != ("ok",))
+        if word == "claim" and result == ("errno", INVAL):
+            return not removed
+        return removed or result != ("errno", NODEV) and word != "gone"
 
-    def open_is_refused(self, line):
-        if line.words[2] != "w":
+    def changes(self, line, device, holds):
+        """Whether a line that fits makes a difference to what others are answered."""
+        if line.word == "remove":
+            return line.words[0] == device.name and line.is_("ok")
+        if not line.is_("ok") or line.hold is None or line.hold.device is not device:
             return False
-        holders = self.holders_at(line)
-        return None if holders is None else any(claim is not None for _, claim in holders.values())
+        if line.word == "open":
+            return line.words[2] == "w"
+        return line.word == "claim" or line.word == "close" and any(holds[line.hold])
+
+    def done_to(self, line, device, holds):
+        if line.is_("ok") and line.hold is not None and line.hold.device is device:
+            if line.word == "open":
+                holds[line.hold] = (line.words[2] == "w", None)
+            elif line.word == "claim":
+                kind = tuple(line.words[1:])
+                holds[line.hold] = (holds[line.hold][0] or kind[0] != "none", kind)
+            elif line.word == "close":
+                del holds[line.hold]
+
+    def check_order_at(self, device):
+        """Looks for one order in which all opens, claims, closes and removals of a device come to what the report says."""
+        tasks = [((0,) * self.threads, {}, False, frozenset())]
+        seen, furthest = set(), None
+        while tasks:
+            places, holds, removed, marks = tasks.pop()
+            places, holds, marks = list(places), dict(holds), set(marks)
+            moved = True
+            while moved:
+                moved, choices = False, []
+                for thread in range(self.threads):
+                    lines = self.of_thread[thread]
+                    while places[thread] < len(lines):
+                        line = lines[places[thread]]
+                        if not line.is_done() or not self.fits(line, device, holds, removed, marks):
+                            break
+                        if self.changes(line, device, holds):
+                            choices.append(line)
+                            break
+                        self.done_to(line, device, holds)
+                        if line.word == "post" and line.is_("ok"):
+                            marks.add(line.words[0])
+                        places[thread] += 1
+                        moved = True
+            left = [lines[place] for lines, place in zip(self.of_thread, places) if place < len(lines) and lines[place].is_done()]
+            if not left:
+                return
+            if furthest is None or sum(places) > furthest[0]:
+                furthest = sum(places), left
+            key = tuple(places)
+            if key in seen:
+                continue
+            seen.add(key)
+            if len(seen) > MOST_STEPS:
+                return
+            # The last one is tried first: opens, then closes and claims, and removals only where nothing else is left.
+            choices.sort(key=lambda line: ("remove", "claim", "close", "open").index(line.word))
+            for line in choices:
+                after, others = list(places), dict(holds)
+                self.done_to(line, device, others)
+                after[line.thread] += 1
+                tasks.append((tuple(after), others, removed or line.word == "remove", frozenset(marks)))
+        self.fault(furthest[1][0], "no order of all opens, claims, closes and removals of %s gives this" % device.name)
 
     # ---- what each line may come to
 
@@ -311,46 +458,44 @@ class Check:
             for request in handle.open:
                 request.ended = line
                 if request.is_("aborted"):
-                    seat.is_marked = True
-                    seat.learn(True, False)
+                    seat.marked.add(handle.device)
+                    seat.learn([handle.device])
             handle.open = []
 
     def open_line(self, seat, line):
-        name, device, _ = line.words
+        name = line.words[0]
         handle = seat.names.get(name)
+        device = self.devices.get(line.words[1])
         results = []
-        maybe = self.may_be_removing(line)
         if handle is not None and not handle.is_shut:
-            if not seat.destructed:
+            if handle.device not in seat.destructed:
                 results.append(("errno", EXIST))
-            if maybe:
+            # The name is free once its handle was closed; what it answers then depends on the device.
+            if self.may_be_removing(line, handle.device) and line.result != ("errno", EXIST):
+                self.told(seat, handle)
+                self.shut(seat, handle, line)
+        if handle is None or handle.is_shut:
+            if device is None or device in seat.began:
                 results.append(("errno", NODEV))
-        elif device != self.name or seat.began:
-            results.append(("errno", NODEV))
-        else:
-            refused = self.open_is_refused(line)
-            if refused is not True:
-                results.append(("ok",))
-            if refused is not False:
-                results.append(("errno", PERM))
-            if maybe:
-                results.append(("errno", NODEV))
+            else:
+                refused = self.is_refused(line)
+                if refused is not True:
+                    results.append(("ok",))
+                if refused is not False:
+                    results.append(("errno", PERM))
+                if self.may_be_removing(line, device):
+                    results.append(("errno", NODEV))
         if not self.expect(line, *results):
             return
         if line.is_("ok"):
-            seat.names[name] = Handle(line)
+            seat.names[name] = Handle(line, device)
             self.opened.append(seat.names[name])
-        if line.is_errno(NODEV):
-            if device == self.name or handle is not None:
-                seat.learn(True, False)
-            if handle is not None:
-                # A name is free for an open only once its handle is closed.
-                self.told(seat, handle)
-                self.shut(seat, handle, line)
+        if line.is_errno(NODEV) and device is not None:
+            seat.learn([device])
 
     def told(self, seat, handle):
         handle.is_told = handle.refuses = True
-        seat.learn(True, False)
+        seat.learn([handle.device])
 
     def shut(self, seat, handle, line):
         handle.is_shut = True
@@ -363,11 +508,11 @@ class Check:
             self.expect(line, ("errno", BADF))
             return
         results = []
-        if not (handle.is_shut or handle.is_told or seat.destructed):
+        if not (handle.is_shut or handle.is_told or handle.device in seat.destructed):
             results.append(("ok",))
-        if self.may_be_removing(line):
+        if self.may_be_removing(line, handle.device):
             results.append(("errno", NODEV))
-        if line.result[0] == "busy" and not handle.is_shut and not seat.destructed:
+        if line.result[0] == "busy" and not handle.is_shut and handle.device not in seat.destructed:
             if 1 <= line.result[1] <= min(len(handle.open), MOST_OPEN):
                 results.append(line.result)
         if not self.expect(line, *results):
@@ -386,22 +531,22 @@ class Check:
             self.expect(line, ("errno", BADF))
             return
         results = []
-        if not (handle.is_shut or seat.began):
+        if not (handle.is_shut or handle.device in seat.began):
             if line.words[1:] == ["shared", "0"]:
                 results.append(("errno", INVAL))
             else:
-                refused = self.claim_is_refused(line)
+                refused = self.is_refused(line)
                 if refused is not True:
                     results.append(("ok",))
                 if refused is not False:
                     results.append(("errno", PERM))
-        if self.may_be_removing(line):
+        if self.may_be_removing(line, handle.device):
             results.append(("errno", NODEV))
         if self.expect(line, *results):
             if line.is_("ok") and line.words[1] != "none":
                 handle.writes = True
             if line.is_errno(NODEV):
-                seat.learn(True, False)
+                seat.learn([handle.device])
 
     def request_line(self, seat, line):
         handle = seat.names.get(line.words[0])
@@ -409,16 +554,17 @@ class Check:
             self.expect(line, ("errno", BADF))
             return
         results = []
-        if not (handle.refuses or handle.is_shut or seat.is_marked or seat.destructed):
+        device = handle.device
+        if not (handle.refuses or handle.is_shut or device in seat.marked or device in seat.destructed):
             lba, count = int(line.words[1]), int(line.words[2])
             if line.word != "read" and not handle.writes:
                 results.append(("errno", BADF))
-            elif count == 0 or count * self.size > MOST_BYTES or lba + count > self.blocks:
+            elif count == 0 or count * device.size > MOST_BYTES or lba + count > device.blocks:
                 results.append(("errno", INVAL))
             else:
                 results.append(line.result if line.result[0] == "success" else ("success",))
                 results.append(("aborted",))
-        if self.may_be_removing(line):
+        if self.may_be_removing(line, device):
             results.append(("errno", NODEV))
         if not self.expect(line, *results):
             return
@@ -427,27 +573,30 @@ class Check:
             handle.open.append(line)
         if line.is_errno(NODEV):
             handle.refuses = True
-            seat.learn(True, False)
+            seat.learn([device])
 
     def remove_line(self, seat, line):
-        if line.words[0] != self.name:
+        device = self.devices.get(line.words[0])
+        if device is None:
             self.expect(line, ("errno", NODEV))
             return
         results = []
-        if line is self.removal and not seat.began:
+        if line is device.removal and device not in seat.began:
             results.append(("ok",))
-        if self.may_be_removing(line):
-            results.append(("errno", NODEV))
-            if not seat.destructed:
+        if self.may_be_removing(line, device):
+            if device not in seat.destructed:
                 results.append(("errno", BUSY))
+            # A device is destructed once no handle on it is open.
+            if not any(hold.closed and self.is_before(line, hold.closed) for hold in device.holds):
+                results.append(("errno", NODEV))
         if self.expect(line, *results):
-            seat.learn(True, line.is_errno(NODEV))
+            seat.learn([device], [device] if line.is_errno(NODEV) else [])
 
     def gone_line(self, seat, line):
         handle = seat.names.get(line.words[0])
         if handle is None:
             self.expect(line, ("errno", BADF))
-        elif not line.is_("ok") or not self.may_be_removing(line):
+        elif not line.is_("ok") or not self.may_be_removing(line, handle.device):
             self.fault(line, "it may be ok, once a removal began")
         else:
             self.told(seat, handle)
@@ -469,7 +618,7 @@ class Check:
             if line.word == "wait":
                 self.end_requests(seat, list(seat.names.values()), line)
             elif line.word == "post":
-                line.knows = (seat.began, seat.destructed)
+                line.knows = (set(seat.began), set(seat.destructed))
             elif line.word == "await":
                 sources = self.posts[line.words[0]]
                 if len(sources) == 1:
@@ -489,9 +638,10 @@ class Check:
     def check_aborts(self):
         for line in self.sorted:
             if line.is_("aborted"):
-                if self.removal is None:
+                removal = line.hold.device.removal
+                if removal is None:
                     self.fault(line, "nothing was removed that could stop it")
-                elif line.ended is not None and self.is_before(line.ended, self.removal):
+                elif line.ended is not None and self.is_before(line.ended, removal):
                     self.fault(line, "it had ended before the removal began")
 
     def check_skipped(self):
@@ -502,52 +652,54 @@ class Check:
                 continue
             waits = line.word == "await" and line.words[0] not in self.posts
             if line.word == "gone":
-                waits = line.words[0] in self.seats[thread].names and self.removal is None
+                handle = self.seats[thread].names.get(line.words[0])
+                waits = handle is not None and handle.device.removal is None
             if not waits:
                 self.fault(line, "it has nothing to wait for")
 
     # ---- data
 
     def check_data(self):
-        patterns = patterns_of(self.size)
-        writers, values = {}, {}
+        """Checks what each read shows, and gives the digests that each device may have at the end."""
+        writes = {}
         for line in self.sorted:
             if line.word in WRITERS and line.is_("success"):
                 for block in self.blocks_of(line):
-                    writers.setdefault(block, set()).add(line.thread)
-                    values.setdefault(block, {None}).add(value_of(line, block))
-        zeros = {None}
-        last = {}
-        for thread in range(self.threads):
-            settled, batch = {}, []
+                    of_thread = writes.setdefault((line.hold.device, block), {}).setdefault(line.thread, ([], []))
+                    ended = len(self.lines) if line.ended is None else line.ended.place
+                    of_thread[0].append(line)
+                    of_thread[1].append(max(ended, of_thread[1][-1]) if of_thread[1] else ended)
+        for line in self.sorted:
+            if line.word == "read" and line.result[0] == "success":
+                device = line.hold.device
+                choices = [self.values_at(line, writes.get((device, block), {}), block) for block in self.blocks_of(line)]
+                self.check_read(patterns_of(device.size), line, choices)
+        digests = {}
+        for device in self.devices.values():
+            choices = [self.values_at(None, writes.get((device, block), {}), block) for block in range(device.blocks)]
+            digests[device.name] = patterns_of(device.size).digests(choices)
+        return digests
 
-            def end_batch():
-                written = {}
-                for line in batch:
-                    if line.word != "read":
-                        for block in self.blocks_of(line):
-                            written.setdefault(block, set()).add(value_of(line, block))
-                for line in batch:
-                    if line.word == "read":
-                        choices = []
-                        for block in self.blocks_of(line):
-                            if writers.get(block, set()) <= {thread}:
-                                choices.append(settled.get(block, zeros) | written.get(block, set()))
-                            else:
-                                choices.append(values[block])
-                        self.check_read(patterns, line, choices)
-                settled.update(written)
-                batch.clear()
-
-            for line in self.of_thread[thread]:
-                if line.result[0] == "success" and line.word != "flush":
-                    batch.append(line)
-                elif line.word == "wait":
-                    end_batch()
-            end_batch()
-            for block, choice in settled.items():
-                last.setdefault(block, set()).update(choice)
-        return patterns.digests([last.get(block, zeros) for block in range(self.blocks)])
+    def values_at(self, read, writes, block):
+        """What a block may hold for a read, or at the end, where `read` is None."""
+        had_ended = lambda line: line.ended is not None and (read is None or self.is_before(line.ended, read))
+        # Of each thread, so many lines had certainly come before a write that had ended before the read.
+        covered, is_written = [0] * self.threads, False
+        for lines, _ in writes.values():
+            last = next((line for line in reversed(lines) if had_ended(line)), None)
+            if last is not None:
+                is_written = True
+                covered = list(map(max, covered, last.clock))
+        found = set() if is_written else {None}
+        for thread, (lines, latest_ends) in writes.items():
+            for line, latest in zip(reversed(lines), reversed(latest_ends)):
+                if latest < covered[thread]:
+                    break
+                is_covered = line.ended is not None and line.ended.place < covered[thread]
+                is_later = read is not None and read.ended is not None and self.is_before(read.ended, line)
+                if not is_covered and not is_later:
+                    found.add(value_of(line, block))
+        return found
 
     def blocks_of(self, line):
         return range(int(line.words[1]), int(line.words[1]) + int(line.words[2]))
@@ -569,13 +721,13 @@ class Check:
         script did."""
         told = [handle for handle in self.opened if not hasattr(handle, "closed")]
         told.sort(key=lambda handle: (handle.line.thread, handle.line.place))
-        expected = ["gone %d %s %s" % (handle.line.thread, handle.line.words[0], self.name) for handle in told]
+        expected = ["gone %d %s %s" % (handle.line.thread, handle.line.words[0], handle.device.name) for handle in told]
         if self.gone_lines != expected:
             for text in expected:
-                if text not in self.gone_lines:
+                if self.gone_lines.count(text) < expected.count(text):
                     self.fault(None, "it lacks the line %r" % text)
             for text in self.gone_lines:
-                if text not in expected:
+                if text not in expected or self.gone_lines.count(text) > expected.count(text):
                     self.fault(None, "the line %r is too much" % text)
             if sorted(self.gone_lines) == sorted(expected):
                 self.fault(None, "its gone lines stand in another order")
@@ -588,34 +740,39 @@ class Check:
             counts.append([sum(ended)] + ended + [sum(line.result[0] == "errno" for line in lines)])
         text = ["thread %d accepted %d success %d failed %d aborted %d refused %d" % (thread, *counts[thread])
                 for thread in range(self.threads) if self.of_thread[thread]]
-        moved = []
-        for word in ("read", "write"):
-            done = [line for line in self.sorted if line.word == word and line.result[0] == "success"]
-            moved.append((len(done), sum(int(line.words[2]) for line in done) * self.size))
-        text.append("device %s malloc blocks %d size %d reads %d writes %d read_bytes %d write_bytes %d sha256 D" % (
-            self.name, self.blocks, self.size, moved[0][0], moved[1][0], moved[0][1], moved[1][1]))
+        for device in self.devices.values():
+            moved = []
+            for word in ("read", "write"):
+                done = [line for line in self.sorted if line.word == word and line.result[0] == "success" and line.hold.device is device]
+                moved.append((len(done), sum(int(line.words[2]) for line in done) * device.size))
+            text.append("device %s malloc blocks %d size %d reads %d writes %d read_bytes %d write_bytes %d sha256 D" % (
+                device.name, device.blocks, device.size, moved[0][0], moved[1][0], moved[0][1], moved[1][1]))
         text.append("end accepted %d success %d failed %d aborted %d" % tuple(map(sum, zip(*[count[:4] for count in counts]))))
-        shown = None
+        shown = {}
         ends = list(self.ends)
-        if len(ends) >= 2:
-            match = re.fullmatch(r"(device .* sha256 )([0-9a-f]{64})", ends[-2])
+        for place, line in enumerate(ends):
+            match = re.fullmatch(r"(device (\S+) .* sha256 )([0-9a-f]{64})", line)
             if match:
-                ends[-2], shown = match[1] + "D", match[2]
+                ends[place], shown[match[2]] = match[1] + "D", match[3]
         if ends != text:
             for pair in itertools.zip_longest(ends, text):
                 if pair[0] != pair[1]:
                     self.fault(None, "%r stands for %r" % pair)
-        elif digests is not None and shown not in {digest for _, digest in digests}:
-            self.fault(None, "no order leaves the content with the digest of its device line")
+            return
+        for name in self.devices:
+            if digests[name] is not None and shown[name] not in {digest for _, digest in digests[name]}:
+                self.fault(None, "no order leaves the content of %s with the digest of its device line" % name)
 
     def run(self):
         if not self.read_report() or not self.find_order():
             return self.faults
-        self.find_removal()
-        self.find_registry_lines()
+        self.find_removals()
+        self.find_holds()
         self.play()
         if self.faults:
             return self.faults
+        for device in self.devices.values():
+            self.check_order_at(device)
         self.check_aborts()
         self.check_skipped()
         digests = self.check_data()
@@ -624,5 +781,5 @@ class Check:
         return self.faults
 
 
-def faults(text, threads, name, blocks, size, report):
-    return Check(text, threads, name, blocks, size, report).run()
+def faults(text, threads, devices, report):
+    return Check(text, threads, devices, report).run()

@@ -1,13 +1,13 @@
 """Plays a script by the rules of docs/MODEL.md in an order by chance, and gives the report.
 
 It serves to try the checker: whatever the order, the checker must find nothing wrong with what comes out. It shares no
-code with the program or the checker, and knows one malloc device. Each thread acts in single steps; which thread is next,
+code with the program or the checker, and knows malloc devices. Each thread acts in single steps; which thread is next,
 and which of the things that it may do it does, is left to chance.
 """
 
 import hashlib
 import random
-from collections import deque
+from collections import Counter, deque
 
 WRITERS = ("write", "zeroes", "unmap", "flush")
 REQUESTS = ("read",) + WRITERS
@@ -16,9 +16,19 @@ REQUESTS = ("read",) + WRITERS
 STEPS = bytes(7 * i % 256 for i in range(256))
 
 
+class Device:
+    def __init__(self, place, home, name, blocks, size):
+        self.place, self.home, self.name, self.blocks, self.size = place, home, name, blocks, size
+        self.standing = "live"
+        self.named = False  # for destruction
+        self.queue, self.content = deque(), [bytes(size)] * blocks
+        self.moved = dict(read=[0, 0], write=[0, 0])
+        self.digest = None
+
+
 class Handle:
-    def __init__(self, thread, name, write):
-        self.thread, self.name, self.write, self.claim = thread, name, write, None
+    def __init__(self, thread, name, device, write):
+        self.thread, self.name, self.device, self.write, self.claim = thread, name, device, write, None
         self.is_open = self.was_told_open = self.is_gone = False
         self.requests = 0
 
@@ -31,20 +41,20 @@ class Request:
 class Thread:
     def __init__(self):
         self.lines, self.next, self.names, self.marks = [], 0, {}, set()
-        self.is_marked = False
+        self.marked = set()  # devices
         self.unsent, self.ended = [], []  # open requests whose piece is here: not sent, or back
         self.open = 0
         self.due = []  # messages to be put: (receiver, message)
-        self.owed = []  # what is to be done once: "drop", "destruct", "report"
+        self.owed = []  # what is to be done once: "drop", "destruct" or "report", with the device
         self.gone = []  # handles that it has to close
-        self.references, self.has_channel = 0, False
+        self.references, self.channels = Counter(), set()  # of devices
         self.counts = dict(accepted=0, success=0, failed=0, aborted=0, refused=0)
 
 
 class Imitation:
-    def __init__(self, text, threads, name, blocks, size, seed):
+    def __init__(self, text, threads, devices, seed):
         self.random = random.Random(seed)
-        self.name, self.blocks, self.size = name, blocks, size
+        self.devices = {device[0]: Device(place, place % threads, *device) for place, device in enumerate(devices)}
         self.threads = [Thread() for _ in range(threads)]
         self.results, self.jobs = {}, []
         for number, line in enumerate(text.split("\n"), 1):
@@ -54,12 +64,8 @@ class Imitation:
                 self.jobs.append((number, words[0], words[1]))
         self.rings = [[deque() for _ in range(threads)] for _ in range(threads)]
         self.waiting = [0] * threads
-        self.standing = "live"
-        self.named = False
-        self.handles, self.queue, self.content = [], deque(), [bytes(size)] * blocks
-        self.moved = dict(read=[0, 0], write=[0, 0])
+        self.handles = []
         self.shut = False
-        self.digest = None
         # How willing a thread is to do each kind of thing differs from run to run.
         kinds = ("take", "put", "line", "send", "abort", "complete", "close", "owe", "serve")
         self.weights = {kind: self.random.choice([0.02, 0.3, 1, 1, 5]) for kind in kinds}
@@ -77,7 +83,7 @@ class Imitation:
             yield "line", self.outcome
         if thread.unsent:
             yield "send", self.send
-            if thread.is_marked:
+            if any(request.handle.device in thread.marked for request in thread.unsent):
                 yield "abort", self.abort
         if thread.ended:
             yield "complete", self.complete
@@ -85,7 +91,7 @@ class Imitation:
             yield "close", self.close_gone
         if thread.owed:
             yield "owe", self.pay
-        if t == 0 and self.queue:
+        if any(device.queue for device in self.devices.values() if device.home == t):
             yield "serve", self.serve
 
     def play(self):
@@ -111,8 +117,9 @@ class Imitation:
                 if self.shut:
                     return self.report()
                 self.shut = True
-                if self.standing == "live":
-                    self.begin_removal(0)
+                for device in self.devices.values():
+                    if device.standing == "live":
+                        self.begin_removal(0, device)
 
     # ---- messages
 
@@ -127,7 +134,7 @@ class Imitation:
         kind, what = message
         thread = self.threads[t]
         if kind == "piece":
-            self.queue.append(what)
+            what[1].handle.device.queue.append(what)
         elif kind == "back":
             thread.ended.append(what)
         elif kind == "mark":
@@ -138,14 +145,14 @@ class Imitation:
                 what.was_told_open = True
                 thread.gone.append(what)
         elif kind == "walk":
-            begun_by, left = what
+            device, begun_by, left = what
             if left and left[0] == t:
-                thread.is_marked = True
+                thread.marked.add(device)
                 left = left[1:]
             if left or t != begun_by:
-                thread.due.append((left[0] if left else begun_by, ("walk", (begun_by, left))))
+                thread.due.append((left[0] if left else begun_by, ("walk", (device, begun_by, left))))
         else:
-            thread.owed.append(kind)
+            thread.owed.append((kind, what))
 
     def put(self, t):
         due = self.threads[t].due
@@ -157,27 +164,35 @@ class Imitation:
     def send(self, t):
         unsent = self.threads[t].unsent
         request = unsent.pop(self.random.choice([0, 0, self.random.randrange(len(unsent))]))
-        self.send_to(t, 0, ("piece", (t, request)))
+        self.send_to(t, request.handle.device.home, ("piece", (t, request)))
 
     def abort(self, t):
-        unsent = self.threads[t].unsent
-        request = unsent.pop(self.random.randrange(len(unsent)))
+        thread = self.threads[t]
+        request = self.random.choice([request for request in thread.unsent if request.handle.device in thread.marked])
+        thread.unsent.remove(request)
         request.status = "aborted"
-        self.threads[t].ended.append(request)
+        thread.ended.append(request)
 
-    def serve(self, _):
-        t, request = self.queue.popleft()
+    def queue_of(self, t):
+        """A queue of this home in which a piece waits."""
+        return self.random.choice([device.queue for device in self.devices.values() if device.home == t and device.queue])
+
+    def serve(self, home):
+        self.serve_one(home, *self.queue_of(home).popleft())
+
+    def serve_one(self, home, t, request):
         word, lba, count = request.words[0], int(request.words[2]), int(request.words[3])
+        device = request.handle.device
         for block in range(lba, lba + count):
             if word == "write":
                 first = int(request.words[4]) + 31 * block
-                self.content[block] = (STEPS * 2)[first * 183 % 256:][:256] * (self.size // 256)
+                device.content[block] = (STEPS * 2)[first * 183 % 256:][:256] * (device.size // 256)
             elif word in ("zeroes", "unmap"):
-                self.content[block] = bytes(self.size)
+                device.content[block] = bytes(device.size)
         if word == "read":
-            request.data = b"".join(self.content[lba:lba + count])
+            request.data = b"".join(device.content[lba:lba + count])
         request.status = "success"
-        self.threads[0].due.append((t, ("back", request)))
+        self.threads[home].due.append((t, ("back", request)))
 
     def complete(self, t):
         thread = self.threads[t]
@@ -186,30 +201,32 @@ class Imitation:
         request.handle.requests -= 1
         thread.counts[request.status] += 1
         result = request.status
-        if result == "success" and request.words[0] in self.moved:
-            moved = self.moved[request.words[0]]
+        device = request.handle.device
+        if result == "success" and request.words[0] in device.moved:
+            moved = device.moved[request.words[0]]
             moved[0] += 1
-            moved[1] += int(request.words[3]) * self.size
+            moved[1] += int(request.words[3]) * device.size
             if request.data is not None:
                 result += " first %s sha256 %s" % (request.data[:8].hex(), hashlib.sha256(request.data).hexdigest())
         self.results[request.line] = result
 
     # ---- handles, channels and the device
 
-    def free(self, t):
+    def free(self, t, device):
         """Names the device for destruction once it is being removed and nothing keeps it."""
-        kept = any(handle.is_open for handle in self.handles) or any(thread.has_channel for thread in self.threads)
-        if self.standing == "removing" and not kept and not self.named:
-            self.named = True
-            self.threads[t].due.append((0, ("destruct", None)))
+        kept = any(handle.is_open for handle in self.handles if handle.device is device)
+        kept = kept or any(device in thread.channels for thread in self.threads)
+        if device.standing == "removing" and not kept and not device.named:
+            device.named = True
+            self.threads[t].due.append((device.home, ("destruct", device)))
 
     def close(self, t, handle):
         thread = self.threads[t]
-        thread.references -= 1
-        if thread.references == 0:
-            thread.due.append((t, ("drop", None)))
+        thread.references[handle.device] -= 1
+        if thread.references[handle.device] == 0:
+            thread.due.append((t, ("drop", handle.device)))
         handle.is_open, handle.claim = False, None
-        self.free(t)
+        self.free(t, handle.device)
 
     def close_gone(self, t):
         thread = self.threads[t]
@@ -219,27 +236,27 @@ class Imitation:
 
     def pay(self, t):
         thread = self.threads[t]
-        what = thread.owed.pop(self.random.randrange(len(thread.owed)))
+        what, device = thread.owed.pop(self.random.randrange(len(thread.owed)))
         if what == "drop":
-            if thread.references == 0 and thread.has_channel:
-                thread.has_channel = False
-                self.free(t)
+            if thread.references[device] == 0 and device in thread.channels:
+                thread.channels.remove(device)
+                self.free(t, device)
         elif what == "destruct":
-            self.digest = hashlib.sha256(b"".join(self.content)).hexdigest()
-            thread.owed.append("report")
+            device.digest = hashlib.sha256(b"".join(device.content)).hexdigest()
+            thread.owed.append(("report", device))
         else:
-            self.standing = "destructed"
+            device.standing = "destructed"
 
-    def begin_removal(self, t):
+    def begin_removal(self, t, device):
         thread = self.threads[t]
-        self.standing = "removing"
+        device.standing = "removing"
         for handle in self.handles:
-            if handle.is_open:
+            if handle.is_open and handle.device is device:
                 thread.due.append((handle.thread, ("gone", handle)))
-        left = [u for u, other in enumerate(self.threads) if other.has_channel]
+        left = [u for u, other in enumerate(self.threads) if device in other.channels]
         if left:
-            thread.due.append((left[0], ("walk", (t, left))))
-        self.free(t)
+            thread.due.append((left[0], ("walk", (device, t, left))))
+        self.free(t, device)
 
     # ---- the script
 
@@ -283,17 +300,21 @@ class Imitation:
     def do_open(self, t, thread, words, handle):
         if handle is not None and handle.is_open:
             return 17
-        if words[2] != self.name or self.standing != "live":
+        device = self.devices.get(words[2])
+        if device is None or device.standing != "live":
             return 19
-        if words[3] == "w" and any(other.is_open and other.claim for other in self.handles):
+        if words[3] == "w" and any(other.claim for other in self.open_on(device)):
             return 1
-        handle = Handle(t, words[1], words[3] == "w")
+        handle = Handle(t, words[1], device, words[3] == "w")
         handle.is_open = True
         self.handles.append(handle)
         thread.names[words[1]] = handle
-        thread.references += 1
-        thread.has_channel = True
+        thread.references[device] += 1
+        thread.channels.add(device)
         return None
+
+    def open_on(self, device):
+        return [handle for handle in self.handles if handle.is_open and handle.device is device]
 
     def do_close(self, t, thread, words, handle):
         if handle is None:
@@ -309,12 +330,12 @@ class Imitation:
     def do_claim(self, t, thread, words, handle):
         if handle is None:
             return 9
-        if not handle.is_open or self.standing != "live":
+        if not handle.is_open or handle.device.standing != "live":
             return 19
         kind = words[2:]
         if kind == ["shared", "0"]:
             return 22
-        everyone = [other for other in self.handles if other.is_open]
+        everyone = self.open_on(handle.device)
         claims = [other.claim for other in everyone if other.claim]
         writing = [other for other in everyone if other.write and other is not handle]
         if handle.claim or [claim for claim in claims if claim != kind or kind[0] in ("exclusive", "one")]:
@@ -328,11 +349,12 @@ class Imitation:
         return None
 
     def do_remove(self, t, thread, words, handle):
-        if words[1] != self.name or self.standing == "destructed":
+        device = self.devices.get(words[1])
+        if device is None or device.standing == "destructed":
             return 19
-        if self.standing == "removing":
+        if device.standing == "removing":
             return 16
-        self.begin_removal(t)
+        self.begin_removal(t, device)
         return None
 
     def do_request(self, t, thread, words, handle):
@@ -350,12 +372,12 @@ class Imitation:
     def refusal(self, thread, words, handle):
         if handle is None:
             return 9
-        if handle.is_gone or (handle.is_open and thread.is_marked):
+        if handle.is_gone or (handle.is_open and handle.device in thread.marked):
             return 19
         if words[0] in WRITERS and not handle.write:
             return 9
         lba, count = int(words[2]), int(words[3])
-        if count == 0 or count * self.size > 262144 or lba + count > self.blocks:
+        if count == 0 or count * handle.device.size > 262144 or lba + count > handle.device.blocks:
             return 22
         return None
 
@@ -364,17 +386,18 @@ class Imitation:
     def report(self):
         out = ["job %s %s %s %s" % (number, t, word, self.results.get(number, "skipped")) for number, t, word in self.jobs]
         for t in range(len(self.threads)):
-            out += ["gone %d %s %s" % (t, handle.name, self.name) for handle in self.handles if handle.thread == t and handle.was_told_open]
+            out += ["gone %d %s %s" % (t, handle.name, handle.device.name) for handle in self.handles if handle.thread == t and handle.was_told_open]
         words = ("accepted", "success", "failed", "aborted")
         for t, thread in enumerate(self.threads):
             if thread.lines:
                 out.append(" ".join(["thread %d" % t] + ["%s %d" % (word, thread.counts[word]) for word in words + ("refused",)]))
-        (reads, read_bytes), (writes, write_bytes) = self.moved["read"], self.moved["write"]
-        out.append("device %s malloc blocks %d size %d reads %d writes %d read_bytes %d write_bytes %d sha256 %s" % (
-            self.name, self.blocks, self.size, reads, writes, read_bytes, write_bytes, self.digest))
+        for device in self.devices.values():
+            (reads, read_bytes), (writes, write_bytes) = device.moved["read"], device.moved["write"]
+            out.append("device %s malloc blocks %d size %d reads %d writes %d read_bytes %d write_bytes %d sha256 %s" % (
+                device.name, device.blocks, device.size, reads, writes, read_bytes, write_bytes, device.digest))
         out.append("end " + " ".join("%s %d" % (word, sum(thread.counts[word] for thread in self.threads)) for word in words))
         return "\n".join(out) + "\n"
 
 
-def report(text, threads, name, blocks, size, seed):
-    return Imitation(text, threads, name, blocks, size, seed).play()
+def report(text, threads, devices, seed):
+    return Imitation(text, threads, devices, seed).play()
