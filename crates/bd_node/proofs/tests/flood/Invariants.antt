@@ -2,4 +2,4 @@ use Rattle.bd_node.specs.Whole.{IsNode}
 use Rattle.bd_node.proofs.tests.flood.Given as goal
 
 abbrev pub invariant-loop : goal.invariant-loop
-invariant-loop l = IsNode l.node
+invariant-loop g l = IsNode l.node
