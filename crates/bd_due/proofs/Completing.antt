@@ -23,7 +23,7 @@ use Rattle.bd_machine.specs.Same.{same_id}
 use Rattle.bd_machine.specs.Statuses.{is_delay_left, is_failed, is_success_due, may_be_status}
 use Rattle.bd_machine.specs.View.{View}
 use Rattle.bd_machine.specs.Walks.{reset_of}
-use Rattle.bd_links.specs.Tokens.{here_in, Sets}
+use Rattle.bd_tokens.specs.Tokens.{here_in, Sets}
 use Rattle.bd_due.specs.declared.completion.Ending.{Ending}
 use Rattle.bd_due.specs.Completions.{data_read, ending_in, ending_of, ends_as, gone, may_end, read_as, shown_by, shown_of, status_now}
 

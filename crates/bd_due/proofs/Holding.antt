@@ -12,7 +12,7 @@ use Rattle.bd_machine.specs.declared.state.OpenRequest.{OpenRequest}
 use Rattle.bd_machine.specs.Alone.{held_after}
 use Rattle.bd_machine.specs.Requests.{new_piece, pieces_made}
 use Rattle.bd_machine.specs.Same.{same_id}
-use Rattle.bd_links.specs.Tokens.{here_in, Sets}
+use Rattle.bd_tokens.specs.Tokens.{here_in, Sets}
 
 -- a piece is held, and those that are left come after it
 pub hold_step : (setup : Setup) (req : ReqId) (r : OpenRequest) (k more : ℕ) (extent : Extent) (left rest : List Extent) (p : OpenPiece) (old new : List (Id × Kept)) (total : Id → Option Kept)

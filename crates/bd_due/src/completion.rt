@@ -1,13 +1,13 @@
 //! When a request completes, and how.
 ghost use Rattle.std.specs.Prelude.{◌≡◌, IfOk, Some};
 ghost use Rattle.std.specs.List.{range_with_len};
-ghost use Rattle.bd_links.specs.Tokens.{here_in};
+ghost use Rattle.bd_tokens.specs.Tokens.{here_in};
 ghost use Rattle.bd_due.specs.Completions.{ended, ending_in, ending_of, ends_as, gone, may_end, read_as, shown_by, shown_of, status_now};
 
 use bd_base::{Bytes, Op, OutOfMemory, ReqId, Setup, Shown, Status, digest_of};
-use bd_links::let_go;
-use bd_machine::{Id, Kept, OpenRequest};
+use bd_machine::{Id, OpenRequest};
 use bd_rules::{all_ended, data_read, may_complete, request_here, status_due};
+use bd_tokens::Tokens;
 use bd_view::Sees;
 use std::alloc::Global;
 
@@ -133,18 +133,18 @@ pub fn ending_of<S: Sees>(
 
 // Lets the first n pieces of a request go.
 #[tactic(auto, using(crate::proofs::Left::left_from))]
-fn drop_pieces(tokens: &mut Vec<(Id, Kept)>, req: ReqId, n: u32)
+fn drop_pieces(tokens: &mut Tokens, req: ReqId, n: u32)
     ensures { here_in tokens.new.items ≡ gone req (range_with_len 0 n) (here_in tokens.old.items) }
 {
     for k in 0..n {
-        let_go(tokens, Id::Piece(req, k));
+        tokens.let_go(Id::Piece(req, k));
     }
 }
 
 /// Lets a request and its first n pieces go.
-pub fn drop_request(tokens: &mut Vec<(Id, Kept)>, req: ReqId, n: u32)
+pub fn drop_request(tokens: &mut Tokens, req: ReqId, n: u32)
     ensures { here_in tokens.new.items ≡ ended req n (here_in tokens.old.items) }
 {
-    let_go(tokens, Id::Request(req));
+    tokens.let_go(Id::Request(req));
     drop_pieces(tokens, req, n);
 }

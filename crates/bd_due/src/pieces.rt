@@ -2,18 +2,18 @@
 ghost use Rattle.std.specs.Prelude.{◌≡◌, ◌++◌, length, IfOk, OnOk};
 ghost use Rattle.bd_machine.specs.Alone.{held_after};
 ghost use Rattle.bd_machine.specs.Requests.{pieces_made};
-ghost use Rattle.bd_links.specs.Tokens.{here_in};
+ghost use Rattle.bd_tokens.specs.Tokens.{here_in};
 ghost use Rattle.bd_due.specs.Pieces.{pieces_to};
 
 use bd_base::{OutOfMemory, ReqId, Rows, Setup, Token};
 use bd_blocks::new_piece;
-use bd_links::hold;
 use bd_machine::{Extent, Id, Kept, OpenRequest};
+use bd_tokens::Tokens;
 use std::collections::VecDeque;
 
 /// Holds the pieces of a request, one for each extent.
 pub fn hold_pieces(
-    tokens: &mut Vec<(Id, Kept)>,
+    tokens: &mut Tokens,
     setup: &Setup,
     req: ReqId,
     r: OpenRequest,
@@ -24,7 +24,7 @@ pub fn hold_pieces(
     let mut k: u32 = 0;
     for extent in extents {
         let piece = new_piece(setup, r, k, *extent)?;
-        hold(tokens, Id::Piece(req, k), Kept::Piece(piece))?;
+        tokens.hold(Id::Piece(req, k), Kept::Piece(piece))?;
         let Some(more) = k.checked_add(1) else {
             return Err(OutOfMemory);
         };

@@ -1,15 +1,16 @@
 //! Where a walk goes next, what leaves a thread with a token, and whether a message may be taken.
 ghost use Rattle.std.specs.Prelude.{◌≡◌, ◌<◌, ◌++◌, true, is_some, length, IfOk, OnOk, Some, None};
 ghost use Rattle.bd_links.specs.Queues.{queues_of};
-ghost use Rattle.bd_links.specs.Tokens.{here_in, Sets};
+ghost use Rattle.bd_tokens.specs.Tokens.{here_in, Sets};
 ghost use Rattle.bd_due.specs.Sending.{bound_for, first_brought, first_due, goes_on, kept_on_way, token_of};
 
 use bd_base::{OutOfMemory, Token, WalkId};
 use bd_blocks::first_of;
 use bd_changes::{is_at_end, news_of, sent};
-use bd_links::{Queue, let_go, take_out};
+use bd_links::Queue;
 use bd_machine::{Due, Id, Kept, News, OpenWalk};
 use bd_rules::brings;
+use bd_tokens::Tokens;
 use bd_view::is_built_token;
 use std::collections::VecDeque;
 
@@ -46,16 +47,16 @@ pub fn send_on(
 }
 
 /// The token leaves this thread: what is kept of it on its way.
-pub fn leave(tokens: &mut Vec<(Id, Kept)>, id: Id, what: &Token) -> Result<Kept, OutOfMemory>
+pub fn leave(tokens: &mut Tokens, id: Id, what: &Token) -> Result<Kept, OutOfMemory>
     requires { is_some (kept_on_way what.now (here_in tokens.old.items id)) ≡ true }
     ensures kept { IfOk result (λ kept. kept_on_way what.now (here_in tokens.old.items id) ≡ Some kept) }
     ensures gone { OnOk result (Sets tokens.old.items tokens.new.items id None) }
 {
     if let Some(told) = news_of(what)? {
-        let_go(tokens, id);
+        tokens.let_go(id);
         return Ok(Kept::Notice(told));
     }
-    match take_out(tokens, id) {
+    match tokens.take_out(id) {
         Some(kept) => Ok(sent(kept)),
         None => unreachable!(),
     }

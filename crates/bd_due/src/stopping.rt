@@ -4,14 +4,15 @@ ghost use Rattle.std.specs.Prelude.{◌≡◌, option_copied, Some};
 ghost use Rattle.bd_machine.specs.Aborts.{stopped};
 ghost use Rattle.bd_machine.specs.Completion.{waits_unsent};
 ghost use Rattle.bd_machine.specs.Kept.{as_piece};
-ghost use Rattle.bd_links.specs.Tokens.{here_in};
+ghost use Rattle.bd_tokens.specs.Tokens.{here_in};
 ghost use Rattle.bd_due.specs.Stopping.{is_unsent, without_unsent};
 
 use bd_base::{ReqId, Setup, Token};
 use bd_course::depart;
 use bd_machine::{Id, Kept, OpenRequest, Part, Progress};
 use bd_rules::next_limited;
-use bd_view::{look_up, same_request};
+use bd_tokens::Tokens;
+use bd_view::same_request;
 use std::alloc::Global;
 use std::collections::VecDeque;
 
@@ -26,20 +27,20 @@ fn waits_unsent(kept: Option<&Kept>) -> bool
 }
 
 // Whether it is a piece of this request that waits here unsent.
-fn is_unsent(held: &[(Id, Kept)], req: ReqId, what: &Token) -> bool
-    ensures { result ≡ is_unsent req (here_in held.now) what.now }
+fn is_unsent(held: &Tokens, req: ReqId, what: &Token) -> bool
+    ensures { result ≡ is_unsent req (here_in held.now.items) what.now }
 {
     match what {
         Token::Piece(of, k) => {
-            same_request(*of, req) && waits_unsent(look_up(held, Id::Piece(*of, *k)))
+            same_request(*of, req) && waits_unsent(held.get(Id::Piece(*of, *k)))
         }
         _ => false,
     }
 }
 
 /// The pieces of a request that wait here unsent are no longer to be put; all else is, in its order.
-pub fn drop_unsent(outbox: &mut VecDeque<(u32, Token)>, held: &[(Id, Kept)], req: ReqId)
-    ensures { outbox.new.items ≡ without_unsent req (here_in held.now) outbox.old.items }
+pub fn drop_unsent(outbox: &mut VecDeque<(u32, Token)>, held: &Tokens, req: ReqId)
+    ensures { outbox.new.items ≡ without_unsent req (here_in held.now.items) outbox.old.items }
 {
     outbox.retain(|x| !is_unsent(held, req, &x.1));
 }

@@ -1,4 +1,2 @@
-pub mod Here
-pub mod Written
 pub mod Emptied
 pub mod Longer

@@ -1,3 +1,2 @@
-pub mod Tokens
 pub mod Queues
 pub mod Entries

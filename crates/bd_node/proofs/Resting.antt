@@ -20,7 +20,7 @@ use Rattle.bd_machine.specs.Users.{dev_of, is_base_handle}
 use Rattle.bd_machine.specs.View.{View}
 use Rattle.bd_turns.specs.Laws.{is_left_open_in, is_resting_here, AreBlocked, AreDestructed}
 use Rattle.bd_turns.specs.Local.{Local}
-use Rattle.bd_links.specs.Tokens.{here_in}
+use Rattle.bd_tokens.specs.Tokens.{here_in}
 use Rattle.bd_merged.specs.Laws.{AreAllTaken, AreSpent}
 use Rattle.bd_apart.specs.Course.{Phase}
 use Rattle.bd_apart.specs.Ends.{Rests}

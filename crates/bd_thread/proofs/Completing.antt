@@ -18,7 +18,7 @@ use Rattle.bd_machine.specs.View.{View}
 use Rattle.bd_turns.specs.declared.queue.Message.{Message}
 use Rattle.bd_turns.specs.Local.{Local}
 use Rattle.bd_links.specs.Queues.{queues_of}
-use Rattle.bd_links.specs.Tokens.{here_in}
+use Rattle.bd_tokens.specs.Tokens.{here_in}
 use Rattle.bd_due.specs.declared.completion.Ending.{Ending}
 use Rattle.bd_due.specs.Completions.{ended, ending_of}
 use Rattle.bd_due.proofs.Completing.{ends_now, gone_closed, Ends}

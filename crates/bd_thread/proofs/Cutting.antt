@@ -17,7 +17,7 @@ use Rattle.bd_machine.specs.Requests.{cut_into, extents_of, has_extents, may_cut
 use Rattle.bd_turns.specs.declared.queue.Message.{Message}
 use Rattle.bd_turns.specs.Local.{Local}
 use Rattle.bd_links.specs.Queues.{queues_of}
-use Rattle.bd_links.specs.Tokens.{here_in, Sets}
+use Rattle.bd_tokens.specs.Tokens.{here_in, Sets}
 use Rattle.bd_thread.specs.declared.links.Links.{Links}
 use Rattle.bd_thread.specs.declared.thread.Thread.{Thread}
 use Rattle.bd_thread.specs.Acted.{Acted}

@@ -27,7 +27,7 @@ use Rattle.bd_turns.specs.Local.{Local, Leads, came_local, change_local, refusal
 use Rattle.bd_turns.proofs.Going.{leads_on}
 use Rattle.bd_links.specs.Entries.{entry_at, longer}
 use Rattle.bd_links.specs.Queues.{queues_of}
-use Rattle.bd_links.specs.Tokens.{here_in}
+use Rattle.bd_tokens.specs.Tokens.{here_in}
 use Rattle.bd_links.proofs.Longer.{length-longer}
 use Rattle.bd_thread.specs.declared.links.Links.{Links}
 use Rattle.bd_thread.specs.declared.thread.Thread.{Thread}

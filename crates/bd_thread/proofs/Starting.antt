@@ -9,7 +9,7 @@ use Rattle.bd_machine.specs.declared.state.Registry.{Registry}
 use Rattle.bd_machine.specs.Start.{part_at_start, registry_at_start}
 use Rattle.bd_turns.specs.declared.queue.Message.{Message}
 use Rattle.bd_links.specs.Queues.{queues_of}
-use Rattle.bd_links.specs.Tokens.{here_in}
+use Rattle.bd_tokens.specs.Tokens.{here_in}
 use Rattle.bd_links.proofs.Emptied.{empty_queues_of}
 use Rattle.bd_thread.specs.Seen.{local_at}
 use Rattle.bd_registry.specs.State.{Registered}

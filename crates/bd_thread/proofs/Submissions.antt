@@ -27,7 +27,7 @@ use Rattle.bd_turns.specs.Local.{Local}
 use Rattle.bd_view.specs.declared.names.Submission.{Submission}
 use Rattle.bd_links.specs.Entries.{longer}
 use Rattle.bd_links.specs.Queues.{queues_of}
-use Rattle.bd_links.specs.Tokens.{here_in}
+use Rattle.bd_tokens.specs.Tokens.{here_in}
 use Rattle.bd_thread.specs.declared.links.Links.{Links}
 use Rattle.bd_thread.specs.declared.thread.Thread.{Thread}
 use Rattle.bd_thread.specs.Acted.{Acted}

@@ -22,7 +22,7 @@ use Rattle.bd_machine.specs.View.{Change, Closed, Here, Move, Taking, id_of}
 use Rattle.bd_machine.proofs.Parts.{Core, taken_grows}
 use Rattle.bd_changes.specs.Begun.{begun, is_of_kind, stays, taken, token_moved}
 use Rattle.bd_changes.proofs.Arriving.{arrives}
-use Rattle.bd_links.specs.Tokens.{left_of}
+use Rattle.bd_tokens.specs.Tokens.{left_of}
 use Rattle.bd_turns.specs.declared.queue.Message.{Message}
 use Rattle.bd_turns.specs.Local.{first_of}
 use Rattle.bd_turns.proofs.Going.{first_comes}

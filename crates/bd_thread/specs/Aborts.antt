@@ -12,7 +12,7 @@ use Rattle.bd_machine.specs.Kept.{request_here}
 use Rattle.bd_machine.specs.Step.{first_failing}
 use Rattle.bd_due.specs.Stopping.{without_unsent}
 use Rattle.bd_links.specs.Entries.{longer}
-use Rattle.bd_links.specs.Tokens.{here_in, Sets}
+use Rattle.bd_tokens.specs.Tokens.{here_in, Sets}
 use Rattle.bd_thread.specs.declared.links.Links.{Links}
 use Rattle.bd_thread.specs.declared.thread.Thread.{Thread}
 use Rattle.bd_thread.specs.Completions.{MayComplete}

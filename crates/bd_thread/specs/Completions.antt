@@ -11,7 +11,7 @@ use Rattle.bd_changes.specs.Lone.{lone}
 use Rattle.bd_due.specs.declared.completion.Ending.{Ending}
 use Rattle.bd_due.specs.Completions.{ended, ending_of}
 use Rattle.bd_links.specs.Entries.{longer}
-use Rattle.bd_links.specs.Tokens.{here_in}
+use Rattle.bd_tokens.specs.Tokens.{here_in}
 use Rattle.bd_thread.specs.declared.links.Links.{Links}
 use Rattle.bd_thread.specs.declared.thread.Thread.{Thread}
 use Rattle.bd_thread.specs.Seen.{untaken, view_of}

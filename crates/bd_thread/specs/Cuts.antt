@@ -9,7 +9,7 @@ use Rattle.bd_machine.specs.Kept.{request_here}
 use Rattle.bd_machine.specs.Requests.{cut_into, extents_of, may_cut}
 use Rattle.bd_due.specs.Pieces.{pieces_to}
 use Rattle.bd_links.specs.Entries.{longer}
-use Rattle.bd_links.specs.Tokens.{here_in}
+use Rattle.bd_tokens.specs.Tokens.{here_in}
 use Rattle.bd_thread.specs.declared.links.Links.{Links}
 use Rattle.bd_thread.specs.declared.thread.Thread.{Thread}
 use Rattle.bd_thread.specs.Seen.{untaken, view_of}

@@ -32,7 +32,7 @@ use Rattle.bd_registry.specs.State.{Registered, event_row}
 use Rattle.bd_view.specs.Came.{came_between, came_shut}
 use Rattle.bd_due.specs.Following.{close_due, get_due}
 use Rattle.bd_links.specs.Entries.{longer, next_stamp}
-use Rattle.bd_links.specs.Tokens.{here_in}
+use Rattle.bd_tokens.specs.Tokens.{here_in}
 use Rattle.bd_thread.specs.declared.links.Links.{Links}
 use Rattle.bd_thread.specs.declared.thread.Thread.{Thread}
 use Rattle.bd_thread.specs.Seen.{untaken, view_of}

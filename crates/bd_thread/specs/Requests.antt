@@ -22,7 +22,7 @@ use Rattle.bd_machine.specs.Same.{same_request}
 use Rattle.bd_changes.specs.Lone.{lone}
 use Rattle.bd_view.specs.declared.names.Submission.{Submission}
 use Rattle.bd_links.specs.Entries.{longer}
-use Rattle.bd_links.specs.Tokens.{Sets}
+use Rattle.bd_tokens.specs.Tokens.{Sets}
 use Rattle.bd_thread.specs.declared.links.Links.{Links}
 use Rattle.bd_thread.specs.declared.requests.Refused.{Refused}
 use Rattle.bd_thread.specs.declared.requests.Refused.TheVariants as refusals

@@ -10,7 +10,7 @@ use Rattle.bd_machine.specs.View.{View, is_of}
 use Rattle.bd_turns.specs.declared.queue.Message.{Message}
 use Rattle.bd_turns.specs.Local.{Local}
 use Rattle.bd_links.specs.Queues.{queues_of}
-use Rattle.bd_links.specs.Tokens.{here_in}
+use Rattle.bd_tokens.specs.Tokens.{here_in}
 use Rattle.bd_thread.specs.declared.links.Links.{Links}
 use Rattle.bd_thread.specs.declared.thread.Thread.{Thread}
 use Rattle.bd_thread.specs.declared.view.Seen.{Seen}
@@ -34,7 +34,7 @@ view_of t links = (local t links).view
 abbrev pub view_seen : Seen → View
 view_seen s = record {
   part = s.part.now;
-  here = here_in s.held.now;
+  here = here_in s.held.now.items;
   handles = filter (is_of s.me) s.registry.now.state.handles;
   channels = references s.registry.now.state s.me;
 }

@@ -16,7 +16,7 @@ use Rattle.bd_machine.specs.BlockMap.{depth_of, size_of}
 use Rattle.bd_machine.specs.Homes.{holds_at_most, is_base, is_home}
 use Rattle.bd_machine.specs.Kept.{as_piece}
 use Rattle.bd_links.specs.Entries.{longer}
-use Rattle.bd_links.specs.Tokens.{here_in}
+use Rattle.bd_tokens.specs.Tokens.{here_in}
 use Rattle.bd_thread.specs.declared.links.Links.{Links}
 use Rattle.bd_thread.specs.declared.thread.Thread.{Thread}
 

@@ -16,7 +16,7 @@ use Rattle.bd_machine.specs.Walks.{change_visit, guards_visit, visited}
 use Rattle.bd_changes.specs.Begun.{begun}
 use Rattle.bd_due.specs.Sending.{bound_for, goes_on}
 use Rattle.bd_links.specs.Entries.{longer}
-use Rattle.bd_links.specs.Tokens.{here_in}
+use Rattle.bd_tokens.specs.Tokens.{here_in}
 use Rattle.bd_thread.specs.declared.links.Links.{Links}
 use Rattle.bd_thread.specs.declared.thread.Thread.{Thread}
 use Rattle.bd_thread.specs.Aborts.{StopsAll, Then}

@@ -9,7 +9,6 @@ use crate::thread::Thread;
 use bd_base::{AbortCause, Act, OutOfMemory, ReqId};
 use bd_course::{aborted, refused_abort};
 use bd_due::{drop_unsent, stop_waiting};
-use bd_links::hold;
 use bd_machine::{Id, Kept, OpenRequest};
 use bd_rules::request_here;
 
@@ -48,10 +47,10 @@ impl<'a> Thread<'a> {
         let Some(r) = self.abort_due(links, req, cause) else {
             return Ok(false);
         };
-        drop_unsent(&mut self.outbox, self.held.as_slice(), req);
+        drop_unsent(&mut self.outbox, &self.held, req);
         stop_waiting(self.alloc, &mut self.part, self.setup, req, r);
         let kept = Kept::Request(aborted(cause, r));
-        hold(&mut self.held, Id::Request(req), kept)?;
+        self.held.hold(Id::Request(req), kept)?;
         self.note(links, Act::Abort { req, cause })?;
         Ok(true)
     }

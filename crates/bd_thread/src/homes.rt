@@ -3,7 +3,7 @@ ghost use Rattle.std.specs.Prelude.{◌≡◌, ◌<◌, IfOk, IfSome, OnOk, find
 ghost use Rattle.std.specs.Option.{option_map};
 ghost use Rattle.bd_machine.specs.BlockMap.{size_of};
 ghost use Rattle.bd_machine.specs.Homes.{is_base, is_home};
-ghost use Rattle.bd_links.specs.Tokens.{here_in};
+ghost use Rattle.bd_tokens.specs.Tokens.{here_in};
 ghost use Rattle.bd_thread.specs.Acted.{Acted};
 ghost use Rattle.bd_thread.specs.Destructs.{Destructs};
 ghost use Rattle.bd_thread.specs.Next.{IsNext, id_of};
@@ -17,10 +17,10 @@ use bd_base::{Act, ApplyEnd, DevId, OutOfMemory, ReqId};
 use bd_blocks::{digest_due, find_base, is_home, size_of};
 use bd_changes::destructed;
 use bd_home::{can_serve, first_waiting, serve};
-use bd_links::hold;
 use bd_machine::{Base, Id, Kept, OpenPiece};
 use bd_rules::{may_destruct, may_hold};
-use bd_view::{as_piece, look_up};
+use bd_tokens::Tokens;
+use bd_view::as_piece;
 
 // The piece that a thread serves next, by its name, as it is kept here.
 #[derive(Clone, Copy)]
@@ -31,12 +31,12 @@ struct Next<'t> {
 }
 
 // The piece that waits first at the device, where it is here and the device can serve it.
-fn next_in<'t>(bases: &[Base], tokens: &'t [(Id, Kept)], size: u32, dev: DevId) -> Option<Next<'t>>
-    ensures next { IfSome result (IsNext (find (is_base dev) bases.now) tokens.now size dev) }
-    ensures due { option_map id_of result ≡ next_in size dev (here_in tokens.now) (find (is_base dev) bases.now) }
+fn next_in<'t>(bases: &[Base], tokens: &'t Tokens, size: u32, dev: DevId) -> Option<Next<'t>>
+    ensures next { IfSome result (IsNext (find (is_base dev) bases.now) tokens.now.items size dev) }
+    ensures due { option_map id_of result ≡ next_in size dev (here_in tokens.now.items) (find (is_base dev) bases.now) }
 {
     let (req, k) = first_waiting(bases, dev)?;
-    let piece = as_piece(look_up(tokens, Id::Piece(req, k)))?;
+    let piece = as_piece(tokens.get(Id::Piece(req, k)))?;
     if can_serve(bases, size, dev, piece) {
         Some(Next { req, k, piece })
     } else {
@@ -64,13 +64,13 @@ impl<'a> Thread<'a> {
             return Ok(None);
         }
         let size = size_of(setup, dev);
-        let Some(next) = next_in(bases, self.held.as_slice(), size, dev) else {
+        let Some(next) = next_in(bases, &self.held, size, dev) else {
             return Ok(None);
         };
         let req = next.req;
         let k = next.k;
         let piece = serve(self.alloc, &mut self.part.bases, size, dev, next.piece)?;
-        hold(&mut self.held, Id::Piece(req, k), Kept::Piece(piece))?;
+        self.held.hold(Id::Piece(req, k), Kept::Piece(piece))?;
         self.note(
             links,
             Act::Apply {

@@ -9,7 +9,7 @@ use crate::thread::Thread;
 use bd_base::{Act, OutOfMemory, Token};
 use bd_changes::{arrived, took};
 use bd_due::{copy_of, leave, may_take};
-use bd_links::{hold_begun, land, pop, push};
+use bd_links::{pop, push};
 use bd_machine::Id;
 use bd_rules::{count_at, id_of, may_go};
 use bd_turns::Message;
@@ -45,8 +45,8 @@ impl<'a> Thread<'a> {
             Some(&kept),
         )?;
         let id = id_of(sender, self.me, number, &what);
-        land(&mut self.held, self.me, id, &what, kept)?;
-        hold_begun(&mut self.held, begun)?;
+        self.held.land(self.me, id, &what, kept)?;
+        self.held.hold_begun(begun)?;
         self.note(
             links,
             Act::Took {

@@ -18,7 +18,6 @@ use bd_base::{Act, DevId, Errno, HandleId, OutOfMemory, ReqId};
 use bd_blocks::{extents, home};
 use bd_changes::{accepted, completed};
 use bd_due::{Ending, drop_request, ending_of, hold_pieces, piece_count, send_pieces, spend};
-use bd_links::hold;
 use bd_machine::{Decided, Id, Kept, Open, OpenRequest};
 use bd_msg::Ticket;
 use bd_rules::{admit, new_request, uncut};
@@ -140,7 +139,7 @@ impl<'a> Thread<'a> {
     {
         self.purse.reserve(1)?;
         let kept = Kept::Request(new_request(handle, dev, asked));
-        hold(&mut self.held, Id::Request(req), kept)?;
+        self.held.hold(Id::Request(req), kept)?;
         let Submission { op, lba, count } = asked;
         let request = Open {
             id: req,
@@ -200,7 +199,7 @@ impl<'a> Thread<'a> {
             pieces: Some(n),
             ..r
         });
-        hold(&mut self.held, Id::Request(req), kept)?;
+        self.held.hold(Id::Request(req), kept)?;
         hold_pieces(&mut self.held, setup, req, r, found.as_slice())?;
         send_pieces(&mut self.outbox, home(setup, r.dev), req, n)?;
         self.note(links, Act::Cut { req, pieces: n })?;

@@ -9,8 +9,9 @@ use crate::links::Links;
 use bd_base::{Act, OutOfMemory, Setup, Token};
 use bd_blocks::part_at_start;
 use bd_links::add;
-use bd_machine::{Id, Kept, Part};
+use bd_machine::Part;
 use bd_msg::Purse;
+use bd_tokens::Tokens;
 use std::alloc::Global;
 use std::collections::VecDeque;
 
@@ -21,7 +22,7 @@ pub struct Thread<'a> {
     pub(crate) setup: &'a Setup,
     pub(crate) part: Part,
     // what is kept of the tokens that are on this thread
-    pub(crate) held: Vec<(Id, Kept)>,
+    pub(crate) held: Tokens,
     // what is still to be put, and to which thread, in this order
     pub(crate) outbox: VecDeque<(u32, Token)>,
     // the tickets of its open requests
@@ -41,7 +42,7 @@ impl<'a> Thread<'a> {
             me,
             setup,
             part,
-            held: Vec::new(alloc),
+            held: Tokens::new(alloc),
             outbox: VecDeque::new(alloc),
             purse: Purse::new(alloc),
         })

@@ -9,7 +9,8 @@ use crate::thread::Thread;
 use bd_base::{DevId, HandleId};
 use bd_machine::{Handle, Id, Kept, Part};
 use bd_registry::Registry;
-use bd_view::{Records, Sees, look_up};
+use bd_tokens::Tokens;
+use bd_view::{Records, Sees};
 
 /// What a thread sees: its part, what it holds of tokens, and of the registry its own handles and
 /// channels.
@@ -17,7 +18,7 @@ use bd_view::{Records, Sees, look_up};
 pub(crate) struct Seen<'s> {
     me: u32,
     part: &'s Part,
-    held: &'s [(Id, Kept)],
+    held: &'s Tokens,
     registry: &'s Registry,
 }
 
@@ -35,7 +36,7 @@ impl<'s> Sees for Seen<'s> {
     }
 
     fn kept(&self, id: Id) -> Option<&Kept> {
-        look_up(self.held, id)
+        self.held.get(id)
     }
 
     fn handle(&self, id: HandleId) -> Option<Handle> {
@@ -69,7 +70,7 @@ impl<'a> Thread<'a> {
         Seen {
             me: self.me,
             part: &self.part,
-            held: self.held.as_slice(),
+            held: &self.held,
             registry: &links.registry,
         }
     }

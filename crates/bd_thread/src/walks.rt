@@ -9,7 +9,6 @@ use crate::thread::Thread;
 use bd_base::{AbortCause, Act, DevId, OutOfMemory, WalkId, WalkKind};
 use bd_changes::walk_on;
 use bd_due::{send_off, send_on};
-use bd_links::{hold_begun, hold_walk};
 use bd_machine::OpenWalk;
 use bd_rules::walk_here;
 use bd_view::Sees;
@@ -20,7 +19,7 @@ impl<'a> Thread<'a> {
     pub(crate) fn begin(&mut self, walk: Option<(WalkId, OpenWalk)>) -> Result<(), OutOfMemory>
         ensures { OnOk result (Begins walk self.old self.new) }
     {
-        hold_begun(&mut self.held, walk)?;
+        self.held.hold_begun(walk)?;
         match walk {
             Some((id, walk)) => send_off(&mut self.outbox, id, walk),
             None => Ok(()),
@@ -70,7 +69,7 @@ impl<'a> Thread<'a> {
         let after = visited(self.me, walk);
         mark(&mut self.part, self.setup, self.me, channel, dev, kind)?;
         let next = walk_on(&mut self.part, self.me, id, after)?;
-        hold_walk(&mut self.held, self.me, id, after)?;
+        self.held.hold_walk(self.me, id, after)?;
         self.begin(next)?;
         send_on(&mut self.outbox, self.me, id, after)?;
         self.note(

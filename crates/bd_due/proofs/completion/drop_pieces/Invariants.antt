@@ -1,6 +1,6 @@
 use Rattle.std.proofs.Common.{◌≡◌, ◌-◌}
 use Rattle.std.specs.List.{range_with_len}
-use Rattle.bd_links.specs.Tokens.{here_in}
+use Rattle.bd_tokens.specs.Tokens.{here_in}
 use Rattle.bd_due.specs.Completions.{gone}
 use Rattle.bd_due.proofs.completion.drop_pieces.Given as goal
 

@@ -4,4 +4,4 @@ use Rattle.bd_due.specs.Completions.{gone}
 use Rattle.bd_due.proofs.completion.drop_request.Goals as goal
 
 pub returns : goal.returns
-returns c = c.drop_pieces.ensures ∙ ap (gone c.args.req (range_with_len 0 c.args.n)) c.let_go.ensures
+returns c = c.drop_pieces.ensures ∙ ap (gone c.args.req (range_with_len 0 c.args.n)) c.let_go.ensures.gone

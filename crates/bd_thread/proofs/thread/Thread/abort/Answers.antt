@@ -6,7 +6,7 @@ use Rattle.bd_machine.specs.declared.state.OpenRequest.{OpenRequest}
 use Rattle.bd_machine.specs.Aborts.{stopped}
 use Rattle.bd_due.specs.Stopping.{without_unsent}
 use Rattle.bd_links.specs.Entries.{longer}
-use Rattle.bd_links.specs.Tokens.{here_in, Sets}
+use Rattle.bd_tokens.specs.Tokens.{here_in, Sets}
 use Rattle.bd_thread.specs.declared.links.Links.{Links}
 use Rattle.bd_thread.specs.declared.thread.Thread.{Thread}
 use Rattle.bd_thread.specs.Aborts.{abort_due, Aborts, IsAborted}
@@ -27,13 +27,13 @@ returns c =
     let r = c.in-Some.r in
     let due : abort_due old before c.args.req c.args.cause ≡ Some r = sym c.abort_due.ensures ∙ c.in-Some.is in
     let part = untaken (stopped old.setup.now old.part c.args.req (Some r)) in
-    let new : Thread = record old { part = part; held = c.hold.new.tokens; outbox = c.drop_unsent.new.outbox } in
+    let new : Thread = record old { part = part; held = c.hold.new.self; outbox = c.drop_unsent.new.outbox } in
     let after : Links = record before { entries = longer old.me before.entries (acts.Abort c.args.req c.args.cause) } in
     let thread = c.in_ok-note.ensures.thread ∙ ap (λ p. let n : Thread = record new { part = untaken p } in n) c.stop_waiting.ensures in
     let is : IsAborted c.args.req c.args.cause r old before new after = record {
       thread = refl;
-      held = subst (λ (x : OpenRequest). Sets old.held.items c.hold.new.tokens.items (ids.Request c.args.req) (Some (keeps.Request x))) c.aborted.ensures c.in_ok-hold.ensures;
-      outbox = c.drop_unsent.ensures ∙ ap (λ xs. without_unsent c.args.req (here_in xs) old.outbox.items) c.as_slice.ensures.value;
+      held = subst (λ (x : OpenRequest). Sets old.held.items c.hold.new.self.items (ids.Request c.args.req) (Some (keeps.Request x))) c.aborted.ensures c.in_ok-hold.ensures.ok;
+      outbox = c.drop_unsent.ensures;
       links = refl;
     } in
     record {

@@ -4,14 +4,11 @@ use Rattle.bd_base.specs.declared.act.Act.TheVariants as acts
 use Rattle.bd_base.specs.declared.act.ApplyEnd.TheVariants as ends
 use Rattle.bd_home.specs.Serving.{can_serve}
 use Rattle.bd_machine.specs.declared.state.Base.{Base}
-use Rattle.bd_machine.specs.declared.state.Id.{Id}
-use Rattle.bd_machine.specs.declared.state.Id.TheVariants.{Piece}
-use Rattle.bd_machine.specs.declared.state.Kept.{Kept}
 use Rattle.bd_machine.specs.BlockMap.{home}
 use Rattle.bd_machine.specs.Homes.{is_base, is_first_at}
 use Rattle.bd_links.specs.Entries.{longer}
 use Rattle.bd_links.specs.Queues.{queues_of}
-use Rattle.bd_links.specs.Tokens.{here_in}
+use Rattle.bd_tokens.specs.Tokens.{here_in}
 use Rattle.bd_thread.specs.declared.links.Links.{Links}
 use Rattle.bd_thread.specs.declared.thread.Thread.{Thread}
 use Rattle.bd_thread.specs.Acted.{Acted}
@@ -29,25 +26,23 @@ returns-clause-acted c =
     let links = c.args.links.now in
     let dev = c.args.dev in
     let n = c.in-Some.next in
-    let id : Id = Piece n.req n.k in
     let act = acts.Apply n.req n.k dev ends.Done in
     let size = c.size_of-size.result in
     let here = here_in t.held.items in
-    let new : Thread = record t { part = untaken (record t.part { bases = c.serve.new.bases }); held = c.hold.new.tokens } in
+    let new : Thread = record t { part = untaken (record t.part { bases = c.serve.new.bases }); held = c.hold.new.self } in
     let after : Links = record links { entries = longer t.me links.entries act } in
-    let bases-are : t.part.bases ≡ c.as_slice-bases.result.now = sym c.as_slice-bases.ensures in
-    let tokens-are : t.held.items ≡ c.as_slice.result.now = sym c.as_slice.ensures.value in
+    let bases-are : t.part.bases ≡ c.as_slice.result.now = sym c.as_slice.ensures in
     let home-is : home t.setup.now dev ≡ t.me = at_home t.setup.now t.me dev (sym c.is_home.ensures ∙ c.if-not-is_home.false) in
     let holds = ap (λ (bs : List Base). may_hold t.setup.now dev (find (is_base dev) bs)) bases-are ∙ ap (may_hold t.setup.now dev) (sym c.find_base.ensures) ∙ sym c.may_hold.ensures ∙ c.if-not-may_hold.false in
     let first = ap (λ (bs : List Base). is_first_at n.req n.k (find (is_base dev) bs)) bases-are ∙ c.in-Some.ensures.next.first in
-    let is = ap (λ (ts : List (Id × Kept)). here_in ts id) tokens-are ∙ c.in-Some.ensures.next.here in
+    let is = c.in-Some.ensures.next.here in
     let ready = ap (λ (bs : List Base). can_serve size dev (find (is_base dev) bs) n.piece.now) bases-are ∙ c.in-Some.ensures.next.ready in
-    let stepped = apply_steps t.setup.now t.me t.part here links.registry.state links.shut (length links.entries) (queues_of links.queues.items) n.req n.k dev n.piece.now size c.in_ok-piece.piece c.serve.new.bases (here_in c.hold.new.tokens.items)
-    home-is c.size_of-size.ensures first is ready holds c.in_ok-piece.ensures.bases c.in_ok-piece.ensures.piece c.in_ok-hold.ensures in
+    let stepped = apply_steps t.setup.now t.me t.part here links.registry.state links.shut (length links.entries) (queues_of links.queues.items) n.req n.k dev n.piece.now size c.in_ok-piece.piece c.serve.new.bases (here_in c.hold.new.self.items)
+    home-is c.size_of-size.ensures first is ready holds c.in_ok-piece.ensures.bases c.in_ok-piece.ensures.piece c.in_ok-hold.ensures.ok in
     carried (Acted t links) new after _ _ c.in_ok-note.ensures.thread c.in_ok-note.ensures.links (acted_by t links new after act refl refl refl refl refl stepped)
 
 pub returns-clause-tickets : goal.returns-clause-tickets
 returns-clause-tickets c = λ keeps.
     let t = c.args.self.now in
-    let new : Thread = record t { part = untaken (record t.part { bases = c.serve.new.bases }); held = c.hold.new.tokens } in
+    let new : Thread = record t { part = untaken (record t.part { bases = c.serve.new.bases }); held = c.hold.new.self } in
     subst (λ (n : Thread). KeepsTickets n) (sym c.in_ok-note.ensures.thread) (same_tickets t new refl refl refl keeps)

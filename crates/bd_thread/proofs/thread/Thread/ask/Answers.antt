@@ -10,7 +10,7 @@ use Rattle.bd_changes.specs.Begun.{begun, with_walk}
 use Rattle.bd_registry.specs.State.{Registered, registered}
 use Rattle.bd_registry.proofs.Rows.{answer_of_rows, after_of_rows}
 use Rattle.bd_links.specs.Entries.{longer, next_stamp}
-use Rattle.bd_links.specs.Tokens.{here_in}
+use Rattle.bd_tokens.specs.Tokens.{here_in}
 use Rattle.bd_thread.specs.Acted.{Acted}
 use Rattle.bd_thread.specs.Lines.{answered, asked_registry, change_by, event_stamp, IsAnswered}
 use Rattle.bd_thread.specs.Walking.{sent_off}

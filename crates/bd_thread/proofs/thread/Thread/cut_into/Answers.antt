@@ -22,8 +22,8 @@ returns c =
     let after : Links = record before { entries = longer old.me before.entries (acts.Cut c.args.req n) } in
     let cut : IsCut c.args.req c.args.r n old before new after = record {
       pieces = c.in_ok-n.ensures ∙ ap (λ (es : List Extent). length es) c.in_ok-found.ensures;
-      held = cut_held old.setup.now c.args.req c.args.r n c.as_slice.result.now old.held.items c.hold.new.tokens.items c.hold_pieces.new.tokens.items
-          (c.as_slice.ensures ∙ c.in_ok-found.ensures) c.in_ok-hold.ensures c.in_ok-hold_pieces.ensures;
+      held = cut_held old.setup.now c.args.req c.args.r n c.as_slice.result.now old.held.items c.hold.new.self.items c.hold_pieces.new.tokens.items
+          (c.as_slice.ensures ∙ c.in_ok-found.ensures) c.in_ok-hold.ensures.ok c.in_ok-hold_pieces.ensures;
       outbox = search rules;
       thread = refl;
       links = refl;

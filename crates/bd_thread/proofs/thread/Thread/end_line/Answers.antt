@@ -6,7 +6,7 @@ use Rattle.bd_machine.specs.Asked.{next_line, outcome_by}
 use Rattle.bd_machine.specs.View.{View}
 use Rattle.bd_links.specs.Entries.{longer}
 use Rattle.bd_links.specs.Queues.{queues_of}
-use Rattle.bd_links.specs.Tokens.{here_in}
+use Rattle.bd_tokens.specs.Tokens.{here_in}
 use Rattle.bd_thread.specs.Acted.{Acted}
 use Rattle.bd_thread.specs.Lines.{done, IsEnded}
 use Rattle.bd_thread.specs.Requests.{KeepsTickets}

@@ -8,7 +8,7 @@ use Rattle.bd_machine.specs.Walks.{marked_by, walked}
 use Rattle.bd_changes.specs.Begun.{begun, walk_moved}
 use Rattle.bd_walks.specs.Walking.{with_channel}
 use Rattle.bd_links.specs.Entries.{longer}
-use Rattle.bd_links.specs.Tokens.{here_in}
+use Rattle.bd_tokens.specs.Tokens.{here_in}
 use Rattle.bd_thread.specs.declared.links.Links.{Links}
 use Rattle.bd_thread.specs.declared.thread.Thread.{Thread}
 use Rattle.bd_thread.specs.Acted.{Acted}
@@ -44,7 +44,7 @@ returns c =
     sym c.in_ok-next.ensures.moves ∙ ap (λ (p : Part). (walked me id after p).moves) marked ∙ sym (ap (λ (x : Change). x.moves) changed) in
     let began = c.in_ok-begin.ensures in
     let held : here_in c.begin.new.self.held.items ≡ held_after (visit_change t links id w).moves (here_in t.held.items) =
-    began.held ∙ ap (held_after (begun c.in_ok-next.next)) c.in_ok-hold_walk.ensures
+    began.held ∙ ap (held_after (begun c.in_ok-next.next)) c.in_ok-hold_walk.ensures.ok
     ∙ sym (held_then (walk_moved me id after) (begun c.in_ok-next.next) (here_in t.held.items))
     ∙ ap (λ (ms : List Move). held_after ms (here_in t.held.items)) moves in
     let new : Thread = record t { part = untaken (visit_change t links id w).part; held = c.begin.new.self.held; outbox = c.send_on.new.outbox } in

@@ -12,7 +12,7 @@ use Rattle.bd_machine.specs.View.{id_of}
 use Rattle.bd_links.specs.Entries.{longer}
 use Rattle.bd_links.specs.Queues.{queues_of}
 use Rattle.bd_changes.specs.Begun.{begun, token_moved}
-use Rattle.bd_links.specs.Tokens.{here_in, left_of}
+use Rattle.bd_tokens.specs.Tokens.{here_in, left_of}
 use Rattle.bd_thread.specs.declared.links.Links.{Links}
 use Rattle.bd_thread.specs.declared.thread.Thread.{Thread}
 use Rattle.bd_thread.specs.Acted.{Acted}
@@ -43,24 +43,24 @@ returns-clause-acted c =
     c.in_ok-begun.ensures.part id ∙ ap (λ (p : Part). (taken_by setup t.me m.what p (Some m.kept) id).part) c.in_ok-took.ensures in
     let moves : (taken_by setup t.me m.what counted (Some m.kept) id).moves ≡ token_moved t.me m.what (Some m.kept) id ++ begun c.in_ok-begun.begun =
     ap (λ (p : Part). (taken_by setup t.me m.what p (Some m.kept) id).moves) (sym c.in_ok-took.ensures) ∙ c.in_ok-begun.ensures.moves id in
-    let held : here_in c.hold_begun.new.tokens.items ≡ held_after (taken_by setup t.me m.what counted (Some m.kept) id).moves here =
-    c.in_ok-hold_begun.ensures
-    ∙ ap (held_after (begun c.in_ok-begun.begun)) c.in_ok-land.ensures
+    let held : here_in c.hold_begun.new.self.items ≡ held_after (taken_by setup t.me m.what counted (Some m.kept) id).moves here =
+    c.in_ok-hold_begun.ensures.ok
+    ∙ ap (held_after (begun c.in_ok-begun.begun)) c.in_ok-land.ensures.ok
     ∙ ap (λ (i : Id). held_after (begun c.in_ok-begun.begun) (λ j. cond (same_id i j) (left_of t.me m.what m.kept) (here j))) c.id_of-id.ensures
     ∙ landed_moves t.me m.sender number m.what m.kept c.in_ok-begun.begun (taken_by setup t.me m.what counted (Some m.kept) id).moves here
     (and_parts (is_built_token m.what) (brings m.what (Some m.kept)) brought).1 moves in
-    let new : Thread = record t { part = untaken c.arrived.new.part; held = c.hold_begun.new.tokens } in
+    let new : Thread = record t { part = untaken c.arrived.new.part; held = c.hold_begun.new.self } in
     let after : Links = record links { queues = c.pop.new.queues; entries = longer t.me links.entries (acts.Took m.sender number m.what) } in
     carried (Acted t links) new after _ _ c.in_ok-note.ensures.thread c.in_ok-note.ensures.links
     (acted_by t links new after (acts.Took m.sender number m.what) refl refl c.in-Some.ensures.len refl refl
-    (took_steps setup t.me t.part here links.registry.state links.shut (length links.entries) queues m number c.arrived.new.part (here_in c.hold_begun.new.tokens.items) rest (rest t.me)
+    (took_steps setup t.me t.part here links.registry.state links.shut (length links.entries) queues m number c.arrived.new.part (here_in c.hold_begun.new.self.items) rest (rest t.me)
     next brought part held first c.in-Some.ensures.some.rest))
 
 pub returns-clause-tickets : goal.returns-clause-tickets
 returns-clause-tickets c = λ keeps.
     let t = c.args.self.now in
     let m = c.in-Some.message in
-    let new : Thread = record t { part = untaken c.arrived.new.part; held = c.hold_begun.new.tokens } in
+    let new : Thread = record t { part = untaken c.arrived.new.part; held = c.hold_begun.new.self } in
     let part = c.in_ok-begun.ensures.part c.id_of-id.result in
     let kept = took_open t.setup.now t.me m.what c.took.new.part (Some m.kept) c.id_of-id.result in
     let requests = ap (λ (p : Part). p.requests) part ∙ kept.0 ∙ ap (λ (p : Part). p.requests) c.in_ok-took.ensures in
@@ -75,7 +75,7 @@ returns-clause-keeps c =
     let rest = queues_of c.pop.new.queues.items in
     let first = c.in-Some.ensures.some.first in
     let brought : is_built_token m.what && brings m.what (Some m.kept) ≡ true = brought_first (queues_of links.queues.items t.me) m (rest t.me) (search rules) first in
-    let new : Thread = record t { part = untaken c.arrived.new.part; held = c.hold_begun.new.tokens } in
+    let new : Thread = record t { part = untaken c.arrived.new.part; held = c.hold_begun.new.self } in
     let after : Links = record links { queues = c.pop.new.queues; entries = longer t.me links.entries (acts.Took m.sender c.count_at-number.result m.what) } in
     let part = c.in_ok-begun.ensures.part c.id_of-id.result in
     let kept = took_open t.setup.now t.me m.what c.took.new.part (Some m.kept) c.id_of-id.result in
