@@ -1,5 +1,5 @@
 //! A request is accepted, or completes.
-ghost use Rattle.std.specs.Prelude.{◌≡◌, ◌++◌, filter, not, option_copied, OnOk};
+ghost use Rattle.std.specs.Prelude.{◌≡◌, ◌++◌, filter, not, option_copied, position, OnOk};
 ghost use Rattle.bd_machine.specs.Requests.{change_complete, submitted_at};
 ghost use Rattle.bd_machine.specs.Same.{same_request};
 ghost use Rattle.bd_machine.specs.Walks.{is_reset_of};
@@ -48,12 +48,33 @@ pub fn accepted(part: &mut Part, line: Option<&Line>, request: Open) -> Result<(
     Ok(())
 }
 
+// The place of the first request of this id.
+fn place_of(requests: &[Open], req: ReqId) -> Option<usize>
+    ensures { result ≡ position (λ r. same_request r.id req) requests.now }
+{
+    requests.iter().position(|r| same_request(r.id, req))
+}
+
+// Takes out each request of this id. Ids are given once, so that is one; and requests complete mostly in
+// the order in which they were accepted, so it stands near the front.
+fn take_out(requests: &mut Vec<Open>, req: ReqId)
+    ensures { requests.new.items ≡ filter (λ r. not (same_request r.id req)) requests.old.items }
+{
+    let Some(place) = place_of(requests.as_slice(), req) else {
+        return;
+    };
+    requests.remove(place);
+    if place_of(requests.as_slice(), req).is_some() {
+        requests.retain(|r| !same_request(r.id, req));
+    }
+}
+
 /// Takes a request out of those that are open.
 pub fn remove_open(alloc: Global, requests: &mut Rows<Open>, req: ReqId)
     ensures { requests.new ≡ filter (λ r. not (same_request r.id req)) requests.old }
 {
     let mut left = replace(requests, Rows::new(alloc)).into_vec();
-    left.retain(|r| !same_request(r.id, req));
+    take_out(&mut left, req);
     *requests = Rows::from_vec(left);
 }
 

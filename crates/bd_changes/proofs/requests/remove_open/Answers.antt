@@ -1,5 +1,4 @@
-use Rattle.std.proofs.Common.{not, filter, ◌∙◌, ap, rules}
-use Rattle.std.proofs.lemmas.Fn.{filter_same}
+use Rattle.std.proofs.Common.{not, filter, ◌∙◌, ap}
 use Rattle.bd_machine.specs.declared.state.Open.{Open}
 use Rattle.bd_machine.specs.Same.{same_request}
 use Rattle.bd_changes.proofs.requests.remove_open.Goals as goal
@@ -7,5 +6,5 @@ use Rattle.bd_changes.proofs.requests.remove_open.Goals as goal
 pub returns : goal.returns
 returns c =
     c.from_vec.ensures
-    ∙ filter_same _ (λ (r : Open). not (same_request r.id c.args.req)) _ (λ x b f' t. search rules) _ _ c.retain.ensures.filtered
+    ∙ c.take_out.ensures
     ∙ ap (filter (λ (r : Open). not (same_request r.id c.args.req))) (c.into_vec-left.ensures ∙ c.replace.ensures.value)
