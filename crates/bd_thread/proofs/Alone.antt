@@ -133,7 +133,7 @@ destructs_alone o a n c dev done keeps h = go (may_device_go o a dev) (digest_du
     go false (Some digest) k = alone_same a c k.1.1
     go false None k = alone_same a c k.1.1
 
-completes_alone : (req : ReqId) (o : Thread) (a : Links) (n : Thread) (c : Links) → MayComplete req o a n c → AsksNothing a c
+pub completes_alone : (req : ReqId) (o : Thread) (a : Links) (n : Thread) (c : Links) → MayComplete req o a n c → AsksNothing a c
 completes_alone req o a n c h = go (ending_of o.setup.now o.me (view_of o a) req) h.completes
   where
     go : (e : Option Ending) → CompletesBy req o a n c h.done e → AsksNothing a c

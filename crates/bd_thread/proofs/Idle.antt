@@ -1,5 +1,5 @@
 -- What adds no entry changes nothing.
-use Rattle.std.proofs.Common.{◌≡◌, ℕ, ◌≤◌, Bool, true, false, ◌==◌, List, [], ◌∷◌, length, Option, Some, None, Result, Ok, Err, OnOk, IfOk, refl, ◌∙◌, ap, subst, arith, find}
+use Rattle.std.proofs.Common.{◌≡◌, ℕ, ◌≤◌, Bool, true, false, ◌==◌, List, [], ◌∷◌, length, Option, Some, None, Result, Ok, Err, OnOk, IfOk, refl, sym, ◌∙◌, ap, subst, arith, find}
 use Rattle.std.proofs.lemmas.List.{length-append}
 use Rattle.bd_base.specs.declared.act.Act.{Act}
 use Rattle.bd_base.specs.declared.act.Act.TheVariants as acts
@@ -23,7 +23,9 @@ use Rattle.bd_machine.specs.declared.state.OpenRequest.{OpenRequest}
 use Rattle.bd_machine.specs.declared.state.OpenWalk.{OpenWalk}
 use Rattle.bd_machine.specs.BlockMap.{is_malloc}
 use Rattle.bd_machine.specs.Homes.{is_base}
+use Rattle.bd_machine.specs.Kept.{request_here}
 use Rattle.bd_machine.specs.Messages.{count_at}
+use Rattle.bd_machine.specs.Requests.{may_cut}
 use Rattle.bd_turns.specs.declared.queue.Message.{Message}
 use Rattle.bd_links.specs.Entries.{longer}
 use Rattle.bd_links.specs.Queues.{queues_of}
@@ -34,6 +36,7 @@ use Rattle.bd_thread.specs.Aborts.{abort_due, Stops, StopsBy, StopsEach}
 use Rattle.bd_thread.specs.Acted.{Acted}
 use Rattle.bd_due.specs.Completions.{ending_of}
 use Rattle.bd_thread.specs.Completions.{Completes, CompletesBy, MayComplete}
+use Rattle.bd_thread.specs.Cuts.{may_cut_now, Cuts, CutsBy}
 use Rattle.bd_blocks.specs.Digests.{digest_due}
 use Rattle.bd_thread.specs.Destructs.{may_device_go, DestructAdded, Destructs}
 use Rattle.bd_thread.specs.Duties.{duty_asked, Discharges, NoDuty}
@@ -88,6 +91,17 @@ idle_then {P = P} {Q = Q} {R = R} o a m b n c g h both f s few =
       waits = both first.waits (subst (λ (t : Thread). Q t a) first.thread (subst (λ (l : Links). Q m l) first.links second.waits));
     }
 
+-- the last step, which promises something only where nothing was done before
+pub idle_last : {P Q R : Thread → Links → Type 0} (o : Thread) (a : Links) (m : Thread) (b : Links) (n : Thread) (c : Links)
+    → Acted o a m b
+    → Acted m b n c
+    → (P o a → Q o a → R o a)
+    → Idles P o a m b
+    → (length a.entries ≡ length b.entries → Idles Q m b n c)
+    → Idles R o a n c
+idle_last {P = P} {Q = Q} {R = R} o a m b n c g h both f s few =
+    idle_then {P = P} {Q = Q} {R = R} o a m b n c g h both f (s (omega (arith, grown o a m b g, grown m b n c h, few))) few
+
 -- ---- the exact clauses of the steps
 
 pub takes_idle : (old : Thread) (before : Links) (new : Thread) (after : Links) (id : Option Id) → Takes old before new after id → Idles NoMessage old before new after
@@ -96,6 +110,25 @@ takes_idle old before new after id h few = go (first_brought (queues_of before.q
     go : (o : Option Message) → first_brought (queues_of before.queues.items old.me) ≡ o → TakesBy old before new after id o → IsIdle NoMessage old before new after
     go None e k = record { thread = k.1; links = k.2; waits = e }
     go (Some m) e k = absurd (more old.me before after (acts.Took m.sender (count_at old.part.taken m.sender) m.what) k.1 few)
+
+pub cuts_idle : {P : Thread → Links → Type 0} (req : ReqId) (old : Thread) (before : Links) (new : Thread) (after : Links) (n : ℕ) → (may_cut_now req old before ≡ false → P old before) → Cuts req old before new after n → Idles P old before new after
+cuts_idle {P = P} req old before new after n so h few = go (request_here (view_of old before) req) refl (may_cut_now req old before) refl h
+  where
+    none : may_cut_now req old before ≡ true → request_here (view_of old before) req ≡ None → ⊥
+    none may is = let uncut = ap (may_cut old.setup.now old.me (view_of old before) req) is in let both = sym may ∙ uncut in cc
+
+    go : (r : Option OpenRequest) → request_here (view_of old before) req ≡ r → (b : Bool) → may_cut_now req old before ≡ b → CutsBy req n old before new after b r → IsIdle P old before new after
+    go (Some r) is true may k = absurd (more old.me before after (acts.Cut req n) (ap (λ (l : Links). l.entries) k.links) few)
+    go None is true may k = absurd (none may is)
+    go (Some r) is false may k = record { thread = k.1; links = k.2; waits = so may }
+    go None is false may k = record { thread = k.1; links = k.2; waits = so may }
+
+pub completion_idle : (req : ReqId) (old : Thread) (before : Links) (new : Thread) (after : Links) (done : Bool) → Completes req old before new after done → Idles (λ t links. ending_of t.setup.now t.me (view_of t links) req ≡ None) old before new after
+completion_idle req old before new after done h few = go (ending_of old.setup.now old.me (view_of old before) req) refl h
+  where
+    go : (o : Option Ending) → ending_of old.setup.now old.me (view_of old before) req ≡ o → CompletesBy req old before new after done o → IsIdle (λ t links. ending_of t.setup.now t.me (view_of t links) req ≡ None) old before new after
+    go None e k = record { thread = k.1; links = k.2; waits = e }
+    go (Some ending) e k = absurd (more old.me before after (acts.Complete req ending.status ending.shown) (ap (λ (l : Links). l.entries) k.1.links) few)
 
 pub completes_idle : {P : Thread → Links → Type 0} (req : ReqId) (old : Thread) (before : Links) (new : Thread) (after : Links) (done : Bool) → P old before → Completes req old before new after done → Idles P old before new after
 completes_idle {P = P} req old before new after done p h few = go (ending_of old.setup.now old.me (view_of old before) req) h

@@ -13,6 +13,7 @@ pub mod Destructs
 pub mod Starting
 pub mod Leftovers
 pub mod Idle
+pub mod Carried
 pub mod Waiting
 pub mod Walking
 pub mod Aborting

@@ -54,9 +54,9 @@ use Rattle.bd_thread.specs.Lines.{claim_if_bound, claim_of, close_of, handle_if_
 use Rattle.bd_thread.specs.Moves.{turned_of}
 use Rattle.bd_thread.specs.Sent.{may_put}
 use Rattle.bd_thread.specs.Seen.{local, view_of}
-use Rattle.bd_thread.specs.Waits.{asks_unbuilt, is_line_waiting, is_submission, is_unbuilt, may_post, may_send, Idles, IsWaiting, NoDestructBelow, NoDestructOn, NoHandleBelow, NoHandleOn, NoLine, NoMessage, NoPiece, NoPieceBelow, NoPieceOn, NothingLeft, NothingToPost, NothingToSend, Quiets}
+use Rattle.bd_thread.specs.Waits.{asks_unbuilt, is_line_waiting, is_submission, is_unbuilt, may_post, may_send, Idles, IsWaiting, NoDestructBelow, NoDestructOn, NoHandleBelow, NoHandleOn, NoLine, NoMessage, NoPiece, NoPieceBelow, NoPieceOn, NoStep, NothingLeft, NothingToPost, NothingToSend, Quiets}
 use Rattle.bd_thread.proofs.Going.{acted_then}
-use Rattle.bd_thread.proofs.Idle.{idle_then}
+use Rattle.bd_thread.proofs.Idle.{idle_last, idle_then}
 use Rattle.bd_thread.proofs.Leftovers.{found_is}
 
 -- ---- what is the same as itself
@@ -373,23 +373,25 @@ due_waits t links x first stays = go t.part.due refl first
 -- ---- the answer of a turn
 
 -- one part of a turn after the other
-pub turn_idle : (o : Thread) (a : Links) (m : Thread) (z : Links) (p : Thread) (b : Links) (q : Thread) (d : Links) (r : Thread) (e : Links) (u : Thread) (k : Links) (s : Thread) (f : Links) (n : Thread) (g : Links)
+pub turn_idle : (o : Thread) (a : Links) (m : Thread) (z : Links) (p : Thread) (b : Links) (q : Thread) (d : Links) (r : Thread) (e : Links) (u : Thread) (k : Links) (s : Thread) (f : Links) (x : Thread) (y : Links) (n : Thread) (g : Links)
     → Acted o a m z
     → Acted m z p b
     → Acted p b q d
     → Acted q d r e
     → Acted r e u k
     → Acted u k s f
-    → Acted s f n g
+    → Acted s f x y
+    → Acted x y n g
     → Idles NoMessage o a m z
     → Idles NoDuty m z p b
     → Idles NoPiece p b q d
     → Idles NoLine q d r e
     → Idles NothingLeft r e u k
     → Idles NothingToSend u k s f
-    → Idles NothingToPost s f n g
+    → Idles NothingToPost s f x y
+    → (length a.entries ≡ length y.entries → Idles NoStep x y n g)
     → Idles IsWaiting o a n g
-turn_idle o a m z p b q d r e u k s f n g received discharged served commanded ended sent posted message duty piece line left outbox due =
+turn_idle o a m z p b q d r e u k s f x y n g received discharged served commanded ended sent posted carried message duty piece line left outbox due request =
     let one : Idles (λ t links. NoMessage t links × NoDuty t links) o a p b =
     idle_then o a m z p b received discharged (λ no_message no_duty. (no_message, no_duty)) message duty in
     let one_acted = acted_then o a m z p b received discharged in
@@ -404,8 +406,11 @@ turn_idle o a m z p b q d r e u k s f n g received discharged served commanded e
     let four_acted = acted_then o a r e u k three_acted ended in
     let five : Idles (λ t links. NoMessage t links × NoDuty t links × NoPiece t links × NoLine t links × NothingLeft t links × NothingToSend t links) o a s f =
     idle_then o a u k s f four_acted sent (λ so no_send. (so.0, so.1, so.2, so.3, so.4, no_send)) four outbox in
-    idle_then o a s f n g (acted_then o a u k s f four_acted sent) posted
-    (λ so no_post. record { message = so.0; duty = so.1; piece = so.2; line = line_waits o a so.3; left = so.4; outbox = so.5; due = no_post }) five due
+    let five_acted = acted_then o a u k s f four_acted sent in
+    let six : Idles (λ t links. NoMessage t links × NoDuty t links × NoPiece t links × NoLine t links × NothingLeft t links × NothingToSend t links × NothingToPost t links) o a x y =
+    idle_then o a s f x y five_acted posted (λ so no_post. (so.0, so.1, so.2, so.3, so.4, so.5, no_post)) five due in
+    idle_last o a x y n g (acted_then o a s f x y five_acted posted) carried
+    (λ so no_step. record { message = so.0; duty = so.1; piece = so.2; line = line_waits o a so.3; left = so.4; outbox = so.5; due = so.6; request = no_step }) six request
 
 pub quiet_by : (o : Thread) (a : Links) (n : Thread) (c : Links) (turned : Turned) → turned ≡ turned_of (length a.entries) (length c.entries) → Idles IsWaiting o a n c → Quiets o a n c turned
 quiet_by o a n c turned e h = subst (Quiets o a n c) (sym e) (go (length a.entries == length c.entries) refl)

@@ -162,6 +162,7 @@ nothing_else_waits t links alone unwanted =
         left = record { removal = no_removal t links four.1; own = record { handle = no_handle t links four.0; device = alone.device } };
         outbox = alone.outbox;
         due = alone.due;
+        request = alone.request;
       },
     )
   where

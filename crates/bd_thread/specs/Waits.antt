@@ -1,12 +1,14 @@
 -- What a thread waits for where its turn added no entry.
-use Rattle.std.specs.Prelude.{◌≡◌, ℕ, ◌<◌, ◌≤◌, ◌^◌, Bool, true, false, not, ◌&&◌, ◌||◌, nat_lt, List, [], ◌∷◌, length, find, vec_len, Option, Some, None, is_some}
+use Rattle.std.specs.Prelude.{◌≡◌, ℕ, ◌<◌, ◌≤◌, ◌^◌, Bool, true, false, not, ◌&&◌, ◌||◌, nat_lt, List, [], ◌∷◌, length, find, slice_get, vec_len, Option, Some, None, is_some}
 use Rattle.bd_base.specs.declared.act.Token.{Token}
 use Rattle.bd_base.specs.declared.id.DevId.{DevId}
+use Rattle.bd_base.specs.declared.id.ReqId.{ReqId}
 use Rattle.bd_base.specs.declared.job.Job.{Job}
 use Rattle.bd_base.specs.declared.job.Job.TheVariants as jobs
 use Rattle.bd_base.specs.declared.setup.Setup.{Setup}
 use Rattle.bd_blocks.specs.Digests.{digest_due}
 use Rattle.bd_machine.specs.declared.state.Due.{Due}
+use Rattle.bd_machine.specs.declared.state.Open.{Open}
 use Rattle.bd_machine.specs.Admission.{has_range}
 use Rattle.bd_machine.specs.Asked.{bound_to, is_script_blocked, most_requests, undecided_job}
 use Rattle.bd_machine.specs.BlockMap.{is_malloc}
@@ -15,12 +17,14 @@ use Rattle.bd_machine.specs.Homes.{is_base}
 use Rattle.bd_machine.specs.Messages.{may_go}
 use Rattle.bd_machine.specs.View.{View}
 use Rattle.bd_due.specs.Asking.{is_base_if_any}
+use Rattle.bd_due.specs.Completions.{ending_of}
 use Rattle.bd_due.specs.Sending.{first_brought, token_of}
 use Rattle.bd_links.specs.Queues.{is_full, queues_of}
 use Rattle.bd_thread.specs.declared.links.Links.{Links}
 use Rattle.bd_thread.specs.declared.thread.Thread.{Thread}
 use Rattle.bd_thread.specs.declared.turn.Turned.{Turned}
 use Rattle.bd_thread.specs.declared.turn.Turned.TheVariants.{Moved, Quiet}
+use Rattle.bd_thread.specs.Cuts.{may_cut_now}
 use Rattle.bd_thread.specs.Destructs.{may_device_go}
 use Rattle.bd_thread.specs.Duties.{NoDuty}
 use Rattle.bd_thread.specs.Endings.{left_on, removal_due}
@@ -45,6 +49,21 @@ NoPieceBelow n t links = (dev : DevId) → dev.0 < n → NoPieceOn dev t links
 -- nor on any; their numbers have 32 bits
 abbrev pub NoPiece : Thread → Links → Type 0
 NoPiece = NoPieceBelow (2 ^ 32)
+
+-- ---- open requests
+
+-- the request can be neither cut nor completed
+pub record NoStepOf (req : ReqId) (t : Thread) (links : Links) : Type 0 where
+  pub cut : may_cut_now req t links ≡ false
+  pub completion : ending_of t.setup.now t.me (view_of t links) req ≡ None
+
+-- nor can any of the first n open requests
+abbrev pub NoStepBelow : ℕ → Thread → Links → Type 0
+NoStepBelow n t links = (i : ℕ) (o : Open) → i < n → slice_get t.part.requests i ≡ Some o → NoStepOf o.id t links
+
+-- nor can any open request of the thread
+abbrev pub NoStep : Thread → Links → Type 0
+NoStep t links = (i : ℕ) (o : Open) → slice_get t.part.requests i ≡ Some o → NoStepOf o.id t links
 
 -- ---- the next line
 
@@ -169,7 +188,7 @@ pub record IsIdle (Waits : Thread → Links → Type 0) (old : Thread) (before :
 abbrev pub Idles : (Thread → Links → Type 0) → Thread → Links → Thread → Links → Type 0
 Idles Waits old before new after = length after.entries ≤ length before.entries → IsIdle Waits old before new after
 
--- all that a thread waits for: a message that it can take, something that it owes and can do, a piece that it can serve on a device whose home it is, a line that can go on, after Shutdown on thread 0 a device that it can remove, a handle that it can close by itself or a device that it can destruct, and room for the first of its outbox, if that may go there, and for the first message that is due
+-- all that a thread waits for: a message that it can take, something that it owes and can do, a piece that it can serve on a device whose home it is, an open request that it can cut or complete, a line that can go on, after Shutdown on thread 0 a device that it can remove, a handle that it can close by itself or a device that it can destruct, and room for the first of its outbox, if that may go there, and for the first message that is due
 pub record IsWaiting (t : Thread) (links : Links) : Type 0 where
   pub message : NoMessage t links
   pub duty : NoDuty t links
@@ -178,6 +197,7 @@ pub record IsWaiting (t : Thread) (links : Links) : Type 0 where
   pub left : NothingLeft t links
   pub outbox : NothingToSend t links
   pub due : NothingToPost t links
+  pub request : NoStep t links
 
 -- a quiet turn changed nothing, and the thread waits for all this
 abbrev pub Quiets : Thread → Links → Thread → Links → Turned → Type 0

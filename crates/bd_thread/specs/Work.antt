@@ -14,7 +14,7 @@ use Rattle.bd_thread.specs.declared.turn.Turned.TheVariants.{Moved, Quiet}
 use Rattle.bd_thread.specs.Acted.{Acted}
 use Rattle.bd_thread.specs.Endings.{left_on}
 use Rattle.bd_thread.specs.Lines.{job_now, outcome_now}
-use Rattle.bd_thread.specs.Waits.{IsIdle, IsWaiting, NoDestruct, NoLine, NoMessage, NoPiece, NoSubmission, NothingToPost, NothingToSend}
+use Rattle.bd_thread.specs.Waits.{IsIdle, IsWaiting, NoDestruct, NoLine, NoMessage, NoPiece, NoStep, NoSubmission, NothingToPost, NothingToSend}
 
 -- ---- what asks the registry for nothing
 
@@ -46,6 +46,7 @@ pub record IsWaitingAlone (t : Thread) (links : Links) : Type 0 where
   pub device : NoDestruct t links
   pub outbox : NothingToSend t links
   pub due : NothingToPost t links
+  pub request : NoStep t links
 
 -- quiet work changed nothing, and the thread waits for all this
 abbrev pub QuietsAlone : Thread → Links → Thread → Links → Turned → Type 0

@@ -11,6 +11,7 @@ mod links;
 mod messages;
 mod requests;
 mod resting;
+mod steps;
 mod thread;
 mod turn;
 mod view;

@@ -335,9 +335,10 @@ impl<'a> Thread<'a> {
 
     /// A turn: at most 8 messages, what the thread owes, at most 8 pieces of each store, at most 8 lines of
     /// the script, the closes of handles whose device is being removed (after Shutdown of all) and the
-    /// destructs that are due, and what is still to be put, until the queue that it goes to is full. `Quiet` only where none of this could be done. It answers
-    /// out of memory also where a number runs out: after 2^62 requests of the thread, or where a count
-    /// of messages, handles, pieces or lines would pass its type.
+    /// destructs that are due, and what is still to be put, until the queue that it goes to is full; where
+    /// it did none of this, it cuts or completes the first open request that can be. `Quiet` only where
+    /// nothing could be done. It answers out of memory also where a number runs out: after 2^62 requests
+    /// of the thread, or where a count of messages, handles, pieces or lines would pass its type.
     pub fn turn(&mut self, links: &mut Links) -> Result<Turned, OutOfMemory>
         requires me { number_of self.old < vec_len links.old.queues }
         requires rows { links.old.registry.setup ≡ rows_of (setup_of self.old) }
@@ -354,6 +355,7 @@ impl<'a> Thread<'a> {
         self.end_all(links)?;
         self.put_outbox(links)?;
         self.put_all_due(links)?;
+        self.carry_all(links, before)?;
         Ok(tell(before, links.entries.len()))
     }
 }

@@ -37,8 +37,9 @@ impl<'a> Thread<'a> {
 
     /// A turn that asks the registry for nothing, and leaves it as it is: at most 8 messages, at most 8
     /// pieces of each store, at most 8 lines of the script as far as they submit or only end, the
-    /// destructs that are due, and what is still to be put, until the queue that it goes to is full.
-    /// `Quiet` only where none of this could be done. It answers out of memory where `turn` does.
+    /// destructs that are due, and what is still to be put, until the queue that it goes to is full;
+    /// where it did none of this, it cuts or completes the first open request that can be. `Quiet` only
+    /// where nothing could be done. It answers out of memory where `turn` does.
     pub fn work(&mut self, links: &mut Links) -> Result<Turned, OutOfMemory>
         requires { number_of self.old < vec_len links.old.queues }
         ensures acted { OnOk result (Acted self.old links.old self.new links.new) }
@@ -54,6 +55,7 @@ impl<'a> Thread<'a> {
         self.destruct_all(links)?;
         self.put_outbox(links)?;
         self.put_all_due(links)?;
+        self.carry_all(links, before)?;
         Ok(tell(before, links.entries.len()))
     }
 

@@ -11,18 +11,19 @@ returns-clause-acted c =
     let d = acted_then _ _ _ _ _ _ b c.in_ok-command_all.ensures.acted in
     let ended = acted_then _ _ _ _ _ _ d c.in_ok-end_all.ensures.acted in
     let e = acted_then _ _ _ _ _ _ ended c.in_ok-put_outbox.ensures.acted in
-    acted_then _ _ _ _ _ _ e c.in_ok-put_all_due.ensures.acted
+    let f = acted_then _ _ _ _ _ _ e c.in_ok-put_all_due.ensures.acted in
+    acted_then _ _ _ _ _ _ f c.in_ok-carry_all.ensures.acted
 
 pub returns-clause-tickets : goal.returns-clause-tickets
 returns-clause-tickets c = λ keeps.
-    c.in_ok-put_all_due.ensures.tickets (c.in_ok-put_outbox.ensures.tickets (c.in_ok-end_all.ensures.tickets (c.in_ok-command_all.ensures.tickets (c.in_ok-serve_all.ensures.tickets (c.in_ok-discharge_all.ensures.tickets (c.in_ok-receive_all.ensures.tickets keeps))))))
+    c.in_ok-carry_all.ensures.tickets (c.in_ok-put_all_due.ensures.tickets (c.in_ok-put_outbox.ensures.tickets (c.in_ok-end_all.ensures.tickets (c.in_ok-command_all.ensures.tickets (c.in_ok-serve_all.ensures.tickets (c.in_ok-discharge_all.ensures.tickets (c.in_ok-receive_all.ensures.tickets keeps)))))))
 
 pub returns-clause-quiet : goal.returns-clause-quiet
 returns-clause-quiet c =
     let before = c.args.links.now in
-    let after = c.put_all_due.new.links in
+    let after = c.carry_all.new.links in
     let answer = c.tell.ensures ∙ ap (λ n. turned_of n c.len.result) c.len-before.ensures ∙ ap (λ n. turned_of (length before.entries) n) c.len.ensures in
-    quiet_by c.args.self.now before c.put_all_due.new.self after c.tell.result answer
-    (turn_idle _ _ _ _ _ _ _ _ _ _ _ _ _ _ _ _
-    c.in_ok-receive_all.ensures.acted c.in_ok-discharge_all.ensures.acted c.in_ok-serve_all.ensures.acted c.in_ok-command_all.ensures.acted c.in_ok-end_all.ensures.acted c.in_ok-put_outbox.ensures.acted c.in_ok-put_all_due.ensures.acted
-    c.in_ok-receive_all.ensures.quiet c.in_ok-discharge_all.ensures.quiet c.in_ok-serve_all.ensures.quiet c.in_ok-command_all.ensures.quiet c.in_ok-end_all.ensures.quiet c.in_ok-put_outbox.ensures.quiet c.in_ok-put_all_due.ensures.quiet)
+    quiet_by c.args.self.now before c.carry_all.new.self after c.tell.result answer
+    (turn_idle _ _ _ _ _ _ _ _ _ _ _ _ _ _ _ _ _ _
+    c.in_ok-receive_all.ensures.acted c.in_ok-discharge_all.ensures.acted c.in_ok-serve_all.ensures.acted c.in_ok-command_all.ensures.acted c.in_ok-end_all.ensures.acted c.in_ok-put_outbox.ensures.acted c.in_ok-put_all_due.ensures.acted c.in_ok-carry_all.ensures.acted
+    c.in_ok-receive_all.ensures.quiet c.in_ok-discharge_all.ensures.quiet c.in_ok-serve_all.ensures.quiet c.in_ok-command_all.ensures.quiet c.in_ok-end_all.ensures.quiet c.in_ok-put_outbox.ensures.quiet c.in_ok-put_all_due.ensures.quiet (λ same. c.in_ok-carry_all.ensures.quiet (c.len-before.ensures ∙ same)))
