@@ -1,3 +1,3 @@
-pub mod Ends
+pub mod Completing
 pub mod Marks
 pub mod Laws

@@ -5,9 +5,7 @@ ghost use Rattle.bd_flight.specs.Due.{end_due, may_be_held};
 
 use bd_base::{ReqId, Setup, Status};
 use bd_machine::{Hold, OpenRequest};
-use bd_rules::{
-    all_back, all_ended, any_faulted, is_at_own, is_delayed, may_complete, status_due,
-};
+use bd_rules::{all_back, all_ended, any_faulted, is_at_own, is_delayed, may_complete, status_due};
 use bd_view::Sees;
 
 /// The status with which this request, which is here, completes, where the rules let it.

@@ -1,12 +1,16 @@
 //! The next step of an open request.
-ghost use Rattle.std.specs.Prelude.{◌≡◌, Some};
+ghost use Rattle.std.specs.Prelude.{◌≡◌, true, Some};
+ghost use Rattle.bd_base.specs.declared.request.AbortCause.{AbortCause};
+ghost use Rattle.bd_base.specs.declared.request.Status.{Status};
 ghost use Rattle.bd_machine.specs.Kept.{request_here};
-ghost use Rattle.bd_flight.specs.Next.{first_step, next_step, steps_due, way_due};
+ghost use Rattle.bd_flight.specs.declared.next.Step.{Step};
+ghost use Rattle.bd_flight.specs.declared.next.Step.TheVariants.{Abort, Complete, Cut, Wait};
+ghost use Rattle.bd_flight.specs.Next.{first_step, is_abort, may_take, next_step, steps_due, way_due};
 
 use crate::aborts::abort_due;
 use crate::ends::{end_due, may_be_held};
 use crate::limits::{decision_due, limit_due};
-use bd_base::{AbortCause, DevId, ReqId, Setup, Status};
+use bd_base::{AbortCause, Decision, DevId, ReqId, Setup, Status};
 use bd_course::refused_pend;
 use bd_machine::OpenRequest;
 use bd_rules::{may_cut, request_here};
@@ -44,7 +48,7 @@ fn step_on_way<S: Sees>(seen: &S, setup: &Setup, me: u32, req: ReqId, r: OpenReq
     if let Some(dev) = decision_due(seen, setup, me, req, r) {
         return Step::Inject(dev);
     }
-    if refused_pend(seen, me, req).is_none() {
+    if matches!(r.injected.last, Decision::Pend) && refused_pend(seen, me, req).is_none() {
         Step::Pend
     } else {
         Step::Wait
@@ -62,7 +66,7 @@ fn step_here<S: Sees>(seen: &S, setup: &Setup, me: u32, req: ReqId, r: OpenReque
     if let Some(status) = end_due(seen, setup, me, req, r) {
         return Step::Complete(status);
     }
-    if may_cut(seen, setup, me, req) {
+    if r.pieces.is_none() && may_cut(seen, setup, me, req) {
         return Step::Cut;
     }
     if may_be_held(seen, setup, me, req, r) {
@@ -71,12 +75,26 @@ fn step_here<S: Sees>(seen: &S, setup: &Setup, me: u32, req: ReqId, r: OpenReque
     step_on_way(seen, setup, me, req, r)
 }
 
-/// The next step of a request, by the rules over what the thread `me` sees.
-pub fn next_step<S: Sees>(seen: &S, setup: &Setup, me: u32, req: ReqId) -> Step
+// What a request does next; one that isn't here waits.
+fn step_now<S: Sees>(seen: &S, setup: &Setup, me: u32, req: ReqId) -> Step
     ensures { result ≡ next_step setup.now me (S.view_of seen.now) req }
 {
     match request_here(seen, req) {
         Some(r) => step_here(seen, setup, me, req, r),
         None => Step::Wait,
     }
+}
+
+/// What a request does next, by the rules over what thread `me` sees. Whatever the answer, the rules let it do
+/// that. It is an abort where a mark below it aborts it before its cut, the completion where they let it
+/// complete, and the cut where they let it be cut; and it waits only where they let it do nothing.
+pub fn next_step<S: Sees>(seen: &S, setup: &Setup, me: u32, req: ReqId) -> Step
+    ensures step { result ≡ next_step setup.now me (S.view_of seen.now) req }
+    ensures allowed { may_take setup.now me (S.view_of seen.now) req result ≡ true }
+    ensures abort { (cause : AbortCause) → may_take setup.now me (S.view_of seen.now) req (Abort cause) ≡ true → is_abort result ≡ true }
+    ensures complete { (status : Status) → may_take setup.now me (S.view_of seen.now) req (Complete status) ≡ true → result ≡ Complete status }
+    ensures cut { may_take setup.now me (S.view_of seen.now) req Cut ≡ true → result ≡ Cut }
+    ensures wait { result ≡ Wait → (step : Step) → may_take setup.now me (S.view_of seen.now) req step ≡ true → step ≡ Wait }
+{
+    step_now(seen, setup, me, req)
 }

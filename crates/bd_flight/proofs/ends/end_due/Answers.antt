@@ -1,7 +1,7 @@
 use Rattle.std.proofs.Common.{◌≡◌, Bool, true, Option, Some, sym, ap, ◌∙◌}
 use Rattle.bd_machine.specs.declared.state.OpenRequest.{OpenRequest}
 use Rattle.bd_machine.specs.Requests.{may_complete}
-use Rattle.bd_flight.proofs.Ends.{end_is}
+use Rattle.bd_flight.proofs.Completing.{end_is}
 use Rattle.bd_flight.proofs.ends.end_due.Goals as goal
 
 pub returns-then-may_complete : goal.returns-then-may_complete
