@@ -19,12 +19,14 @@ use Rattle.bd_machine.specs.View.{View}
 use Rattle.bd_due.specs.Asking.{is_base_if_any}
 use Rattle.bd_due.specs.Completions.{ending_of}
 use Rattle.bd_due.specs.Sending.{first_brought, token_of}
+use Rattle.bd_flight.specs.declared.next.Step.{Step}
+use Rattle.bd_flight.specs.declared.next.Step.TheVariants as steps
+use Rattle.bd_flight.specs.Next.{next_step}
 use Rattle.bd_links.specs.Queues.{is_full, queues_of}
 use Rattle.bd_thread.specs.declared.links.Links.{Links}
 use Rattle.bd_thread.specs.declared.thread.Thread.{Thread}
 use Rattle.bd_thread.specs.declared.turn.Turned.{Turned}
 use Rattle.bd_thread.specs.declared.turn.Turned.TheVariants.{Moved, Quiet}
-use Rattle.bd_thread.specs.Cuts.{may_cut_now}
 use Rattle.bd_thread.specs.Destructs.{may_device_go}
 use Rattle.bd_thread.specs.Duties.{NoDuty}
 use Rattle.bd_thread.specs.Endings.{left_on, removal_due}
@@ -52,9 +54,15 @@ NoPiece = NoPieceBelow (2 ^ 32)
 
 -- ---- open requests
 
--- the request can be neither cut nor completed
+-- a step that threads take as yet, beside the completion
+abbrev pub is_abort_or_cut : Step → Bool
+is_abort_or_cut (steps.Abort cause) = true
+is_abort_or_cut steps.Cut = true
+is_abort_or_cut _ = false
+
+-- the next step of the request is neither an abort by a mark nor the cut, and it can't be completed
 pub record NoStepOf (req : ReqId) (t : Thread) (links : Links) : Type 0 where
-  pub cut : may_cut_now req t links ≡ false
+  pub step : is_abort_or_cut (next_step t.setup.now t.me (view_of t links) req) ≡ false
   pub completion : ending_of t.setup.now t.me (view_of t links) req ≡ None
 
 -- nor can any of the first n open requests
@@ -188,7 +196,7 @@ pub record IsIdle (Waits : Thread → Links → Type 0) (old : Thread) (before :
 abbrev pub Idles : (Thread → Links → Type 0) → Thread → Links → Thread → Links → Type 0
 Idles Waits old before new after = length after.entries ≤ length before.entries → IsIdle Waits old before new after
 
--- all that a thread waits for: a message that it can take, something that it owes and can do, a piece that it can serve on a device whose home it is, an open request that it can cut or complete, a line that can go on, after Shutdown on thread 0 a device that it can remove, a handle that it can close by itself or a device that it can destruct, and room for the first of its outbox, if that may go there, and for the first message that is due
+-- all that a thread waits for: a message that it can take, something that it owes and can do, a piece that it can serve on a device whose home it is, an open request that it can abort by a mark, cut or complete, a line that can go on, after Shutdown on thread 0 a device that it can remove, a handle that it can close by itself or a device that it can destruct, and room for the first of its outbox, if that may go there, and for the first message that is due
 pub record IsWaiting (t : Thread) (links : Links) : Type 0 where
   pub message : NoMessage t links
   pub duty : NoDuty t links

@@ -1,6 +1,6 @@
 //! Aborts: a request of the thread that a mark stops, and all that a mark stops.
 ghost use Rattle.std.specs.Prelude.{◌≡◌, ◌<◌, vec_len, IfOk, OnOk};
-ghost use Rattle.bd_thread.specs.Aborts.{abort_due, may_abort, Aborts, Stops, StopsAll};
+ghost use Rattle.bd_thread.specs.Aborts.{abort_due, Aborts, Stops, StopsAll};
 ghost use Rattle.bd_thread.specs.Acted.{Acted};
 ghost use Rattle.bd_thread.specs.Requests.{KeepsTickets};
 
@@ -13,19 +13,13 @@ use bd_machine::{Id, Kept, OpenRequest};
 use bd_rules::request_here;
 
 impl<'a> Thread<'a> {
-    // Whether the rules let the request be aborted for this cause.
-    fn may_abort(&self, links: &Links, req: ReqId, cause: AbortCause) -> bool
-        ensures { result ≡ may_abort self.now links.now req cause }
-    {
-        refused_abort(&self.seen(links), self.setup, self.me, req, cause).is_none()
-    }
-
     // The request, where it is here and the rules let it be aborted for this cause.
     fn abort_due(&self, links: &Links, req: ReqId, cause: AbortCause) -> Option<OpenRequest>
         ensures { result ≡ abort_due self.now links.now req cause }
     {
-        if self.may_abort(links, req, cause) {
-            request_here(&self.seen(links), req)
+        let seen = self.seen(links);
+        if refused_abort(&seen, self.setup, self.me, req, cause).is_none() {
+            request_here(&seen, req)
         } else {
             None
         }

@@ -1,4 +1,4 @@
-//! The next step of open requests: where a turn did nothing else, each that can be cut or completed is.
+//! The next step of open requests: where a turn did nothing else, each that can take one takes it.
 ghost use Rattle.std.specs.Prelude.{◌≡◌, ◌<◌, length, vec_len, OnOk};
 ghost use Rattle.bd_thread.specs.Acted.{Acted};
 ghost use Rattle.bd_thread.specs.Requests.{KeepsTickets};
@@ -8,9 +8,11 @@ ghost use Rattle.bd_thread.specs.Work.{AsksNothing};
 use crate::links::Links;
 use crate::thread::Thread;
 use bd_base::{OutOfMemory, ReqId};
+use bd_flight::{Step, next_step};
 
 impl<'a> Thread<'a> {
-    // Cuts the request, and completes it, where the rules let it.
+    // Takes the next step of the request, where that is one that threads take as yet: it is aborted by a
+    // mark, cut, or completed.
     fn carry(&mut self, links: &mut Links, req: ReqId) -> Result<(), OutOfMemory>
         requires { self.old.me < vec_len links.old.queues }
         ensures acted { OnOk result (Acted self.old links.old self.new links.new) }
@@ -18,15 +20,23 @@ impl<'a> Thread<'a> {
         ensures quiet { OnOk result (Idles (NoStepOf req) self.old links.old self.new links.new) }
         ensures alone { OnOk result (AsksNothing links.old links.new) }
     {
-        self.cut(links, req)?;
-        self.complete(links, req)?;
-        Ok(())
+        match next_step(&self.seen(links), self.setup, self.me, req) {
+            Step::Abort(cause) => self.stop(links, req, cause),
+            Step::Cut => {
+                self.cut(links, req)?;
+                Ok(())
+            }
+            _ => {
+                self.complete(links, req)?;
+                Ok(())
+            }
+        }
     }
 
-    /// Carries the open requests on, in order of acceptance, up to the first that can be cut or completed,
-    /// and only where there are still as many entries as there were: in a turn that did nothing else. A
-    /// request is cut as it is accepted, and completes as its last piece comes back, so there is hardly
-    /// ever one.
+    /// Carries the open requests on, in order of acceptance, up to the first that can take a step, and only
+    /// where there are still as many entries as there were: in a turn that did nothing else. A request is
+    /// cut as it is accepted, aborted as the mark comes, and completes as its last piece comes back, so
+    /// there is hardly ever one.
     pub(crate) fn carry_all(
         &mut self,
         links: &mut Links,

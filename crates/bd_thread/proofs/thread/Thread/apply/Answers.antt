@@ -31,7 +31,7 @@ returns-clause-acted c =
     let here = here_in t.held.items in
     let new : Thread = record t { part = untaken (record t.part { bases = c.serve.new.bases }); held = c.hold.new.self } in
     let after : Links = record links { entries = longer t.me links.entries act } in
-    let bases-are : t.part.bases ≡ c.as_slice.result.now = sym c.as_slice.ensures in
+    let bases-are : t.part.bases ≡ c.as_slice-bases.result.now = sym c.as_slice-bases.ensures in
     let home-is : home t.setup.now dev ≡ t.me = at_home t.setup.now t.me dev (sym c.is_home.ensures ∙ c.if-not-is_home.false) in
     let holds = ap (λ (bs : List Base). may_hold t.setup.now dev (find (is_base dev) bs)) bases-are ∙ ap (may_hold t.setup.now dev) (sym c.find_base.ensures) ∙ sym c.may_hold.ensures ∙ c.if-not-may_hold.false in
     let first = ap (λ (bs : List Base). is_first_at n.req n.k (find (is_base dev) bs)) bases-are ∙ c.in-Some.ensures.next.first in
