@@ -140,7 +140,7 @@ completes_alone req o a n c h = go (ending_of o.setup.now o.me (view_of o a) req
     go None k = alone_same a c k.2
     go (Some e) k = alone_by o.me a c (acts.Complete req e.status e.shown) refl k.1.links
 
-stops_alone : (req : ReqId) (cause : AbortCause) (o : Thread) (a : Links) (n : Thread) (c : Links) → Stops req cause o a n c → AsksNothing a c
+pub stops_alone : (req : ReqId) (cause : AbortCause) (o : Thread) (a : Links) (n : Thread) (c : Links) → Stops req cause o a n c → AsksNothing a c
 stops_alone req cause o a n c h = go (abort_due o a req cause) h
   where
     go : (r : Option OpenRequest) → StopsBy req cause o a n c r → AsksNothing a c

@@ -1,5 +1,5 @@
 -- What adds no entry changes nothing.
-use Rattle.std.proofs.Common.{◌≡◌, ℕ, ◌≤◌, Bool, true, false, ◌==◌, List, [], ◌∷◌, length, Option, Some, None, Result, Ok, Err, OnOk, IfOk, refl, sym, ◌∙◌, ap, subst, arith, find}
+use Rattle.std.proofs.Common.{◌≡◌, ℕ, ◌≤◌, Bool, true, false, ◌==◌, List, [], ◌∷◌, length, is_some, Option, Some, None, Result, Ok, Err, OnOk, IfOk, refl, sym, ◌∙◌, ap, subst, arith, find}
 use Rattle.std.proofs.lemmas.List.{length-append}
 use Rattle.bd_base.specs.declared.act.Act.{Act}
 use Rattle.bd_base.specs.declared.act.Act.TheVariants as acts
@@ -111,17 +111,18 @@ takes_idle old before new after id h few = go (first_brought (queues_of before.q
     go None e k = record { thread = k.1; links = k.2; waits = e }
     go (Some m) e k = absurd (more old.me before after (acts.Took m.sender (count_at old.part.taken m.sender) m.what) k.1 few)
 
-pub cuts_idle : {P : Thread → Links → Type 0} (req : ReqId) (old : Thread) (before : Links) (new : Thread) (after : Links) (n : ℕ) → (may_cut_now req old before ≡ false → P old before) → Cuts req old before new after n → Idles P old before new after
-cuts_idle {P = P} req old before new after n so h few = go (request_here (view_of old before) req) refl (may_cut_now req old before) refl h
+-- a request that may be cut is cut
+pub cuts_more : (req : ReqId) (old : Thread) (before : Links) (new : Thread) (after : Links) (n : ℕ) → may_cut_now req old before ≡ true → Cuts req old before new after n → length after.entries ≤ length before.entries → ⊥
+cuts_more req old before new after n may h few = go (request_here (view_of old before) req) refl (may_cut_now req old before) may h
   where
     none : may_cut_now req old before ≡ true → request_here (view_of old before) req ≡ None → ⊥
     none may is = let uncut = ap (may_cut old.setup.now old.me (view_of old before) req) is in let both = sym may ∙ uncut in cc
 
-    go : (r : Option OpenRequest) → request_here (view_of old before) req ≡ r → (b : Bool) → may_cut_now req old before ≡ b → CutsBy req n old before new after b r → IsIdle P old before new after
-    go (Some r) is true may k = absurd (more old.me before after (acts.Cut req n) (ap (λ (l : Links). l.entries) k.links) few)
-    go None is true may k = absurd (none may is)
-    go (Some r) is false may k = record { thread = k.1; links = k.2; waits = so may }
-    go None is false may k = record { thread = k.1; links = k.2; waits = so may }
+    go : (r : Option OpenRequest) → request_here (view_of old before) req ≡ r → (b : Bool) → b ≡ true → CutsBy req n old before new after b r → ⊥
+    go (Some r) is true so k = more old.me before after (acts.Cut req n) (ap (λ (l : Links). l.entries) k.links) few
+    go None is true so k = none may is
+    go (Some r) is false so k = cc
+    go None is false so k = cc
 
 pub completion_idle : (req : ReqId) (old : Thread) (before : Links) (new : Thread) (after : Links) (done : Bool) → Completes req old before new after done → Idles (λ t links. ending_of t.setup.now t.me (view_of t links) req ≡ None) old before new after
 completion_idle req old before new after done h few = go (ending_of old.setup.now old.me (view_of old before) req) refl h
@@ -158,6 +159,14 @@ stop_grows req cause old before new after h = go (abort_due old before req cause
     go : (o : Option OpenRequest) → StopsBy req cause old before new after o → length before.entries ≤ length after.entries
     go None k = same_grows before after k.1
     go (Some r) k = omega (arith, longer_grows old.me before k.shared (acts.Abort req cause) k.first.links, may_grow req k.middle k.shared new after k.second)
+
+-- a request that may be aborted is aborted
+pub stops_more : (req : ReqId) (cause : AbortCause) (old : Thread) (before : Links) (new : Thread) (after : Links) → is_some (abort_due old before req cause) ≡ true → Stops req cause old before new after → length after.entries ≤ length before.entries → ⊥
+stops_more req cause old before new after due h few = go (abort_due old before req cause) due h
+  where
+    go : (o : Option OpenRequest) → is_some o ≡ true → StopsBy req cause old before new after o → ⊥
+    go None d k = cc
+    go (Some r) d k = more old.me before k.shared (acts.Abort req cause) (ap (λ (l : Links). l.entries) k.first.links) (omega (arith, few, may_grow req k.middle k.shared new after k.second))
 
 each_grows : (os : List Open) (cause : AbortCause) (old : Thread) (before : Links) (new : Thread) (after : Links) → StopsEach os cause old before new after → length before.entries ≤ length after.entries
 each_grows [] cause old before new after h = same_grows before after h.1

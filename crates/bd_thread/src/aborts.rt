@@ -49,8 +49,13 @@ impl<'a> Thread<'a> {
         Ok(true)
     }
 
-    // Aborts a request where the rules let it, and completes it where none of its pieces is out.
-    fn stop(&mut self, links: &mut Links, req: ReqId, cause: AbortCause) -> Result<(), OutOfMemory>
+    /// Aborts a request where the rules let it, and completes it where none of its pieces is out.
+    pub(crate) fn stop(
+        &mut self,
+        links: &mut Links,
+        req: ReqId,
+        cause: AbortCause,
+    ) -> Result<(), OutOfMemory>
         requires { self.old.me < vec_len links.old.queues }
         ensures acted { OnOk result (Acted self.old links.old self.new links.new) }
         ensures tickets { OnOk result (KeepsTickets self.old → KeepsTickets self.new) }

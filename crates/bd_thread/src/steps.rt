@@ -21,7 +21,10 @@ impl<'a> Thread<'a> {
         ensures alone { OnOk result (AsksNothing links.old links.new) }
     {
         match next_step(&self.seen(links), self.setup, self.me, req) {
-            Step::Abort(cause) => self.stop(links, req, cause),
+            Step::Abort(cause) => {
+                self.stop(links, req, cause)?;
+                Ok(())
+            }
             Step::Cut => {
                 self.cut(links, req)?;
                 Ok(())

@@ -1,27 +1,56 @@
-use Rattle.std.proofs.Common.{◌≡◌, false, None}
-use Rattle.bd_due.specs.Completions.{ending_of}
-use Rattle.bd_thread.specs.declared.links.Links.{Links}
-use Rattle.bd_thread.specs.declared.thread.Thread.{Thread}
-use Rattle.bd_thread.specs.Cuts.{may_cut_now}
+use Rattle.std.proofs.Common.{◌≡◌, true, false, sym, ◌∙◌, ap}
+use Rattle.bd_flight.specs.declared.next.Step.TheVariants as steps
+use Rattle.bd_flight.specs.Next.{may_take, next_step}
+use Rattle.bd_machine.specs.View.{View}
 use Rattle.bd_thread.specs.Seen.{view_of}
-use Rattle.bd_thread.specs.Waits.{NoStepOf}
-use Rattle.bd_thread.proofs.Alone.{alone_then, completes_alone, cuts_alone}
-use Rattle.bd_thread.proofs.Going.{acted_then}
-use Rattle.bd_thread.proofs.Idle.{completion_idle, cuts_idle, idle_then}
+use Rattle.bd_thread.specs.Waits.{is_abort_or_cut}
+use Rattle.bd_thread.proofs.Alone.{completes_alone, cuts_alone, stops_alone}
+use Rattle.bd_thread.proofs.Carried.{abort_is_due, cut_is_due, other_step}
+use Rattle.bd_thread.proofs.Idle.{completion_idle, cuts_more, stops_more}
 use Rattle.bd_thread.proofs.thread.Thread.carry.Goals as goal
 
-pub returns : goal.returns
-returns c =
+pub returns-in_ok-stop-in-Abort : goal.returns-in_ok-stop-in-Abort
+returns-in_ok-stop-in-Abort c =
     let t = c.args.self.now in
     let links = c.args.links.now in
     let req = c.args.req in
-    let cut = cuts_idle {P = λ t links. may_cut_now req t links ≡ false} req t links c.cut.new.self c.cut.new.links c.in_ok-cut.field-0 (λ may. may) c.in_ok-cut.ensures.cut in
-    let completed = completion_idle req c.cut.new.self c.cut.new.links c.complete.new.self c.complete.new.links c.in_ok-complete.field-0 c.in_ok-complete.ensures.completes in
+    let cause = c.in-Abort.cause in
+    let may = ap (λ (v : View). may_take t.setup.now t.me v req (steps.Abort cause)) (sym c.seen.ensures) ∙ c.in-Abort.ensures.allowed in
     record {
-      acted = acted_then _ _ _ _ _ _ c.in_ok-cut.ensures.acted c.in_ok-complete.ensures.acted;
-      tickets = λ keeps. c.in_ok-complete.ensures.tickets (c.in_ok-cut.ensures.tickets keeps);
-      quiet = idle_then {R = NoStepOf req} t links c.cut.new.self c.cut.new.links c.complete.new.self c.complete.new.links c.in_ok-cut.ensures.acted c.in_ok-complete.ensures.acted
-          (λ uncut open. record { cut = uncut; completion = open }) cut completed;
-      alone = alone_then _ _ _ (cuts_alone req t links c.cut.new.self c.cut.new.links c.in_ok-cut.field-0 c.in_ok-cut.ensures.cut)
-          (completes_alone req c.cut.new.self c.cut.new.links c.complete.new.self c.complete.new.links (record { done = c.in_ok-complete.field-0; completes = c.in_ok-complete.ensures.completes }));
+      acted = c.in_ok-stop-in-Abort.ensures.acted;
+      tickets = c.in_ok-stop-in-Abort.ensures.tickets;
+      quiet = λ few. absurd (stops_more req cause t links c.stop.new.self c.stop.new.links (abort_is_due req cause t links may) c.in_ok-stop-in-Abort.ensures.stops few);
+      alone = stops_alone req cause t links c.stop.new.self c.stop.new.links c.in_ok-stop-in-Abort.ensures.stops;
+    }
+
+pub returns-in_ok-cut-in-Cut : goal.returns-in_ok-cut-in-Cut
+returns-in_ok-cut-in-Cut c =
+    let t = c.args.self.now in
+    let links = c.args.links.now in
+    let req = c.args.req in
+    let n = c.in_ok-cut-in-Cut.field-0 in
+    let may = ap (λ (v : View). may_take t.setup.now t.me v req steps.Cut) (sym c.seen.ensures) ∙ c.in-Cut.ensures.allowed in
+    record {
+      acted = c.in_ok-cut-in-Cut.ensures.acted;
+      tickets = c.in_ok-cut-in-Cut.ensures.tickets;
+      quiet = λ few. absurd (cuts_more req t links c.cut.new.self c.cut.new.links n (cut_is_due req t links may) c.in_ok-cut-in-Cut.ensures.cut few);
+      alone = cuts_alone req t links c.cut.new.self c.cut.new.links n c.in_ok-cut-in-Cut.ensures.cut;
+    }
+
+pub returns-in_ok-complete-in_default : goal.returns-in_ok-complete-in_default
+returns-in_ok-complete-in_default c =
+    let t = c.args.self.now in
+    let links = c.args.links.now in
+    let req = c.args.req in
+    let done = c.in_ok-complete-in_default.field-0 in
+    let completes = c.in_ok-complete-in_default.ensures.completes in
+    let step-is = c.next_step.ensures.step ∙ ap (λ (v : View). next_step t.setup.now t.me v req) c.seen.ensures in
+    let stays : is_abort_or_cut (next_step t.setup.now t.me (view_of t links) req) ≡ false = sym (ap is_abort_or_cut step-is) ∙ other_step c.next_step.result c.in_default.not-Cut c.in_default.not-Abort in
+    record {
+      acted = c.in_ok-complete-in_default.ensures.acted;
+      tickets = c.in_ok-complete-in_default.ensures.tickets;
+      quiet = λ few.
+          let i = completion_idle req t links c.complete.new.self c.complete.new.links done completes few in
+          record { thread = i.thread; links = i.links; waits = record { step = stays; completion = i.waits } };
+      alone = completes_alone req t links c.complete.new.self c.complete.new.links (record { done = done; completes = completes });
     }
