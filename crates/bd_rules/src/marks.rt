@@ -1,5 +1,5 @@
 //! The freeze and removal marks of devices on a thread.
-ghost use Rattle.std.specs.Prelude.{◌≡◌};
+ghost use Rattle.std.specs.Prelude.{◌≡◌, ◌==◌, length};
 ghost use Rattle.bd_machine.specs.Marks.{has_mark, is_frozen, is_marked, is_removed, is_removed_below, marking_of};
 
 use bd_base::{DevId, Setup};
@@ -28,7 +28,8 @@ pub fn marking_of(part: &Part, dev: DevId) -> Marking
 pub fn has_mark(part: &Part, dev: DevId) -> bool
     ensures { result ≡ has_mark part.now dev }
 {
-    is_frozen(part, dev) || is_removed(part, dev)
+    let marking = marking_of(part, dev);
+    marking.frozen || marking.removed
 }
 
 /// Whether a device carries a freeze mark on the thread.
@@ -45,10 +46,20 @@ pub fn is_removed(part: &Part, dev: DevId) -> bool
     marking_of(part, dev).removed
 }
 
+// Whether no visit of the thread has set a mark yet.
+fn is_unvisited(part: &Part) -> bool
+    ensures { result ≡ (length part.now.marked == 0) }
+{
+    part.marked.as_slice().is_empty()
+}
+
 /// Whether the device or one below it carries a mark on the thread.
 pub fn is_marked(setup: &Setup, part: &Part, dev: DevId) -> bool
     ensures { result ≡ is_marked setup.now part.now dev }
 {
+    if is_unvisited(part) {
+        return false;
+    }
     for d in below(setup, dev) {
         if has_mark(part, d) {
             return true;
@@ -61,6 +72,9 @@ pub fn is_marked(setup: &Setup, part: &Part, dev: DevId) -> bool
 pub fn is_removed_below(setup: &Setup, part: &Part, dev: DevId) -> bool
     ensures { result ≡ is_removed_below setup.now part.now dev }
 {
+    if is_unvisited(part) {
+        return false;
+    }
     for d in below(setup, dev) {
         if is_removed(part, d) {
             return true;
