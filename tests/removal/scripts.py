@@ -481,9 +481,9 @@ class Maker:
         home = len(self.others) % self.threads
         workers = [thread for thread in self.all if thread.number != home]
         remover = workers.pop(self.random.randrange(len(workers)))
-        for thread in workers:
+        for thread in self.random.sample(workers, min(4, len(workers))):
             thread.opens(self.random.randrange(1, 3))
-            for _ in range(self.random.choice([120, 200, 300]) if thread in workers[:3] else self.random.randrange(4)):
+            for _ in range(self.random.choice([120, 200, 300])):
                 handle = thread.some_handle()
                 row = thread.rows[handle]
                 word = self.random.choice(["write", "zeroes", "unmap", "flush", "flush"])

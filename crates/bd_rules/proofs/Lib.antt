@@ -3,4 +3,4 @@ pub mod Data
 pub mod Due
 pub mod Left
 pub mod Queues
-pub mod Unvisited
+pub mod Unmarked

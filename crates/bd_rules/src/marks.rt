@@ -1,6 +1,8 @@
 //! The freeze and removal marks of devices on a thread.
-ghost use Rattle.std.specs.Prelude.{◌≡◌, ◌==◌, length};
+ghost use Rattle.std.specs.Prelude.{◌≡◌};
+ghost use Rattle.std.specs.List.{list_any};
 ghost use Rattle.bd_machine.specs.Marks.{has_mark, is_frozen, is_marked, is_removed, is_removed_below, marking_of};
+ghost use Rattle.bd_rules.specs.Marks.{carries_mark};
 
 use bd_base::{DevId, Setup};
 use bd_blocks::below;
@@ -46,18 +48,18 @@ pub fn is_removed(part: &Part, dev: DevId) -> bool
     marking_of(part, dev).removed
 }
 
-// Whether no visit of the thread has set a mark yet.
-fn is_unvisited(part: &Part) -> bool
-    ensures { result ≡ (length part.now.marked == 0) }
+// Whether some row carries a mark.
+fn any_carries(rows: &[(DevId, Marking)]) -> bool
+    ensures { result ≡ list_any carries_mark rows.now }
 {
-    part.marked.as_slice().is_empty()
+    rows.iter().any(|row| row.1.frozen || row.1.removed)
 }
 
 /// Whether the device or one below it carries a mark on the thread.
 pub fn is_marked(setup: &Setup, part: &Part, dev: DevId) -> bool
     ensures { result ≡ is_marked setup.now part.now dev }
 {
-    if is_unvisited(part) {
+    if !any_carries(part.marked.as_slice()) {
         return false;
     }
     for d in below(setup, dev) {
@@ -72,7 +74,7 @@ pub fn is_marked(setup: &Setup, part: &Part, dev: DevId) -> bool
 pub fn is_removed_below(setup: &Setup, part: &Part, dev: DevId) -> bool
     ensures { result ≡ is_removed_below setup.now part.now dev }
 {
-    if is_unvisited(part) {
+    if !any_carries(part.marked.as_slice()) {
         return false;
     }
     for d in below(setup, dev) {
