@@ -1,7 +1,7 @@
 //! The freeze and removal marks of devices on a thread.
 ghost use Rattle.std.specs.Prelude.{◌≡◌};
 ghost use Rattle.std.specs.List.{list_any};
-ghost use Rattle.bd_machine.specs.Marks.{has_mark, is_frozen, is_marked, is_removed, is_removed_below, marking_of};
+ghost use Rattle.bd_machine.specs.Marks.{is_frozen, is_marked, is_removed, is_removed_below, marking_of};
 ghost use Rattle.bd_rules.specs.Marks.{carries_mark};
 
 use bd_base::{DevId, Setup};
@@ -24,14 +24,6 @@ pub fn marking_of(part: &Part, dev: DevId) -> Marking
         }
     }
     UNMARKED
-}
-
-/// Whether a device carries a freeze or a removal mark on the thread.
-pub fn has_mark(part: &Part, dev: DevId) -> bool
-    ensures { result ≡ has_mark part.now dev }
-{
-    let marking = marking_of(part, dev);
-    marking.frozen || marking.removed
 }
 
 /// Whether a device carries a freeze mark on the thread.
@@ -63,7 +55,8 @@ pub fn is_marked(setup: &Setup, part: &Part, dev: DevId) -> bool
         return false;
     }
     for d in below(setup, dev) {
-        if has_mark(part, d) {
+        let marking = marking_of(part, d);
+        if marking.frozen || marking.removed {
             return true;
         }
     }

@@ -8,5 +8,5 @@ use Rattle.bd_rules.proofs.marks.is_removed_below.Goals as goal
 pub returns-then-not-any_carries : goal.returns-then-not-any_carries
 returns-then-not-any_carries c =
     let clear : list_any carries_mark c.args.part.now.marked ≡ false =
-        ap (list_any carries_mark) (sym c.as_slice.ensures) ∙ sym c.any_carries.ensures ∙ c.if-not-any_carries.true in
+    ap (list_any carries_mark) (sym c.as_slice.ensures) ∙ sym c.any_carries.ensures ∙ c.if-not-any_carries.true in
     sym (none_removed c.args.part.now (below c.args.setup.now c.args.dev) clear)
