@@ -202,6 +202,28 @@ def methods(dice):
     return text_of(config(*calls)).encode()
 
 
+def stacks(dice):
+    """Devices over each other: some in the wrong order, over a claimed base, with a name that stands, or with parts that don't fit."""
+    names = ["M", "N", "P", "Q", "Mp0", "Mp1", "Pp0", "Mp1p0"]
+    calls = []
+    for _ in range(2 + dice.below(7)):
+        kind = dice.below(3)
+        if kind == 0:
+            calls.append(malloc(dice.of(names[:3]), num_blocks=dice.of([1, 2, 3, 64, 65, 2048, 4097, 2097152]), optimal_io_boundary=dice.of([0, 8, 9])))
+        elif kind == 1:
+            calls.append({"method": "bdev_passthru_create", "params": {"base_bdev_name": dice.of(names), "name": dice.of(names)}})
+        else:
+            params = {"base_bdev": dice.of(names), "split_count": dice.of([1, 2, 3, 64]), "split_size_mb": dice.of([0, 0, 1, 2, 1048576])}
+            calls.append({"method": "bdev_split_create", "params": params})
+    if dice.below(8) == 0:
+        # More layers than there may be.
+        last = dice.of(names[:3])
+        for layer in range(62 + dice.below(4)):
+            calls.append({"method": "bdev_passthru_create", "params": {"base_bdev_name": last, "name": "L%d" % layer}})
+            last = "L%d" % layer
+    return text_of(config(*calls)).encode()
+
+
 def blank(dice):
     return dice.of([b"", b" ", b"\n", b"\x00", b"null", b"[]", b"{}", b"7", b'"subsystems"', b"{} {}", GOOD + b"x", GOOD + b",", b"[" * 8388608, b" " * 8388609, b"\xef\xbb\xbf" + GOOD])
 
@@ -227,9 +249,10 @@ def long_script(dice):
     return b"0 " + b"wait " * dice.of([2, 1000, 1000000])
 
 
-CONFIGS = [bend_params, bend_params, cut_off, lambda dice: spoil(dice, GOOD), nest, wrong_type, equal_keys, many, methods, methods, blank]
+CONFIGS = [bend_params, bend_params, cut_off, lambda dice: spoil(dice, GOOD), nest, wrong_type, equal_keys, many, methods, methods, stacks, stacks, blank]
 SCRIPTS = [bad_line, bad_line, lambda dice: SCRIPT[: dice.below(len(SCRIPT))], lambda dice: spoil(dice, SCRIPT), long_script]
-NAMES = ["parameter", "parameter", "cut off", "spoilt", "nested", "wrong type", "equal keys", "many", "methods", "methods", "blank",
+NAMES = ["parameter", "parameter", "cut off", "spoilt", "nested", "wrong type", "equal keys", "many", "methods", "methods", "stacks",
+         "stacks", "blank",
          "bad line", "bad line", "cut off script", "spoilt script", "long script"]
 
 

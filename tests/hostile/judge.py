@@ -9,10 +9,12 @@ MOST_BYTES = 8388608
 MOST_DEPTH = 127
 MOST_LINES = 20000
 MOST_DEVICES = 256
+MOST_LAYERS = 64
+MOST_NAME = 255
 MOST_MEMORY = 1 << 30
 U64 = (1 << 64) - 1
 
-NOT_FOUND, INVALID, NOT_SUPPORTED, EXISTS, TOO_MUCH = -32601, -32602, -95, -17, -22
+NOT_FOUND, INVALID, NOT_SUPPORTED, EXISTS, CLAIMED, TOO_MUCH = -32601, -32602, -95, -17, -1, -22
 
 
 # ---- JSON
@@ -264,9 +266,8 @@ class Call:
 
 def malloc(call):
     name, blocks, size = call.name("name"), call.whole("num_blocks", 1, 1 << 21), call.size()
-    boundary = call.boundary()
-    call.depth()
-    return ("malloc", name, blocks * size) if boundary == 0 else ("unserved",)
+    call.boundary(), call.depth()
+    return ("malloc", name, blocks, size)
 
 
 def null(call):
@@ -278,11 +279,11 @@ def aio(call):
 
 
 def passthru(call):
-    call.name("base_bdev_name"), call.name("name")
+    return ("passthru", call.name("base_bdev_name"), call.name("name"))
 
 
 def split(call):
-    call.name("base_bdev"), call.whole("split_count", 1, 64), call.whole("split_size_mb", 0, 1048576, 0)
+    return ("split", call.name("base_bdev"), call.whole("split_count", 1, 64), call.whole("split_size_mb", 0, 1048576, 0))
 
 
 def delay(call):
@@ -335,8 +336,7 @@ def read_call(call):
             asked = BASES[method](given)
             return (asked or ("unserved",)) if given.is_plain() else NOT_SUPPORTED
         if method in OTHERS:
-            OTHERS[method](given)
-            return ("unserved",)
+            return OTHERS[method](given) or ("unserved",)
     except Wrong:
         return INVALID
     return ("passed",) if method.endswith("_set_options") or method in PASSED else NOT_FOUND
@@ -365,16 +365,73 @@ def config_fault(config):
     for index, answer in enumerate(asked):
         if answer[0] == "unserved":
             return "configuration command %d refused: %d" % (index, NOT_SUPPORTED)
-    names, memory = set(), 0
-    for index, answer in enumerate(asked):
-        if answer[0] != "malloc":
+    return devices_fault(asked)
+
+
+class Refused(Exception):
+    """A command can't be done, with its code."""
+
+
+class Devices:
+    """The devices that commands make, each with its blocks, their size, how many layers it has and whether it is claimed."""
+
+    def __init__(self):
+        self.made, self.memory = {}, 0
+
+    def base_of(self, command):
+        return None if command[0] == "malloc" else command[1]
+
+    def rows(self, command):
+        """What the command asks for: names, with blocks, size and layers."""
+        if command[0] == "malloc":
+            return [(command[1], (command[2], command[3], 1))]
+        blocks, size, layers = self.made[command[1]][:3]
+        if command[0] == "passthru":
+            return [(command[2], (blocks, size, layers + 1))]
+        count, megabytes = command[2], command[3]
+        each = (megabytes << 20) // size if megabytes else blocks // count
+        # As many parts are made as fit. Their names are looked at where one fits at all.
+        count = min(count, blocks // each) if each else 0
+        return [("%sp%d" % (command[1], i), (each, size, layers + 1)) for i in range(count)]
+
+    def do(self, command):
+        rows, base = self.rows(command), self.base_of(command)
+        if any(name in self.made for name, _ in rows):
+            raise Refused(EXISTS)
+        if base is not None and self.made[base][3]:
+            raise Refused(CLAIMED)
+        memory = self.memory + (command[2] * command[3] if command[0] == "malloc" else 0)
+        names_fit = all(len(name) <= MOST_NAME for name, _ in rows)
+        if not rows or not names_fit or memory > MOST_MEMORY or len(self.made) + len(rows) > MOST_DEVICES or rows[0][1][2] > MOST_LAYERS:
+            raise Refused(TOO_MUCH)
+        self.memory = memory
+        for name, row in rows:
+            self.made[name] = [*row, False]
+        if base is not None:
+            self.made[base][3] = True
+
+    def is_ready(self, command):
+        return self.base_of(command) is None or self.base_of(command) in self.made
+
+
+def devices_fault(commands):
+    """Does commands in order. One whose base isn't there waits, and is done after the command that brings it."""
+    devices, waiting = Devices(), []
+    for index, command in enumerate(commands):
+        if command[0] == "passed":
             continue
-        memory += answer[2]
-        if answer[1] in names:
-            return "configuration command %d refused: %d" % (index, EXISTS)
-        if len(names) == MOST_DEVICES or memory > MOST_MEMORY:
-            return "configuration command %d refused: %d" % (index, TOO_MUCH)
-        names.add(answer[1])
+        waiting.append((index, command))
+        while True:
+            # A command that comes goes before those that wait: its base stands, or it waits itself.
+            ready = [each for each in waiting if devices.is_ready(each[1])]
+            if not ready:
+                break
+            number, next_one = ready[-1] if ready[-1][0] == index else ready[0]
+            try:
+                devices.do(next_one)
+            except Refused as refused:
+                return "configuration command %d refused: %d" % (number, refused.args[0])
+            waiting.remove((number, next_one))
     return None
 
 

@@ -1,8 +1,9 @@
 """Checks a report against its script: what has to hold in whichever order the threads took their turns, and where they
 took them truly beside each other.
 
-`faults(text, threads, devices, report)`, with devices as a list of (name, blocks, size), gives a list of texts, one for each
-thing that can't be; it is empty where nothing is wrong. It knows nothing of the program but docs/FORMATS.md.
+`faults(text, threads, devices, report)` gives a list of texts, one for each thing that can't be; it is empty where nothing is
+wrong. It knows nothing of the program but docs/FORMATS.md. Devices is a list of (name, blocks, size), or of (name, blocks, size,
+kind, base, shift, boundary) for one that stands on the device of the name `base`, at its block `shift`.
 
 How it goes: the lines of the threads are partly ordered, each thread's among themselves and the post of a mark before the
 await of it. From the script, the report and this order follows what each thread is certain of at each line: that a removal
@@ -82,7 +83,8 @@ def result_of(text):
 # ---- the data of blocks: None for zeros, else the first byte of the pattern
 
 def value_of(line, block):
-    return (int(line.words[3]) + 31 * block) % 256 if line.word == "write" else None
+    """What a line that writes puts in a block of the content. The pattern goes by the number on the line's own device."""
+    return (int(line.words[3]) + 31 * (block - line.hold.device.under)) % 256 if line.word == "write" else None
 
 
 class Patterns:
@@ -129,10 +131,28 @@ def patterns_of(size):
 # ---- devices, and what is known of them
 
 class Device:
-    def __init__(self, name, blocks, size):
-        self.name, self.blocks, self.size = name, blocks, size
+    def __init__(self, name, blocks, size, kind="malloc", base=None, shift=0, boundary=0):
+        self.name, self.blocks, self.size, self.kind, self.boundary = name, blocks, size, kind, boundary
+        # From this one down to the one with the content, and where this one begins there; those that stand on this one.
+        self.below, self.users = [self] + (base.below if base else []), []
+        self.root, self.under, self.shift = self.below[-1], shift + (base.under if base else 0), shift
+        if base:
+            base.users.append(self)
         self.removal = None  # the line that began its removal, if any was done
         self.holds = []
+
+    def goings(self):
+        """The removals by which it goes: its own, or that of a device below."""
+        return [device.removal for device in self.below if device.removal]
+
+    def is_cut(self, line):
+        """Whether a request on it comes in several pieces."""
+        lba, count = int(line.words[1]), int(line.words[2])
+        for device in self.below:
+            if device.boundary and lba // device.boundary != (lba + count - 1) // device.boundary:
+                return True
+            lba += device.shift
+        return False
 
 
 class Hold:
@@ -174,18 +194,80 @@ class Handle:
 class Seat:
     def __init__(self):
         self.names = {}
-        # The devices whose removal began, those that were destructed, and those that are marked here.
-        self.began, self.destructed, self.marked = set(), set(), set()
+        # The devices whose removal began, those that were destructed, those over one whose removal began, and those over one that is
+        # marked here. A device is over itself.
+        self.began, self.destructed, self.going, self.marked = set(), set(), set(), set()
 
-    def learn(self, began, destructed=()):
+    def learn(self, began=(), destructed=(), going=()):
         self.began.update(began, destructed)
         self.destructed.update(destructed)
+        self.going.update(self.began, going)
+
+    def knows(self):
+        return set(self.began), set(self.destructed), set(self.going)
+
+
+def is_over(device, devices):
+    return any(lower in devices for lower in device.below)
+
+
+class Moment:
+    """How far the threads are in an order that is looked for, and what the registry has of a device then."""
+
+    def __init__(self, threads, device):
+        self.places = [0] * threads
+        # The handles that are open, each with whether it writes and its claim. The device stands for the handle of those on it.
+        self.holds = {device: (True, ("exclusive",))} if device.users else {}
+        self.removed = False
+        self.asked = set()  # the devices of which a line began the removal
+        self.marks = set()
+
+    def copy(self):
+        other = Moment.__new__(Moment)
+        other.places, other.holds, other.removed = list(self.places), dict(self.holds), self.removed
+        other.asked, other.marks = set(self.asked), set(self.marks)
+        return other
+
+    def key(self):
+        return tuple(self.places), self.removed, any(isinstance(hold, Device) for hold in self.holds)
+
+    def is_going(self, device):
+        return is_over(device, self.asked)
+
+    def may_follow(self, device):
+        """Whether it may be removed as what stands on a device that goes."""
+        return not self.removed and self.is_going(device)
+
+    def may_release(self, device):
+        """Whether those that stand on it may be gone."""
+        return device in self.holds and all(user in self.asked for user in device.users)
+
+    def do(self, line, device, devices):
+        self.places[line.thread] += 1
+        if not line.is_("ok"):
+            return
+        if line.word == "post":
+            self.marks.add(line.words[0])
+        if line.word == "remove":
+            self.asked.add(devices[line.words[0]])
+            self.removed |= line.words[0] == device.name
+        if line.hold is not None and line.hold.device is device:
+            if line.word == "open":
+                self.holds[line.hold] = (line.words[2] == "w", None)
+            elif line.word == "claim":
+                kind = tuple(line.words[1:])
+                self.holds[line.hold] = (self.holds[line.hold][0] or kind[0] != "none", kind)
+            elif line.word == "close":
+                del self.holds[line.hold]
 
 
 class Check:
     def __init__(self, text, threads, devices, report):
         self.threads = threads
-        self.devices = {device[0]: Device(*device) for device in devices}
+        self.devices = {}
+        for name, blocks, size, *more in devices:
+            kind, base, *more = more or ("malloc", None)
+            self.devices[name] = Device(name, blocks, size, kind, self.devices.get(base), *more)
         self.faults = []
         self.lines = script_lines(text)
         self.of_thread = [[] for _ in range(threads)]
@@ -284,14 +366,16 @@ class Check:
             began = [line for line in tried if line.is_("ok")]
             if len(began) > 1:
                 self.fault(began[1], "a removal began twice; before at line %d" % began[0].number)
-            if tried and not began:
-                self.fault(tried[0], "the first removal has to be ok, and none is")
             device.removal = began[0] if began else None
+        # What stands on a device that goes, goes too, whether a script asks for it or not.
+        for line in self.sorted:
+            device = self.devices.get(line.words[0]) if line.word == "remove" else None
+            if device and not device.goings():
+                self.fault(line, "the first removal has to be ok, and none is")
 
     def may_be_removing(self, line, device):
-        """Whether some order has the removal begun before this line."""
-        removal = device.removal
-        return removal is not None and line is not removal and not self.is_before(line, removal)
+        """Whether some order has a removal begun before this line by which the device goes."""
+        return any(line is not removal and not self.is_before(line, removal) for removal in device.goings())
 
     # ---- the registry: opens, claims, closes and removals
 
@@ -338,6 +422,12 @@ class Check:
     def is_refused(self, line):
         """Whether a claim or an open is refused with errno 1 by the table of claims; None where that isn't certain."""
         may = False
+        device = self.devices[line.words[1]] if line.word == "open" else line.hold.device
+        if device.users and (line.word == "claim" or line.words[2] == "w"):
+            # It is claimed for those that stand on it, until they are gone.
+            if not all(self.may_be_removing(line, user) for user in device.users):
+                return True
+            may = True
         for begin, end in self.causes(line):
             if self.is_before(begin, line) and (end is None or self.is_before(line, end)):
                 return True
@@ -345,22 +435,24 @@ class Check:
                 may = True
         return None if may else False
 
-    def fits(self, line, device, holds, removed, marks):
-        """Whether the registry answers this line so, with these handles open: each hold with (writes, kind)."""
-        word, result = line.word, line.result
+    def fits(self, line, device, now):
+        """Whether the registry answers this line so."""
+        word, result, holds = line.word, line.result, now.holds
         if word == "await":
-            return line.words[0] in marks or line.words[0] not in self.posts
+            return line.words[0] in now.marks or line.words[0] not in self.posts
         if word == "open" and line.words[1] == device.name and line.hold or word == "claim" and line.hold and line.hold.device is device:
             claims = [(hold, kind) for hold, (_, kind) in holds.items() if kind]
             writers = [(hold, kind) for hold, (writes, kind) in holds.items() if writes]
         if word == "open" and line.words[1] == device.name:
             if result == ("ok",):
-                return not removed and (line.words[2] == "r" or not claims)
+                return not now.is_going(device) and (line.words[2] == "r" or not claims)
             if result == ("errno", PERM):
-                return not removed and any(kind for _, kind in holds.values())
-            return removed or result != ("errno", NODEV)
+                return not now.is_going(device) and any(kind for _, kind in holds.values())
+            return now.is_going(device) or result != ("errno", NODEV)
         if word == "remove" and line.words[0] == device.name:
-            return removed != (result == ("ok",))
+            return now.removed != (result == ("ok",))
+        if word == "remove" and self.devices.get(line.words[0]) in device.below:
+            return result == ("ok",) or now.is_going(self.devices[line.words[0]])
         if line.hold is None or line.hold.device is not device:
             return True
         if word == "claim" and result in (("ok",), ("errno", PERM)):
@@ -375,73 +467,66 @@ class Check:
                 refused |= bool(writers)
             elif kind[0] == "shared":
                 refused |= any(hold is not own and other != kind for hold, other in writers)
-            return not removed and refused == (result != ("ok",))
+            return not now.removed and refused == (result != ("ok",))
         if word == "claim" and result == ("errno", INVAL):
-            return not removed
-        return removed or result != ("errno", NODEV) and word != "gone"
+            return not now.removed
+        if word in REQUESTS:
+            return now.is_going(device) or result != ("errno", NODEV)
+        return now.removed or result != ("errno", NODEV) and word != "gone"
 
     def changes(self, line, device, holds):
         """Whether a line that fits makes a difference to what others are answered."""
         if line.word == "remove":
-            return line.words[0] == device.name and line.is_("ok")
+            return self.devices.get(line.words[0]) in device.below and line.is_("ok")
         if not line.is_("ok") or line.hold is None or line.hold.device is not device:
             return False
         if line.word == "open":
             return line.words[2] == "w"
         return line.word == "claim" or line.word == "close" and any(holds[line.hold])
 
-    def done_to(self, line, device, holds):
-        if line.is_("ok") and line.hold is not None and line.hold.device is device:
-            if line.word == "open":
-                holds[line.hold] = (line.words[2] == "w", None)
-            elif line.word == "claim":
-                kind = tuple(line.words[1:])
-                holds[line.hold] = (holds[line.hold][0] or kind[0] != "none", kind)
-            elif line.word == "close":
-                del holds[line.hold]
-
     def check_order_at(self, device):
         """Looks for one order in which all opens, claims, closes and removals of a device come to what the report says."""
-        tasks = [((0,) * self.threads, {}, False, frozenset())]
+        tasks = [Moment(self.threads, device)]
         seen, furthest = set(), None
         while tasks:
-            places, holds, removed, marks = tasks.pop()
-            places, holds, marks = list(places), dict(holds), set(marks)
-            moved = True
+            now = tasks.pop()
+            places, moved = now.places, True
             while moved:
                 moved, choices = False, []
                 for thread in range(self.threads):
                     lines = self.of_thread[thread]
                     while places[thread] < len(lines):
                         line = lines[places[thread]]
-                        if not line.is_done() or not self.fits(line, device, holds, removed, marks):
+                        if not line.is_done() or not self.fits(line, device, now):
                             break
-                        if self.changes(line, device, holds):
+                        if self.changes(line, device, now.holds):
                             choices.append(line)
                             break
-                        self.done_to(line, device, holds)
-                        if line.word == "post" and line.is_("ok"):
-                            marks.add(line.words[0])
-                        places[thread] += 1
+                        now.do(line, device, self.devices)
                         moved = True
             left = [lines[place] for lines, place in zip(self.of_thread, places) if place < len(lines) and lines[place].is_done()]
             if not left:
                 return
             if furthest is None or sum(places) > furthest[0]:
                 furthest = sum(places), left
-            key = tuple(places)
+            key = now.key()
             if key in seen:
                 continue
             seen.add(key)
             if len(seen) > MOST_STEPS:
                 return
-            # The last one is tried first: opens, then closes and claims, and removals only where nothing else is left.
+            # The last one is tried first: opens, then closes and claims, and removals only where nothing else is left. What no line
+            # asks for comes before that only where it has to.
+            if now.may_follow(device):
+                tasks.append(now.copy())
+                tasks[-1].removed = True
+            if now.may_release(device):
+                tasks.append(now.copy())
+                del tasks[-1].holds[device]
             choices.sort(key=lambda line: ("remove", "claim", "close", "open").index(line.word))
             for line in choices:
-                after, others = list(places), dict(holds)
-                self.done_to(line, device, others)
-                after[line.thread] += 1
-                tasks.append((tuple(after), others, removed or line.word == "remove", frozenset(marks)))
+                tasks.append(now.copy())
+                tasks[-1].do(line, device, self.devices)
         self.fault(furthest[1][0], "no order of all opens, claims, closes and removals of %s gives this" % device.name)
 
     # ---- what each line may come to
@@ -459,7 +544,7 @@ class Check:
                 request.ended = line
                 if request.is_("aborted"):
                     seat.marked.add(handle.device)
-                    seat.learn([handle.device])
+                    seat.learn(going=[handle.device])
             handle.open = []
 
     def open_line(self, seat, line):
@@ -468,14 +553,14 @@ class Check:
         device = self.devices.get(line.words[1])
         results = []
         if handle is not None and not handle.is_shut:
-            if handle.device not in seat.destructed:
+            if not is_over(handle.device, seat.destructed):
                 results.append(("errno", EXIST))
             # The name is free once its handle was closed; what it answers then depends on the device.
             if self.may_be_removing(line, handle.device) and line.result != ("errno", EXIST):
                 self.told(seat, handle)
                 self.shut(seat, handle, line)
         if handle is None or handle.is_shut:
-            if device is None or device in seat.began:
+            if device is None or is_over(device, seat.going):
                 results.append(("errno", NODEV))
             else:
                 refused = self.is_refused(line)
@@ -491,7 +576,7 @@ class Check:
             seat.names[name] = Handle(line, device)
             self.opened.append(seat.names[name])
         if line.is_errno(NODEV) and device is not None:
-            seat.learn([device])
+            seat.learn(going=[device])
 
     def told(self, seat, handle):
         handle.is_told = handle.refuses = True
@@ -508,11 +593,11 @@ class Check:
             self.expect(line, ("errno", BADF))
             return
         results = []
-        if not (handle.is_shut or handle.is_told or handle.device in seat.destructed):
+        if not (handle.is_shut or handle.is_told or is_over(handle.device, seat.destructed)):
             results.append(("ok",))
         if self.may_be_removing(line, handle.device):
             results.append(("errno", NODEV))
-        if line.result[0] == "busy" and not handle.is_shut and handle.device not in seat.destructed:
+        if line.result[0] == "busy" and not handle.is_shut and not is_over(handle.device, seat.destructed):
             if 1 <= line.result[1] <= min(len(handle.open), MOST_OPEN):
                 results.append(line.result)
         if not self.expect(line, *results):
@@ -555,7 +640,7 @@ class Check:
             return
         results = []
         device = handle.device
-        if not (handle.refuses or handle.is_shut or device in seat.marked or device in seat.destructed):
+        if not (handle.refuses or handle.is_shut or is_over(device, seat.marked) or is_over(device, seat.destructed)):
             lba, count = int(line.words[1]), int(line.words[2])
             if line.word != "read" and not handle.writes:
                 results.append(("errno", BADF))
@@ -573,7 +658,7 @@ class Check:
             handle.open.append(line)
         if line.is_errno(NODEV):
             handle.refuses = True
-            seat.learn([device])
+            seat.learn(going=[device])
 
     def remove_line(self, seat, line):
         device = self.devices.get(line.words[0])
@@ -584,10 +669,11 @@ class Check:
         if line is device.removal and device not in seat.began:
             results.append(("ok",))
         if self.may_be_removing(line, device):
-            if device not in seat.destructed:
+            if not is_over(device, seat.destructed):
                 results.append(("errno", BUSY))
-            # A device is destructed once no handle on it is open.
-            if not any(hold.closed and self.is_before(line, hold.closed) for hold in device.holds):
+            # A device is destructed once no handle on it is open, and what stands on it is gone.
+            holds = [hold for upper in self.devices.values() if device in upper.below for hold in upper.holds]
+            if not any(hold.closed and self.is_before(line, hold.closed) for hold in holds):
                 results.append(("errno", NODEV))
         if self.expect(line, *results):
             seat.learn([device], [device] if line.is_errno(NODEV) else [])
@@ -618,7 +704,7 @@ class Check:
             if line.word == "wait":
                 self.end_requests(seat, list(seat.names.values()), line)
             elif line.word == "post":
-                line.knows = (set(seat.began), set(seat.destructed))
+                line.knows = seat.knows()
             elif line.word == "await":
                 sources = self.posts[line.words[0]]
                 if len(sources) == 1:
@@ -638,10 +724,10 @@ class Check:
     def check_aborts(self):
         for line in self.sorted:
             if line.is_("aborted"):
-                removal = line.hold.device.removal
-                if removal is None:
+                goings = line.hold.device.goings()
+                if not goings:
                     self.fault(line, "nothing was removed that could stop it")
-                elif line.ended is not None and self.is_before(line.ended, removal):
+                elif line.ended is not None and all(self.is_before(line.ended, removal) for removal in goings):
                     self.fault(line, "it had ended before the removal began")
 
     def check_skipped(self):
@@ -653,7 +739,7 @@ class Check:
             waits = line.word == "await" and line.words[0] not in self.posts
             if line.word == "gone":
                 handle = self.seats[thread].names.get(line.words[0])
-                waits = handle is not None and handle.device.removal is None
+                waits = handle is not None and not handle.device.goings()
             if not waits:
                 self.fault(line, "it has nothing to wait for")
 
@@ -661,28 +747,38 @@ class Check:
 
     def check_data(self):
         """Checks what each read shows, and gives the digests that each device may have at the end."""
-        writes = {}
+        writes, parts = {}, {}
         for line in self.sorted:
             if line.word in WRITERS and line.is_("success"):
                 for block in self.blocks_of(line):
-                    of_thread = writes.setdefault((line.hold.device, block), {}).setdefault(line.thread, ([], []))
+                    of_thread = writes.setdefault((line.hold.device.root, block), {}).setdefault(line.thread, ([], []))
                     ended = len(self.lines) if line.ended is None else line.ended.place
                     of_thread[0].append(line)
                     of_thread[1].append(max(ended, of_thread[1][-1]) if of_thread[1] else ended)
+            elif line.word in WRITERS and line.is_("aborted") and line.hold.device.is_cut(line):
+                # Some of its pieces may have been done.
+                for block in self.blocks_of(line):
+                    parts.setdefault((line.hold.device.root, block), []).append(line)
+
+        def values(read, root, block):
+            return self.values_at(read, writes.get((root, block), {}), parts.get((root, block), ()), block)
+
         for line in self.sorted:
             if line.word == "read" and line.result[0] == "success":
                 device = line.hold.device
-                choices = [self.values_at(line, writes.get((device, block), {}), block) for block in self.blocks_of(line)]
+                choices = [values(line, device.root, block) for block in self.blocks_of(line)]
                 self.check_read(patterns_of(device.size), line, choices)
         digests = {}
         for device in self.devices.values():
-            choices = [self.values_at(None, writes.get((device, block), {}), block) for block in range(device.blocks)]
-            digests[device.name] = patterns_of(device.size).digests(choices)
+            if device.root is device:
+                choices = [values(None, device, block) for block in range(device.blocks)]
+                digests[device.name] = patterns_of(device.size).digests(choices)
         return digests
 
-    def values_at(self, read, writes, block):
+    def values_at(self, read, writes, parts, block):
         """What a block may hold for a read, or at the end, where `read` is None."""
         had_ended = lambda line: line.ended is not None and (read is None or self.is_before(line.ended, read))
+        is_later = lambda line: read is not None and read.ended is not None and self.is_before(read.ended, line)
         # Of each thread, so many lines had certainly come before a write that had ended before the read.
         covered, is_written = [0] * self.threads, False
         for lines, _ in writes.values():
@@ -691,18 +787,20 @@ class Check:
                 is_written = True
                 covered = list(map(max, covered, last.clock))
         found = set() if is_written else {None}
+        is_covered = lambda line: line.ended is not None and line.ended.place < covered[line.thread]
         for thread, (lines, latest_ends) in writes.items():
             for line, latest in zip(reversed(lines), reversed(latest_ends)):
                 if latest < covered[thread]:
                     break
-                is_covered = line.ended is not None and line.ended.place < covered[thread]
-                is_later = read is not None and read.ended is not None and self.is_before(read.ended, line)
-                if not is_covered and not is_later:
+                if not is_covered(line) and not is_later(line):
                     found.add(value_of(line, block))
+        found.update(value_of(line, block) for line in parts if not is_covered(line) and not is_later(line))
         return found
 
     def blocks_of(self, line):
-        return range(int(line.words[1]), int(line.words[1]) + int(line.words[2]))
+        """The blocks of the content that a request is for."""
+        begin = line.hold.device.under + int(line.words[1])
+        return range(begin, begin + int(line.words[2]))
 
     def check_read(self, patterns, line, choices):
         shown = line.result[1:]
@@ -745,8 +843,9 @@ class Check:
             for word in ("read", "write"):
                 done = [line for line in self.sorted if line.word == word and line.result[0] == "success" and line.hold.device is device]
                 moved.append((len(done), sum(int(line.words[2]) for line in done) * device.size))
-            text.append("device %s malloc blocks %d size %d reads %d writes %d read_bytes %d write_bytes %d sha256 D" % (
-                device.name, device.blocks, device.size, moved[0][0], moved[1][0], moved[0][1], moved[1][1]))
+            text.append("device %s %s blocks %d size %d reads %d writes %d read_bytes %d write_bytes %d%s" % (
+                device.name, device.kind, device.blocks, device.size, moved[0][0], moved[1][0], moved[0][1], moved[1][1],
+                " sha256 D" if device.kind == "malloc" else ""))
         text.append("end accepted %d success %d failed %d aborted %d" % tuple(map(sum, zip(*[count[:4] for count in counts]))))
         shown = {}
         ends = list(self.ends)
@@ -759,7 +858,7 @@ class Check:
                 if pair[0] != pair[1]:
                     self.fault(None, "%r stands for %r" % pair)
             return
-        for name in self.devices:
+        for name in digests:
             if digests[name] is not None and shown[name] not in {digest for _, digest in digests[name]}:
                 self.fault(None, "no order leaves the content of %s with the digest of its device line" % name)
 

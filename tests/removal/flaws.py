@@ -115,7 +115,7 @@ class AbortsWhatWasServed(Imitation):
     def complete(self, t):
         thread = self.threads[t]
         for request in thread.ended:
-            if request.handle.device in thread.marked and request.words[0] == "write":
+            if self.is_marked(thread, request.handle.device) and request.words[0] == "write":
                 request.status = "aborted"
         super().complete(t)
 
@@ -123,13 +123,9 @@ class AbortsWhatWasServed(Imitation):
 class LosesWrites(Imitation):
     """A write that is called a success changes nothing."""
 
-    def serve_one(self, home, t, request):
-        if request.words[0] == "write" and request.handle.device.standing != "live":
-            request.words[3] = "0"
-            super().serve_one(home, t, request)
-            request.words[3] = "1"
-        else:
-            super().serve_one(home, t, request)
+    def serve_one(self, home, t, request, piece):
+        is_lost = request.words[0] == "write" and request.handle.device.standing != "live"
+        super().serve_one(home, t, request, (piece[0], 0) if is_lost else piece)
 
 
 class CompletesTwice(Imitation):
@@ -198,14 +194,117 @@ class StopsAtGone(Imitation):
 class ReadsOldData(Imitation):
     """A read gives zeros once the device goes."""
 
-    def serve_one(self, home, t, request):
-        super().serve_one(home, t, request)
-        if request.data is not None and request.handle.device.standing != "live":
-            request.data = bytes(len(request.data))
+    def serve_one(self, home, t, request, piece):
+        super().serve_one(home, t, request, piece)
+        if request.words[0] == "read" and request.handle.device.standing != "live":
+            request.data[piece[0]] = bytes(len(request.data[piece[0]]))
+
+
+class LosesShift(Imitation):
+    """A part begins where its base does."""
+
+    def serve_one(self, home, t, request, piece):
+        device = request.handle.device
+        shifts = [(lower, lower.shift) for lower in device.below]
+        for lower, _ in shifts:
+            lower.shift = 0
+        super().serve_one(home, t, request, piece)
+        for lower, shift in shifts:
+            lower.shift = shift
+
+
+class DropsLastPiece(Imitation):
+    """The last piece of a request that is cut is dropped."""
+
+    def do_request(self, t, thread, words, handle):
+        result = super().do_request(t, thread, words, handle)
+        if sum(request is result for request, _ in thread.unsent) > 1:
+            thread.unsent.pop()
+        return result
+
+
+class CompletesAtFirstPiece(Imitation):
+    """A request completes once its first piece is back."""
+
+    def back(self, thread, request):
+        if request.out < 0:
+            return
+        request.out = -1 << 30
+        thread.unsent = [(other, piece) for other, piece in thread.unsent if other is not request]
+        thread.ended.append(request)
+
+
+class NumbersByBase(Imitation):
+    """The pattern of a write goes by the numbers of the blocks on the base."""
+
+    def first_byte(self, request, block):
+        return super().first_byte(request, request.handle.device.under(block))
+
+
+class LeavesBaseUnclaimed(Imitation):
+    """A device that others stand on is opened for writing."""
+
+    def do_open(self, t, thread, words, handle):
+        device = self.devices.get(words[2])
+        ours = [other for other in self.handles if other.is_base_handle() and other.device is device]
+        for other in ours:
+            other.is_open = False
+        result = super().do_open(t, thread, words, handle)
+        for other in ours:
+            other.is_open = True
+        return result
+
+
+class LeavesWhatStandsOnIt(Imitation):
+    """What stands on a device that goes stays."""
+
+    def take(self, t):
+        super().take(t)
+        self.threads[t].owed = [(what, device) for what, device in self.threads[t].owed if what != "follow" or self.shut]
+
+
+class TakesBaseAlong(Imitation):
+    """With a device the one that it stands on goes."""
+
+    def begin_removal(self, t, device):
+        super().begin_removal(t, device)
+        if device.base and device.base.standing == "live":
+            self.begin_removal(t, device.base)
+
+
+class OpensOverRemoved(Imitation):
+    """A device over one that is being removed is opened."""
+
+    def do_open(self, t, thread, words, handle):
+        device = self.devices.get(words[2])
+        below = [(lower, lower.standing) for lower in device.below[1:]] if device else []
+        for lower, _ in below:
+            lower.standing = "live"
+        result = super().do_open(t, thread, words, handle)
+        for lower, standing in below:
+            lower.standing = standing
+        return result
+
+
+class CountsAtBase(Imitation):
+    """Reads and writes are counted at the device with the content."""
+
+    def complete(self, t):
+        moved = {device: device.moved for device in self.devices.values()}
+        for device in self.devices.values():
+            device.moved = moved[device.root]
+        super().complete(t)
+        for device in self.devices.values():
+            device.moved = moved[device]
 
 
 FLAWS = [
     AcceptsAfterGone, OpensWhileRemoving, RemovesTwice, RefusesFirstRemoval, DestructsEarly, TellsNobody, TellsClosedHandles,
     TellsInAnotherOrder, ClosesAfterGone, ForgetsName, AbortsAtAnyTime, AbortsWhatWasServed, LosesWrites, CompletesTwice,
     FailsWhatIsInFlight, ClaimsBesideWriter, ClaimsWhileRemoving, WaitsForNothing, StopsAtGone, ReadsOldData,
+]
+# These are tried on the scripts with stacks.
+STACKED = [
+    LosesShift, DropsLastPiece, CompletesAtFirstPiece, NumbersByBase, LeavesBaseUnclaimed, LeavesWhatStandsOnIt, TakesBaseAlong,
+    OpensOverRemoved, CountsAtBase,
 ]

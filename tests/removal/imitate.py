@@ -1,8 +1,11 @@
 """Plays a script by the rules of docs/MODEL.md in an order by chance, and gives the report.
 
 It serves to try the checker: whatever the order, the checker must find nothing wrong with what comes out. It shares no
-code with the program or the checker, and knows malloc devices. Each thread acts in single steps; which thread is next,
-and which of the things that it may do it does, is left to chance.
+code with the program or the checker, and knows malloc devices, passthrus and parts of splits. Each thread acts in single
+steps; which thread is next, and which of the things that it may do it does, is left to chance.
+
+A device is (name, blocks, size), or with more: (name, blocks, size, kind, base, shift, boundary), where base is the name of the
+device that it stands on, at block `shift` of it, and requests are cut at multiples of `boundary`.
 """
 
 import hashlib
@@ -17,13 +20,36 @@ STEPS = bytes(7 * i % 256 for i in range(256))
 
 
 class Device:
-    def __init__(self, place, home, name, blocks, size):
-        self.place, self.home, self.name, self.blocks, self.size = place, home, name, blocks, size
+    def __init__(self, place, name, blocks, size, kind="malloc", base=None, shift=0, boundary=0):
+        self.place, self.name, self.blocks, self.size, self.kind = place, name, blocks, size, kind
+        self.base, self.shift, self.boundary = base, shift, boundary
+        # From this one down to the one with the content; and those that stand on this one.
+        self.below, self.users = [self] + (base.below if base else []), []
+        self.root = self.below[-1]
+        if base:
+            base.users.append(self)
         self.standing = "live"
         self.named = False  # for destruction
-        self.queue, self.content = deque(), [bytes(size)] * blocks
+        self.queue, self.content = deque(), [] if base else [bytes(size)] * blocks
         self.moved = dict(read=[0, 0], write=[0, 0])
         self.digest = None
+
+    def pieces(self, lba, count):
+        """The extents of a request: each as its first block, and how many. One begins where some device below has a boundary."""
+        found = []
+        for block in range(lba, lba + count):
+            number, is_cut = block, block == lba
+            for device in self.below:
+                is_cut = is_cut or device.boundary > 0 and number % device.boundary == 0
+                number += device.shift
+            if is_cut:
+                found.append([block, 0])
+            found[-1][1] += 1
+        return found
+
+    def under(self, block):
+        """The block of the content under a block of this device."""
+        return block + sum(device.shift for device in self.below)
 
 
 class Handle:
@@ -32,20 +58,25 @@ class Handle:
         self.is_open = self.was_told_open = self.is_gone = False
         self.requests = 0
 
+    def is_base_handle(self):
+        return self.name is None
+
 
 class Request:
     def __init__(self, line, words, handle):
-        self.line, self.words, self.handle, self.data, self.status = line, words, handle, None, None
+        self.line, self.words, self.handle, self.status = line, words, handle, "success"
+        self.data = {}  # by piece
+        self.out = 0  # pieces that were sent and aren't back
 
 
 class Thread:
     def __init__(self):
         self.lines, self.next, self.names, self.marks = [], 0, {}, set()
         self.marked = set()  # devices
-        self.unsent, self.ended = [], []  # open requests whose piece is here: not sent, or back
+        self.unsent, self.ended = [], []  # pieces that aren't sent, each with its request; requests of which all came back
         self.open = 0
         self.due = []  # messages to be put: (receiver, message)
-        self.owed = []  # what is to be done once: "drop", "destruct" or "report", with the device
+        self.owed = []  # what is to be done once: "drop", "destruct", "report", "follow" or "release", with the device
         self.gone = []  # handles that it has to close
         self.references, self.channels = Counter(), set()  # of devices
         self.counts = dict(accepted=0, success=0, failed=0, aborted=0, refused=0)
@@ -54,7 +85,12 @@ class Thread:
 class Imitation:
     def __init__(self, text, threads, devices, seed):
         self.random = random.Random(seed)
-        self.devices = {device[0]: Device(place, place % threads, *device) for place, device in enumerate(devices)}
+        self.devices = {}
+        for place, (name, blocks, size, *more) in enumerate(devices):
+            kind, base, *more = more or ("malloc", None)
+            self.devices[name] = Device(place, name, blocks, size, kind, self.devices.get(base), *more)
+        for device in self.devices.values():
+            device.home = device.root.place % threads
         self.threads = [Thread() for _ in range(threads)]
         self.results, self.jobs = {}, []
         for number, line in enumerate(text.split("\n"), 1):
@@ -64,7 +100,13 @@ class Imitation:
                 self.jobs.append((number, words[0], words[1]))
         self.rings = [[deque() for _ in range(threads)] for _ in range(threads)]
         self.waiting = [0] * threads
+        # A device that others stand on is open for them, and claimed.
         self.handles = []
+        for device in self.devices.values():
+            if device.users:
+                handle = Handle(device.home, None, device, True)
+                handle.is_open, handle.claim = True, ["exclusive"]
+                self.handles.append(handle)
         self.shut = False
         # How willing a thread is to do each kind of thing differs from run to run.
         kinds = ("take", "put", "line", "send", "abort", "complete", "close", "owe", "serve")
@@ -83,7 +125,7 @@ class Imitation:
             yield "line", self.outcome
         if thread.unsent:
             yield "send", self.send
-            if any(request.handle.device in thread.marked for request in thread.unsent):
+            if any(self.is_marked(thread, request.handle.device) for request, _ in thread.unsent):
                 yield "abort", self.abort
         if thread.ended:
             yield "complete", self.complete
@@ -93,6 +135,9 @@ class Imitation:
             yield "owe", self.pay
         if any(device.queue for device in self.devices.values() if device.home == t):
             yield "serve", self.serve
+
+    def is_marked(self, thread, device):
+        return any(lower in thread.marked for lower in device.below)
 
     def play(self):
         while True:
@@ -117,7 +162,7 @@ class Imitation:
                 if self.shut:
                     return self.report()
                 self.shut = True
-                for device in self.devices.values():
+                for device in reversed(self.devices.values()):
                     if device.standing == "live":
                         self.begin_removal(0, device)
 
@@ -134,14 +179,17 @@ class Imitation:
         kind, what = message
         thread = self.threads[t]
         if kind == "piece":
-            what[1].handle.device.queue.append(what)
+            what[1].handle.device.root.queue.append(what)
         elif kind == "back":
-            thread.ended.append(what)
+            self.back(thread, what)
         elif kind == "mark":
             thread.marks.add(what)
         elif kind == "gone":
             what.is_gone = True
-            if what.is_open:
+            if what.is_base_handle():
+                # What stands on a device that goes, goes too.
+                thread.owed += [("follow", user) for user in what.device.users]
+            elif what.is_open:
                 what.was_told_open = True
                 thread.gone.append(what)
         elif kind == "walk":
@@ -163,15 +211,22 @@ class Imitation:
 
     def send(self, t):
         unsent = self.threads[t].unsent
-        request = unsent.pop(self.random.choice([0, 0, self.random.randrange(len(unsent))]))
-        self.send_to(t, request.handle.device.home, ("piece", (t, request)))
+        request, piece = unsent.pop(self.random.choice([0, 0, self.random.randrange(len(unsent))]))
+        request.out += 1
+        self.send_to(t, request.handle.device.home, ("piece", (t, request, piece)))
+
+    def back(self, thread, request):
+        request.out -= 1
+        if request.out == 0 and not any(other is request for other, _ in thread.unsent):
+            thread.ended.append(request)
 
     def abort(self, t):
         thread = self.threads[t]
-        request = self.random.choice([request for request in thread.unsent if request.handle.device in thread.marked])
-        thread.unsent.remove(request)
+        request = self.random.choice([request for request, _ in thread.unsent if self.is_marked(thread, request.handle.device)])
+        thread.unsent = [(other, piece) for other, piece in thread.unsent if other is not request]
         request.status = "aborted"
-        thread.ended.append(request)
+        if request.out == 0:
+            thread.ended.append(request)
 
     def queue_of(self, t):
         """A queue of this home in which a piece waits."""
@@ -180,19 +235,23 @@ class Imitation:
     def serve(self, home):
         self.serve_one(home, *self.queue_of(home).popleft())
 
-    def serve_one(self, home, t, request):
-        word, lba, count = request.words[0], int(request.words[2]), int(request.words[3])
-        device = request.handle.device
+    def serve_one(self, home, t, request, piece):
+        word, device = request.words[0], request.handle.device
+        lba, count = piece
+        content = device.root.content
         for block in range(lba, lba + count):
             if word == "write":
-                first = int(request.words[4]) + 31 * block
-                device.content[block] = (STEPS * 2)[first * 183 % 256:][:256] * (device.size // 256)
+                first = self.first_byte(request, block)
+                content[device.under(block)] = (STEPS * 2)[first * 183 % 256:][:256] * (device.size // 256)
             elif word in ("zeroes", "unmap"):
-                device.content[block] = bytes(device.size)
+                content[device.under(block)] = bytes(device.size)
         if word == "read":
-            request.data = b"".join(device.content[lba:lba + count])
-        request.status = "success"
+            request.data[lba] = b"".join(content[device.under(lba):device.under(lba) + count])
         self.threads[home].due.append((t, ("back", request)))
+
+    def first_byte(self, request, block):
+        """What a write puts first in a block of its device."""
+        return int(request.words[4]) + 31 * block
 
     def complete(self, t):
         thread = self.threads[t]
@@ -206,8 +265,9 @@ class Imitation:
             moved = device.moved[request.words[0]]
             moved[0] += 1
             moved[1] += int(request.words[3]) * device.size
-            if request.data is not None:
-                result += " first %s sha256 %s" % (request.data[:8].hex(), hashlib.sha256(request.data).hexdigest())
+            if request.words[0] == "read":
+                data = b"".join(request.data[lba] for lba in sorted(request.data))
+                result += " first %s sha256 %s" % (data[:8].hex(), hashlib.sha256(data).hexdigest())
         self.results[request.line] = result
 
     # ---- handles, channels and the device
@@ -220,11 +280,22 @@ class Imitation:
             device.named = True
             self.threads[t].due.append((device.home, ("destruct", device)))
 
-    def close(self, t, handle):
+    def get_channel(self, thread, device):
+        thread.references[device] += 1
+        if device not in thread.channels:
+            thread.channels.add(device)
+            if device.base:
+                self.get_channel(thread, device.base)
+
+    def put_channel(self, t, device):
         thread = self.threads[t]
-        thread.references[handle.device] -= 1
-        if thread.references[handle.device] == 0:
-            thread.due.append((t, ("drop", handle.device)))
+        thread.references[device] -= 1
+        if thread.references[device] == 0:
+            thread.due.append((t, ("drop", device)))
+
+    def close(self, t, handle):
+        if not handle.is_base_handle():
+            self.put_channel(t, handle.device)
         handle.is_open, handle.claim = False, None
         self.free(t, handle.device)
 
@@ -240,12 +311,21 @@ class Imitation:
         if what == "drop":
             if thread.references[device] == 0 and device in thread.channels:
                 thread.channels.remove(device)
+                if device.base:
+                    self.put_channel(t, device.base)
                 self.free(t, device)
         elif what == "destruct":
             device.digest = hashlib.sha256(b"".join(device.content)).hexdigest()
             thread.owed.append(("report", device))
+        elif what == "follow":
+            if device.standing == "live":
+                self.begin_removal(t, device)
+        elif what == "release":
+            self.close(t, next(handle for handle in self.open_on(device) if handle.is_base_handle()))
         else:
             device.standing = "destructed"
+            if device.base and all(user.standing == "destructed" for user in device.base.users):
+                thread.owed.append(("release", device.base))
 
     def begin_removal(self, t, device):
         thread = self.threads[t]
@@ -301,7 +381,7 @@ class Imitation:
         if handle is not None and handle.is_open:
             return 17
         device = self.devices.get(words[2])
-        if device is None or device.standing != "live":
+        if device is None or any(lower.standing != "live" for lower in device.below):
             return 19
         if words[3] == "w" and any(other.claim for other in self.open_on(device)):
             return 1
@@ -309,8 +389,7 @@ class Imitation:
         handle.is_open = True
         self.handles.append(handle)
         thread.names[words[1]] = handle
-        thread.references[device] += 1
-        thread.channels.add(device)
+        self.get_channel(thread, device)
         return None
 
     def open_on(self, device):
@@ -366,13 +445,13 @@ class Imitation:
         thread.counts["accepted"] += 1
         thread.open += 1
         handle.requests += 1
-        thread.unsent.append(request)
+        thread.unsent += [(request, piece) for piece in handle.device.pieces(int(words[2]), int(words[3]))]
         return request
 
     def refusal(self, thread, words, handle):
         if handle is None:
             return 9
-        if handle.is_gone or (handle.is_open and handle.device in thread.marked):
+        if handle.is_gone or (handle.is_open and self.is_marked(thread, handle.device)):
             return 19
         if words[0] in WRITERS and not handle.write:
             return 9
@@ -393,8 +472,9 @@ class Imitation:
                 out.append(" ".join(["thread %d" % t] + ["%s %d" % (word, thread.counts[word]) for word in words + ("refused",)]))
         for device in self.devices.values():
             (reads, read_bytes), (writes, write_bytes) = device.moved["read"], device.moved["write"]
-            out.append("device %s malloc blocks %d size %d reads %d writes %d read_bytes %d write_bytes %d sha256 %s" % (
-                device.name, device.blocks, device.size, reads, writes, read_bytes, write_bytes, device.digest))
+            digest = " sha256 %s" % device.digest if device.kind == "malloc" else ""
+            out.append("device %s %s blocks %d size %d reads %d writes %d read_bytes %d write_bytes %d%s" % (
+                device.name, device.kind, device.blocks, device.size, reads, writes, read_bytes, write_bytes, digest))
         out.append("end " + " ".join("%s %d" % (word, sum(thread.counts[word] for thread in self.threads)) for word in words))
         return "\n".join(out) + "\n"
 

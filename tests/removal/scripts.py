@@ -1,16 +1,21 @@
 """Scripts in which a device goes while requests are in flight.
 
-`script(number)` makes one of them: the text of the script, the number of its threads and the device's blocks and block
-size. One number always gives the same script. The numbers go through the plans below in turn, so that each plan comes
-with 1 to 16 threads.
+`script(number)` makes one of them: the text of the script, the number of its threads and its devices. One number always gives
+the same script. The numbers go through the plans below in turn, so that each plan comes with 1 to 16 threads. The scripts below
+number STACKED have one malloc device; the others have stacks of up to 8 layers of passthrus and splits.
 """
 
+import json
 import random
 from collections import namedtuple
 
-Made = namedtuple("Made", "text threads blocks size plan")
+Made = namedtuple("Made", "text threads devices plan")
+# A device stands on the one of the name `base`, at its block `shift`. Requests are cut at multiples of `boundary`.
+Row = namedtuple("Row", "name blocks size kind base shift boundary", defaults=("malloc", None, 0, 0))
 
 DEVICE = "Malloc0"
+STACKED = 200
+MOST_LAYERS = 8
 MOST_OPEN = 1024
 MOST_BYTES = 262144
 MOST_LINES = 20000
@@ -35,6 +40,13 @@ class Thread:
 
     def say(self, *words):
         self.lines.append(" ".join(str(word) for word in (self.number,) + words))
+
+    def some_device(self):
+        return DEVICE
+
+    def going(self):
+        """The device that a line removes."""
+        return DEVICE
 
     def open(self, write=None):
         handle = "h%d" % len(self.handles)
@@ -140,23 +152,101 @@ class Thread:
             if self.random.random() < 0.3:
                 say("claim", handle, self.random.choice(["one", "shared 7", "shared 0", "none"]))
             if self.random.random() < 0.3:
-                say("open", handle, DEVICE, self.random.choice("rw"))
+                say("open", handle, self.some_device(), self.random.choice("rw"))
             if self.random.random() < 0.3:
                 say("wait")
             if self.random.random() < 0.7:
                 say("close", handle)
                 if self.random.random() < 0.5:
                     say(*self.random.choice([
-                        ("open", handle, DEVICE, "r"), ("close", handle), ("gone", handle), ("read", handle, 0, 1),
+                        ("open", handle, self.some_device(), "r"), ("close", handle), ("gone", handle), ("read", handle, 0, 1),
                         ("claim", handle, "one"), ("write", handle, self.first, 1, 3),
                     ]))
         if self.random.random() < 0.6:
-            say("open", "again", DEVICE, self.random.choice("rw"))
+            say("open", "again", self.some_device(), self.random.choice("rw"))
             say("read", "again", 0, 1)
         for _ in range(self.random.randrange(3)):
-            say("remove", self.random.choice([DEVICE, DEVICE, DEVICE, "Malloc1"]))
+            say("remove", self.random.choice([self.going(), self.going(), self.going(), "Malloc1"]))
             if self.random.random() < 0.5:
                 say("wait")
+
+
+class StackThread(Thread):
+    """A thread whose handles are on the devices of a stack."""
+
+    def __init__(self, maker, number):
+        super().__init__(maker, number)
+        self.rows = {}  # of its handles
+
+    def some_device(self):
+        return self.random.choice(self.maker.rows).name
+
+    def going(self):
+        return self.maker.going if self.random.random() < 0.7 else self.some_device()
+
+    def open(self, write=None):
+        handle = "h%d" % len(self.handles)
+        rows = self.maker.rows
+        row = rows[-1] if self.random.random() < 0.5 else self.random.choice(rows)
+        if write is None:
+            # What others stand on is claimed.
+            write = self.random.random() < (0.1 if any(other.base == row.name for other in rows) else 0.85)
+        self.handles.append(handle)
+        self.rows[handle] = row
+        self.say("open", handle, row.name, "w" if write else "r")
+        return handle
+
+    def request(self, shared=0.03):
+        maker = self.maker
+        word = self.random.choices(["read", "write", "zeroes", "unmap", "flush"], [30, 45, 9, 8, 8])[0]
+        handle = self.some_handle()
+        row = self.rows[handle]
+        # Of the thread's own blocks those that lie under the device, by its own numbers.
+        under = maker.under(row)
+        first = max(self.first - under, 0)
+        room = min(self.first + self.count - under, row.blocks) - first
+        count = self.random.choice([1, 1, 1, 2, 3, 8, 12, 20, 64, MOST_BYTES // row.size])
+        if room < 1 or self.random.random() < shared:
+            first, room, count = 0, row.blocks, min(count, 3)
+        count = min(count, room)
+        if maker.bytes < count * row.size:
+            count = 1
+        maker.bytes -= count * row.size
+        words = [word, handle, first + self.random.randrange(room - count + 1), count]
+        if word == "write":
+            words.append(self.random.choice([self.random.randrange(256), self.random.randrange(1 << 64)]))
+        self.say(*words)
+
+    def range(self, shared):
+        """Blocks of the last handle's device."""
+        row = self.rows[self.handles[-1]]
+        count = self.random.choice([1, 2, min(row.blocks, 16)])
+        count = min(count, row.blocks)
+        return self.random.randrange(row.blocks - count + 1), count
+
+    def read_back(self):
+        for _ in range(self.random.randrange(1, 4)):
+            self.say("wait")
+            lba, count = self.range(False)
+            self.say("read", self.handles[-1], lba, count)
+        self.say("wait")
+
+    def bad_request(self):
+        handle = self.some_handle()
+        row = self.rows[handle]
+        above = MOST_BYTES // row.size + 1
+        self.say(*self.random.choice([
+            ("read", handle, 0, 0),
+            ("read", handle, row.blocks, 1),
+            ("write", handle, row.blocks - 1, 2, 5),
+            ("flush", handle, 0, above),
+            ("read", handle, (1 << 64) - 1, 2),
+            ("write", "unbound", 0, 1, 1),
+            ("open", handle, row.name, "r"),
+            ("open", "other", "Malloc1", "w"),
+            ("open", "claimed", row.base or row.name, "w"),
+            ("remove", "Malloc1"),
+        ]))
 
 
 class Maker:
@@ -168,17 +258,60 @@ class Maker:
             self.alone, self.no_order, self.while_open, self.settled, self.many_removers, self.in_a_row, self.open_and_close,
             self.full_threads, self.left, self.claims,
         ]
+        if number >= STACKED:
+            plans.append(self.full_of_pieces)
         self.plan = plans[number % len(plans)]
         self.threads = 1 + (number * 7 + number // len(plans)) % 16
         self.blocks, self.size = self.random.choice([(64, 512), (256, 512), (1024, 512), (2048, 512), (64, 4096), (256, 4096)])
+        self.rows = [Row(DEVICE, self.blocks, self.size)]
+        self.thread = Thread
+        if number >= STACKED:
+            self.stack()
+
+    # ---- stacks
+
+    def stack(self):
+        """Devices of which each of up to 8 layers stands on the one below it."""
+        self.thread = StackThread
+        boundary = self.random.choice([0, 0, 8, 8, 13, 16, 64])
+        if self.plan == self.full_of_pieces:
+            self.threads = max(4, self.threads)
+            self.blocks, self.size, boundary = 2048, 512, 8
+        # Devices before it move its home to another thread.
+        self.others = [Row("Other%d" % i, 8, self.size) for i in range(self.random.randrange(4))]
+        self.rows = [Row(DEVICE, self.blocks, self.size, boundary=boundary)]
+        for layer in range(self.random.randrange(1, MOST_LAYERS)):
+            base = self.rows[-1]
+            if self.random.random() < 0.6 or base.blocks < 8:
+                self.rows.append(Row("P%d" % layer, base.blocks, base.size, "passthru", base.name))
+                continue
+            count = self.random.choice([1, 2, 2, 3])
+            blocks = base.blocks // count
+            parts = [Row("%sp%d" % (base.name, i), blocks, base.size, "part", base.name, i * blocks) for i in range(count)]
+            self.rows += parts
+            if count > 1 and self.random.random() < 0.3:
+                self.rows.append(Row("Q%d" % layer, blocks, base.size, "passthru", parts[0].name))
+                self.rows.append(parts[1]._replace(name="P%d" % layer, kind="passthru", base=parts[1].name, shift=0))
+        self.going = self.random.choice(self.rows).name
+
+    def under(self, row):
+        """Where a device begins on the one with the content."""
+        begin = 0
+        while row.base:
+            begin += row.shift
+            row = next(other for other in self.rows if other.name == row.base)
+        return begin
+
+    def devices(self):
+        return self.others + self.rows if self.number >= STACKED else self.rows
 
     def make(self):
         if self.plan == self.alone:
             self.threads = 1
         self.shared = self.blocks // (self.threads + 1) * self.threads
-        self.all = [Thread(self, number) for number in range(self.threads)]
+        self.all = [self.thread(self, number) for number in range(self.threads)]
         self.plan()
-        return Made(self.text(), self.threads, self.blocks, self.size, self.plan.__name__)
+        return Made(self.text(), self.threads, self.devices(), self.plan.__name__)
 
     def text(self):
         """The lines of all threads, each thread's in their order, mixed in groups, with some comments and empty lines."""
@@ -212,9 +345,9 @@ class Maker:
         if self.random.random() < 0.3:
             thread.read_back()
         thread.burst(self.random.choice([0, 1, 5, 12]))
-        thread.say("remove", DEVICE)
+        thread.say("remove", thread.going())
         if self.random.random() < 0.5:
-            thread.say("remove", DEVICE)
+            thread.say("remove", thread.going())
         thread.burst(self.random.choice([0, 1, 5, 12]))
         thread.after()
 
@@ -227,7 +360,7 @@ class Maker:
                 thread.claim()
             thread.work(self.requests())
             if thread is remover:
-                thread.say("remove", DEVICE)
+                thread.say("remove", thread.going())
             thread.work(self.requests(60))
             thread.after()
 
@@ -241,7 +374,7 @@ class Maker:
             if thread is remover:
                 for other in self.all:
                     thread.say("await", "ready-%d" % other.number)
-                thread.say("remove", DEVICE)
+                thread.say("remove", thread.going())
                 thread.say("post", "removing")
             elif self.random.random() < 0.5:
                 thread.say("await", "removing")
@@ -260,7 +393,7 @@ class Maker:
             if thread is remover:
                 for other in self.all:
                     thread.say("await", "done-%d" % other.number)
-                thread.say("remove", DEVICE)
+                thread.say("remove", thread.going())
                 thread.say("post", "removing")
             else:
                 thread.say("await", "removing")
@@ -273,7 +406,7 @@ class Maker:
             thread.work(self.requests(60))
             if self.random.random() < 0.6 or thread.number == 0:
                 for _ in range(self.random.choice([1, 2, 6])):
-                    thread.say("remove", DEVICE)
+                    thread.say("remove", thread.going())
                     if self.random.random() < 0.3:
                         thread.request()
             thread.after()
@@ -289,7 +422,7 @@ class Maker:
             if self.random.random() < 0.5:
                 thread.read_back()
             if thread is remover:
-                thread.say("remove", DEVICE)
+                thread.say("remove", thread.going())
             thread.say("post", "turn-%d" % (thread.number + 1))
             thread.after()
 
@@ -299,7 +432,7 @@ class Maker:
         for thread in self.all:
             for turn in range(self.random.randrange(4, 24)):
                 if thread is remover and turn == 3:
-                    thread.say("remove", DEVICE)
+                    thread.say("remove", thread.going())
                 handle = thread.open()
                 if self.random.random() < 0.3:
                     thread.claim()
@@ -317,7 +450,7 @@ class Maker:
         if self.number % 100 == 17:
             self.threads = 16
             self.shared = self.blocks // 17 * 16
-            self.all = [Thread(self, number) for number in range(16)]
+            self.all = [self.thread(self, number) for number in range(16)]
         most = 15 if self.number % 100 == 17 else 4
         others = self.all[1:] if self.threads > 2 else self.all
         remover = self.random.choice(others)
@@ -338,10 +471,29 @@ class Maker:
                 else:
                     thread.burst(self.random.randrange(10))
             if thread is remover:
-                thread.say("remove", DEVICE)
+                thread.say("remove", thread.going())
             if thread.handles:
                 thread.burst(self.random.choice([0, 20]))
                 thread.after()
+
+    def full_of_pieces(self):
+        """Requests of many pieces, more than the queue of the home takes. Neither the home nor the remover has any."""
+        home = len(self.others) % self.threads
+        workers = [thread for thread in self.all if thread.number != home]
+        remover = workers.pop(self.random.randrange(len(workers)))
+        for thread in self.random.sample(workers, min(4, len(workers))):
+            thread.opens(self.random.randrange(1, 3))
+            for _ in range(self.random.choice([120, 200, 300])):
+                handle = thread.some_handle()
+                row = thread.rows[handle]
+                word = self.random.choice(["write", "zeroes", "unmap", "flush", "flush"])
+                count = min(row.blocks, self.random.choice([33, 64, 100]))
+                lba = self.random.randrange(row.blocks - count + 1)
+                thread.say(word, handle, lba, count, *((self.random.randrange(256),) if word == "write" else ()))
+            thread.after()
+        for _ in range(self.random.choice([160, 240, 400])):
+            remover.say("close", "unbound")
+        remover.say("remove", remover.going())
 
     def left(self):
         """Scripts that stop: a mark that nobody posts, a remove event that may not come, handles that nobody closes."""
@@ -350,7 +502,7 @@ class Maker:
             thread.opens(self.random.randrange(1, 4))
             thread.work(self.requests(60))
             if removed and thread.number == 0:
-                thread.say("remove", DEVICE)
+                thread.say("remove", thread.going())
             choice = self.random.random()
             if choice < 0.4:
                 thread.say("await", "never")
@@ -382,7 +534,7 @@ class Maker:
             if thread is remover:
                 if ordered:
                     thread.say("await", "turn-%d" % self.threads)
-                thread.say("remove", DEVICE)
+                thread.say("remove", thread.going())
             thread.after()
 
 
@@ -392,7 +544,17 @@ def script(number):
 
 def config(made):
     """The configuration that goes with a script."""
-    return (
-        '{ "subsystems": [ { "subsystem": "bdev", "config": [ { "method": "bdev_malloc_create", "params": '
-        '{ "name": "%s", "num_blocks": %d, "block_size": %d } } ] } ] }\n' % (DEVICE, made.blocks, made.size)
-    )
+    calls, split = [], set()
+    for row in made.devices:
+        if row.kind == "malloc":
+            params = {"name": row.name, "num_blocks": row.blocks, "block_size": row.size}
+            if row.boundary:
+                params["optimal_io_boundary"] = row.boundary
+            calls.append({"method": "bdev_malloc_create", "params": params})
+        elif row.kind == "passthru":
+            calls.append({"method": "bdev_passthru_create", "params": {"base_bdev_name": row.base, "name": row.name}})
+        elif row.base not in split:
+            split.add(row.base)
+            count = sum(other.kind == "part" and other.base == row.base for other in made.devices)
+            calls.append({"method": "bdev_split_create", "params": {"base_bdev": row.base, "split_count": count}})
+    return json.dumps({"subsystems": [{"subsystem": "bdev", "config": calls}]}) + "\n"

@@ -1,4 +1,5 @@
 //! The machine played by hand, and the histories of whole runs judged by it.
 mod by_hand;
+mod pieces;
 mod runs;
 mod top;

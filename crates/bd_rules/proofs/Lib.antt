@@ -3,3 +3,4 @@ pub mod Data
 pub mod Due
 pub mod Left
 pub mod Queues
+pub mod Unmarked

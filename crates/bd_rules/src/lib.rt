@@ -26,7 +26,7 @@ pub use homes::{
 pub use injections::{asks_injection, has_every_decision, is_at_own, is_fail, is_under_way};
 pub use kept::{new_request, piece_here, request_here, walk_here};
 pub use limits::{next_limited, way_of};
-pub use marks::{has_mark, is_frozen, is_marked, is_removed, is_removed_below, marking_of};
+pub use marks::{is_frozen, is_marked, is_removed, is_removed_below, marking_of};
 pub use messages::{brings, count_at, id_of, is_due_to, is_token_here, may_go, tells};
 pub use pieces::{all_back, all_done, all_ended, any_faulted, any_unsent, data_of};
 pub use resets::{is_finished, is_reset, is_reset_of, is_walking, reset_of};

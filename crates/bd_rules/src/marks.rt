@@ -1,6 +1,8 @@
 //! The freeze and removal marks of devices on a thread.
 ghost use Rattle.std.specs.Prelude.{◌≡◌};
-ghost use Rattle.bd_machine.specs.Marks.{has_mark, is_frozen, is_marked, is_removed, is_removed_below, marking_of};
+ghost use Rattle.std.specs.List.{list_any};
+ghost use Rattle.bd_machine.specs.Marks.{is_frozen, is_marked, is_removed, is_removed_below, marking_of};
+ghost use Rattle.bd_rules.specs.Marks.{carries_mark};
 
 use bd_base::{DevId, Setup};
 use bd_blocks::below;
@@ -24,13 +26,6 @@ pub fn marking_of(part: &Part, dev: DevId) -> Marking
     UNMARKED
 }
 
-/// Whether a device carries a freeze or a removal mark on the thread.
-pub fn has_mark(part: &Part, dev: DevId) -> bool
-    ensures { result ≡ has_mark part.now dev }
-{
-    is_frozen(part, dev) || is_removed(part, dev)
-}
-
 /// Whether a device carries a freeze mark on the thread.
 pub fn is_frozen(part: &Part, dev: DevId) -> bool
     ensures { result ≡ is_frozen part.now dev }
@@ -45,12 +40,23 @@ pub fn is_removed(part: &Part, dev: DevId) -> bool
     marking_of(part, dev).removed
 }
 
+// Whether some row carries a mark.
+fn any_carries(rows: &[(DevId, Marking)]) -> bool
+    ensures { result ≡ list_any carries_mark rows.now }
+{
+    rows.iter().any(|row| row.1.frozen || row.1.removed)
+}
+
 /// Whether the device or one below it carries a mark on the thread.
 pub fn is_marked(setup: &Setup, part: &Part, dev: DevId) -> bool
     ensures { result ≡ is_marked setup.now part.now dev }
 {
+    if !any_carries(part.marked.as_slice()) {
+        return false;
+    }
     for d in below(setup, dev) {
-        if has_mark(part, d) {
+        let marking = marking_of(part, d);
+        if marking.frozen || marking.removed {
             return true;
         }
     }
@@ -61,6 +67,9 @@ pub fn is_marked(setup: &Setup, part: &Part, dev: DevId) -> bool
 pub fn is_removed_below(setup: &Setup, part: &Part, dev: DevId) -> bool
     ensures { result ≡ is_removed_below setup.now part.now dev }
 {
+    if !any_carries(part.marked.as_slice()) {
+        return false;
+    }
     for d in below(setup, dev) {
         if is_removed(part, d) {
             return true;
