@@ -7,7 +7,7 @@ use bd_base::{AbortCause, DevId, ReqId, Setup};
 use bd_blocks::below;
 use bd_course::refused_abort;
 use bd_machine::{OpenRequest, Part};
-use bd_rules::{has_mark, is_removed, request_here};
+use bd_rules::{is_frozen, is_removed, request_here};
 use bd_view::Sees;
 
 // The mark of a device as the cause of an abort; that of a removal where both stand.
@@ -26,7 +26,7 @@ fn mark_below(setup: &Setup, part: &Part, dev: DevId) -> Option<AbortCause>
     ensures { result ≡ mark_below setup.now part.now dev }
 {
     for d in below(setup, dev) {
-        if has_mark(part, d) {
+        if is_frozen(part, d) || is_removed(part, d) {
             return Some(cause_at(part, d));
         }
     }
