@@ -15,4 +15,6 @@ mod setups;
 #[cfg(test)]
 mod stack;
 #[cfg(test)]
+mod steps;
+#[cfg(test)]
 mod tokens;
