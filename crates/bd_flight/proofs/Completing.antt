@@ -1,7 +1,7 @@
 -- With which status a request completes, and when with none.
 use Rattle.std.proofs.Common.{◌≡◌, ℕ, Bool, true, false, cond, not, ◌&&◌, ◌||◌, List, [], ◌∷◌, find, Option, Some, None, IfSome, IfNone, is_some, is_none, unwrap_or, refl, sym, ◌∙◌, ap}
 use Rattle.std.specs.List.{list_any, list_all}
-use Rattle.std.proofs.lemmas.Bool.{and_from, and_parts, and_right}
+use Rattle.std.proofs.lemmas.Bool.{and_from, and_right}
 use Rattle.bd_base.specs.declared.id.ReqId.{ReqId}
 use Rattle.bd_base.specs.declared.request.Op.{Op}
 use Rattle.bd_base.specs.declared.request.Op.TheVariants as ops

@@ -1,5 +1,5 @@
 -- The laws of the next step: what it answers the rules let the request do, and where it waits they let it do nothing.
-use Rattle.std.proofs.Common.{◌≡◌, ℕ, Bool, true, false, cond, not, ◌&&◌, ◌==◌, List, [], ◌∷◌, find, Option, Some, None, IfSome, is_some, is_none, option_map, slice_get, refl, sym, ◌∙◌, ap, subst, eq-eqb}
+use Rattle.std.proofs.Common.{◌≡◌, ℕ, Bool, true, false, cond, not, ◌&&◌, ◌==◌, List, [], ◌∷◌, find, Option, Some, None, is_some, is_none, option_map, slice_get, refl, sym, ◌∙◌, ap, subst, eq-eqb}
 use Rattle.std.proofs.lemmas.Bool.{and_from, and_parts}
 use Rattle.bd_base.specs.declared.id.DevId.{DevId}
 use Rattle.bd_base.specs.declared.id.ReqId.{ReqId}
@@ -11,7 +11,7 @@ use Rattle.bd_base.specs.declared.setup.Setup.{Setup}
 use Rattle.bd_machine.specs.declared.state.OpenRequest.{OpenRequest}
 use Rattle.bd_machine.specs.Aborts.{may_abort}
 use Rattle.bd_machine.specs.Admission.{has_range}
-use Rattle.bd_machine.specs.Injections.{errors_below, goes_on, has_every_decision, is_fail, is_pend, is_under_way, may_pend}
+use Rattle.bd_machine.specs.Injections.{errors_below, goes_on, has_every_decision, is_fail, is_pend, is_under_way}
 use Rattle.bd_machine.specs.Kept.{is_at_own, request_here}
 use Rattle.bd_machine.specs.Limits.{next_limited}
 use Rattle.bd_machine.specs.Marks.{is_marked}

@@ -1,5 +1,5 @@
 -- Marks below a request, and the abort that one causes.
-use Rattle.std.proofs.Common.{◌≡◌, ℕ, Bool, true, false, cond, not, ◌&&◌, ◌||◌, ◌==◌, List, [], ◌∷◌, find, Option, Some, None, is_some, is_none, option_map, refl, sym, ◌∙◌, ap, subst, eq-eqb, eqb-true}
+use Rattle.std.proofs.Common.{◌≡◌, ℕ, Bool, true, false, cond, ◌||◌, List, [], ◌∷◌, find, Option, Some, None, is_some, is_none, option_map, refl, sym, ◌∙◌, ap, subst, eq-eqb, eqb-true}
 use Rattle.std.specs.List.{list_any}
 use Rattle.std.proofs.lemmas.Bool.{and_from, and_parts}
 use Rattle.bd_base.specs.declared.id.DevId.{DevId}
@@ -8,7 +8,6 @@ use Rattle.bd_base.specs.declared.request.AbortCause.{AbortCause}
 use Rattle.bd_base.specs.declared.request.AbortCause.TheVariants.{Frozen, Removed, Named}
 use Rattle.bd_base.specs.declared.setup.Setup.{Setup}
 use Rattle.bd_machine.specs.declared.state.OpenRequest.{OpenRequest}
-use Rattle.bd_machine.specs.declared.state.Part.{Part}
 use Rattle.bd_machine.specs.Aborts.{is_below, is_cause, may_abort}
 use Rattle.bd_machine.specs.BlockMap.{below}
 use Rattle.bd_machine.specs.Marks.{has_mark, is_frozen, is_marked, is_removed}

@@ -1,5 +1,5 @@
 -- What an open request that is here may do next, by the machine's rules, with the cause, the status or the device that goes with it.
-use Rattle.std.specs.Prelude.{ℕ, Bool, true, false, cond, ◌&&◌, List, [], ◌∷◌, find, Option, Some, None, is_none, option_map, slice_get}
+use Rattle.std.specs.Prelude.{ℕ, Bool, cond, ◌&&◌, [], ◌∷◌, find, Option, Some, None, is_none, option_map, slice_get}
 use Rattle.bd_base.specs.declared.id.DevId.{DevId}
 use Rattle.bd_base.specs.declared.id.ReqId.{ReqId}
 use Rattle.bd_base.specs.declared.request.AbortCause.{AbortCause}

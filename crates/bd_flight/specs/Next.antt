@@ -1,6 +1,5 @@
 -- The next step of an open request, and which steps the rules let it take.
 use Rattle.std.specs.Prelude.{ℕ, Bool, true, false, cond, ◌&&◌, List, [], ◌∷◌, Option, Some, None, is_none, option_map}
-use Rattle.bd_base.specs.declared.id.DevId.{DevId}
 use Rattle.bd_base.specs.declared.id.ReqId.{ReqId}
 use Rattle.bd_base.specs.declared.request.AbortCause.{AbortCause}
 use Rattle.bd_base.specs.declared.request.AbortCause.TheVariants.{Named}

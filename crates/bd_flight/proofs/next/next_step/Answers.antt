@@ -1,7 +1,4 @@
-use Rattle.std.proofs.Common.{◌≡◌, Bool, true, sym, ◌∙◌, ap, subst}
-use Rattle.bd_base.specs.declared.request.AbortCause.{AbortCause}
-use Rattle.bd_base.specs.declared.request.Status.{Status}
-use Rattle.bd_flight.specs.declared.next.Step.{Step}
+use Rattle.std.proofs.Common.{sym, ◌∙◌, ap}
 use Rattle.bd_flight.specs.Next.{is_abort, may_take}
 use Rattle.bd_flight.proofs.Laws.{cut_comes, end_comes, is_let, stop_comes, waits}
 use Rattle.bd_flight.proofs.next.next_step.Goals as goal
