@@ -28,28 +28,28 @@ use bd_walks::refused_visit;
 use std::alloc::Global;
 use std::test::Fail;
 
-pub(crate) const DEV: DevId = DevId(0);
+const DEV: DevId = DevId(0);
 
-pub(crate) const HANDLE: HandleId = HandleId(0);
+const HANDLE: HandleId = HandleId(0);
 
-pub(crate) const REQ: ReqId = ReqId { thread: 0, seq: 3 };
+const REQ: ReqId = ReqId { thread: 0, seq: 3 };
 
 const OTHER: ReqId = ReqId { thread: 0, seq: 4 };
 
 const WALK: WalkId = WalkId { thread: 0, seq: 0 };
 
-pub(crate) const READ: Submission = Submission {
+const READ: Submission = Submission {
     op: Op::Read,
     lba: 0,
     count: 1,
 };
 
-/// What a thread holds.
+// What a thread holds.
 #[derive(Drop)]
-pub(crate) struct Holder {
-    pub(crate) part: Part,
-    pub(crate) held: Vec<(Id, Kept)>,
-    pub(crate) registry: Registry,
+struct Holder {
+    part: Part,
+    held: Vec<(Id, Kept)>,
+    registry: Registry,
 }
 
 impl Sees for Holder {

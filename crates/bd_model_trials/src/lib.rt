@@ -15,6 +15,4 @@ mod setups;
 #[cfg(test)]
 mod stack;
 #[cfg(test)]
-mod steps;
-#[cfg(test)]
 mod tokens;
