@@ -1,5 +1,6 @@
 //! A request is accepted, or completes.
-ghost use Rattle.std.specs.Prelude.{◌≡◌, ◌++◌, filter, not, option_copied, position, OnOk};
+ghost use Rattle.std.specs.Prelude.{◌≡◌, ◌++◌, ◌==◌, filter, not, option_copied, position, OnOk};
+ghost use Rattle.std.specs.List.{list_all};
 ghost use Rattle.bd_machine.specs.Requests.{change_complete, submitted_at};
 ghost use Rattle.bd_machine.specs.Same.{same_request};
 ghost use Rattle.bd_machine.specs.Walks.{is_reset_of};
@@ -55,6 +56,13 @@ fn place_of(requests: &[Open], req: ReqId) -> Option<usize>
     requests.iter().position(|r| same_request(r.id, req))
 }
 
+// Whether each request has another number than this one.
+fn has_other_numbers(requests: &[Open], req: ReqId) -> bool
+    ensures { result ≡ list_all (λ r. not (r.id.seq == req.seq)) requests.now }
+{
+    requests.iter().all(|r| r.id.seq != req.seq)
+}
+
 // Takes out each request of this id. Ids are given once, so that is one; and requests complete mostly in
 // the order in which they were accepted, so it stands near the front.
 fn take_out(requests: &mut Vec<Open>, req: ReqId)
@@ -64,7 +72,7 @@ fn take_out(requests: &mut Vec<Open>, req: ReqId)
         return;
     };
     requests.remove(place);
-    if place_of(requests.as_slice(), req).is_some() {
+    if !has_other_numbers(requests.as_slice(), req) {
         requests.retain(|r| !same_request(r.id, req));
     }
 }
