@@ -4,22 +4,23 @@ ghost use Rattle.std.specs.Prelude.{◌≡◌, ◌+◌, ◌<◌, ◌≤◌, ◌�
 use crate::ticket::{Finished, Ticket};
 use bd_base::{OutOfMemory, ReqId, Status};
 use std::alloc::Global;
+use std::collections::VecDeque;
 use std::marker::Model;
 
 /// Tickets that are kept, seen as the list of their ids, and beside it how many it can keep without
 /// taking memory. Like its tickets it can be neither copied nor dropped.
 #[derive(Debug)]
 pub struct Purse {
-    tickets: Vec<Ticket>,
+    tickets: VecDeque<Ticket>,
 }
 
 impl Model for Purse {
-    ghost use Rattle.std.specs.Vec.{vec_capacity};
+    ghost use Rattle.std.specs.VecDeque.{deque_capacity};
     ghost use Rattle.bd_msg.specs.Purse.{Kept};
 
     ghost Value = { Kept };
 
-    ghost view = { λ p. record { ids = p.tickets.items; capacity = vec_capacity p.tickets } };
+    ghost view = { λ p. record { ids = p.tickets.items; capacity = deque_capacity p.tickets } };
 }
 
 impl Purse {
@@ -30,7 +31,7 @@ impl Purse {
         ensures { result.ids ≡ [] }
     {
         Purse {
-            tickets: Vec::new(alloc),
+            tickets: VecDeque::new(alloc),
         }
     }
 
@@ -43,7 +44,12 @@ impl Purse {
         ensures full { OnErr result (self.old.capacity < length self.old.ids + n) }
         ensures err { OnErr result (self.new ≡ self.old) }
     {
-        self.tickets.reserve(n as usize)?;
+        let room = self.tickets.capacity() - self.tickets.len();
+        if n as usize <= room {
+            return Ok(());
+        }
+        let more = (n as usize).max(self.tickets.len());
+        self.tickets.reserve_exact(more)?;
         Ok(())
     }
 
@@ -53,7 +59,7 @@ impl Purse {
         ensures ids { self.new.ids ≡ self.old.ids ++ ticket ∷ [] }
         ensures capacity { self.old.capacity ≤ self.new.capacity }
     {
-        match self.tickets.push(ticket) {
+        match self.tickets.push_back(ticket) {
             Ok(()) => (),
             Err(_) => unreachable!(),
         }
@@ -79,7 +85,7 @@ impl Purse {
         ensures none { IfNone result (self.new ≡ self.old) }
     {
         let place = self.place_of(id)?;
-        Some(self.tickets.remove(place))
+        self.tickets.remove(place)
     }
 
     // The place of the first ticket of this id.
@@ -91,7 +97,7 @@ impl Purse {
 
     /// Abandons every ticket, where the run halts.
     pub fn abandon(mut self) {
-        while let Some(ticket) = self.tickets.pop() {
+        while let Some(ticket) = self.tickets.pop_back() {
             ticket.abandon();
         }
         let Purse { tickets } = self;
