@@ -40,11 +40,7 @@ impl<'a> Thread<'a> {
     /// where there are still as many entries as there were: in a turn that did nothing else. A request is
     /// cut as it is accepted, aborted as the mark comes, and completes as its last piece comes back, so
     /// there is hardly ever one.
-    pub(crate) fn carry_all(
-        &mut self,
-        links: &mut Links,
-        entries: usize,
-    ) -> Result<(), OutOfMemory>
+    pub(crate) fn carry_all(&mut self, links: &mut Links, entries: usize) -> Result<(), OutOfMemory>
         requires { self.old.me < vec_len links.old.queues }
         ensures acted { OnOk result (Acted self.old links.old self.new links.new) }
         ensures tickets { OnOk result (KeepsTickets self.old → KeepsTickets self.new) }
