@@ -10,7 +10,10 @@ pub fn is_served(command: &Command) -> bool
     ensures { result ≡ is_served command.now }
 {
     match command {
-        Command::Malloc { .. } | Command::Passthru { .. } | Command::Split { .. } | Command::PassedOver => true,
+        Command::Malloc { .. }
+        | Command::Passthru { .. }
+        | Command::Split { .. }
+        | Command::PassedOver => true,
         _ => false,
     }
 }
