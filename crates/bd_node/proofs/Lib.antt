@@ -7,6 +7,9 @@ pub mod Resting
 pub mod Settling
 pub mod Lent
 pub mod Rounds
+pub mod Telling
+pub mod Waiting
+pub mod Dealing
 pub mod Starts
 pub mod Shut
 pub mod Marks

@@ -18,8 +18,8 @@ use Rattle.bd_wires.specs.declared.wires.Wires.{Wires}
 use Rattle.bd_node.specs.declared.node.Node.{Node}
 use Rattle.bd_node.specs.declared.node.NodeState.TheVariants.{Idle, Done, Busy}
 use Rattle.bd_node.specs.declared.seat.Seat.{Seat}
-use Rattle.bd_node.specs.Seats.{IsSeat, Sits}
-use Rattle.bd_node.specs.Shutting.{AreToLearn, IsShutAt, LearnsShut, Shuts}
+use Rattle.bd_node.specs.Seats.{entries_in, IsSeat, Sits}
+use Rattle.bd_node.specs.Shutting.{shutdown_by, AreToLearn, IsShutAt, LearnsShut, Shuts}
 use Rattle.bd_node.specs.Whole.{are_all_taken, is_at_rest, is_idle, is_over, seat_is_blocked, seat_rests, state_of, ArePhases, AreSeated, AreShut, IsIn, IsNode}
 use Rattle.bd_node.proofs.Places.{has_at, is_below, set_else, set_here}
 use Rattle.bd_node.proofs.Resting.{all_rest, all_taken, are_blocked, local_of, local_or, none_injected, views_of}
@@ -208,6 +208,16 @@ each_shuts w stamp seats news first first' at shuts same others zero s s' h h' =
     let new : first' ≡ s' = same_Some first' s' (sym (set_here seats 0 first' (is_below seats 0 first at)) ∙ sym same ∙ h') in
     subst (λ (x : Seat). Shuts w stamp x s') old (subst (λ (x : Seat). Shuts w stamp first x) new shuts)
 each_shuts w stamp seats news first first' at shuts same others (suc i) s s' h h' = others (suc i) s s' (omega arith) (set_else seats 0 (suc i) first' (λ e. omega arith) ∙ h) h' w
+
+-- what each did when the node was shut
+pub each_adds : (n : Node) (stamp : ℕ) (first first' : Seat) (shut news : List Seat) → IsNode n → slice_get n.seats.items 0 ≡ Some first → Shuts n.wires stamp first first'
+    → shut ≡ set n.seats.items 0 first' → slice_get news 0 ≡ slice_get shut 0
+    → ((i : ℕ) (s s' : Seat) → 0 < i → slice_get shut i ≡ Some s → slice_get news i ≡ Some s' → LearnsShut stamp s s')
+    → (i : ℕ) (s s' : Seat) → slice_get n.seats.items i ≡ Some s → slice_get news i ≡ Some s' → entries_in s' ≡ entries_in s ++ shutdown_by stamp i
+each_adds n stamp first first' shut news is at shuts shut-is same others i s s' h h' =
+    (each_shuts n.wires stamp n.seats.items news first first' at shuts (same ∙ ap (λ (ss : List Seat). slice_get ss 0) shut-is)
+    (λ j u u' positive k. others j u u' positive (ap (λ (ss : List Seat). slice_get ss j) shut-is ∙ k)) i s s' h h').entries
+    ∙ ap (λ (k : ℕ). entries_in s ++ shutdown_by stamp k) (is.seated.each i s h).sits.seat.worker.me
 
 -- the first seat of a node
 pub first_at : (n : Node) (a : Seat) → IsNode n → a ≡ slice_index_or n.seats.items 0 a → slice_get n.seats.items 0 ≡ Some a

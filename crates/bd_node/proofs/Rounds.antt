@@ -14,7 +14,7 @@ use Rattle.bd_node.specs.Seats.{AllWentOn, Continues, IsSitting}
 use Rattle.bd_node.specs.Whole.{seat_goes, AreSeated, IsIn}
 use Rattle.bd_node.proofs.Places.{all_at, has_at, set_else, set_here}
 
-no_halt : (o : Option SeatNo) → is_none o ≡ true → o ≡ None
+pub no_halt : (o : Option SeatNo) → is_none o ≡ true → o ≡ None
 no_halt None h = refl
 no_halt (Some x) h = cc
 
@@ -44,17 +44,3 @@ module _ (setup : Setup) (w : Wires) (seats : List Seat) (shut : Bool) (phases :
               let e : s' ≡ x = same_Some s' x (sym (set_here seats i s' (slice_get_within seats i s at)) ∙ ap (slice_get (set seats i s')) same ∙ h) in
               subst (λ (k : ℕ). IsIn setup w shut phases k x) same (subst (λ (y : Seat). IsIn setup w shut phases i y) e here)
           go (inr ne) = a.each j x (sym (set_else seats i j s' ne) ∙ h)
-
-  -- all had their turns, and none has to halt
-  pub all_turned : (seats' : List Seat) → length seats' ≡ length seats → AllWentOn w seats seats' → list_all seat_goes seats' ≡ true → AreSeated setup w seats' shut phases
-  all_turned seats' len on go = record {
-    some = a.some;
-    len = len ∙ a.len;
-    each = λ i x h.
-        let within : i < length seats = subst (λ (n : ℕ). i < n) len (slice_get_within seats' i x h) in
-        let old = has_at seats i within in
-        let goes : x.halted ≡ None = no_halt x.halted (all_at seat_goes seats' i x go h) in
-        let old-is : slice_index_or seats i x ≡ old.0 = get_or_from_slice_get seats i old.0 x old.1 in
-        let new-is : slice_index_or seats' i x ≡ x = get_or_from_slice_get seats' i x x h in
-        went i old.0 x old.1 (subst (λ (y : Seat). Continues w old.0 y) new-is (subst (λ (y : Seat). Continues w y (slice_index_or seats' i x)) old-is (on i x within (ap (λ (y : Seat). y.halted) new-is ∙ goes)))) goes;
-  }

@@ -30,11 +30,8 @@ use Rattle.bd_node.specs.declared.seat.Seat.{Seat}
 use Rattle.bd_node.specs.Seats.{IsSeat}
 use Rattle.bd_node.specs.declared.node.Node.{Node}
 use Rattle.bd_node.specs.declared.node.NodeState.TheVariants.{Busy, Done, Idle}
-use Rattle.bd_node.specs.Whole.{are_all_taken, is_at_rest, is_idle, is_over, seat_has_destructed, seat_rests, setup_in, state_of, ArePhases, AreSeated, AreShut, IsNode}
+use Rattle.bd_node.specs.Whole.{are_all_taken, is_at_rest, is_idle, is_over, log_in, seat_has_destructed, seat_rests, setup_in, state_of, ArePhases, AreSeated, AreShut, IsNode}
 use Rattle.bd_node.proofs.Resting.{are_destructed, are_spent, local_or, locals_of, seat_at}
-
-abbrev pub log_of : Seat → Written
-log_of s = s.worker.log
 
 abbrev pub passes_of : Seat → Passes
 passes_of s = s.passes
@@ -75,20 +72,20 @@ module _ (setup : Setup) (w : Wires) (seats : List Seat) (shut : Bool) (phases :
 
   -- ---- their logs
 
-  pub log_threads : (t : ℕ) (d : Part) → t < setup.threads → (get_or (map log_part (map log_of seats)) t d).thread ≡ t
+  pub log_threads : (t : ℕ) (d : Part) → t < setup.threads → (get_or (map log_part (map log_in seats)) t d).thread ≡ t
   log_threads t d lt =
       let u = seat_at setup w seats shut phases a t lt in
-      let at : slice_get (map log_part (map log_of seats)) t ≡ Some (log_part (log_of u.0)) = map_at log_part (map log_of seats) t (log_of u.0) (map_at log_of seats t u.0 u.1) in
-      ap (λ (p : Part). p.thread) (get_or_from_slice_get (map log_part (map log_of seats)) t (log_part (log_of u.0)) d at)
+      let at : slice_get (map log_part (map log_in seats)) t ≡ Some (log_part (log_in u.0)) = map_at log_part (map log_in seats) t (log_in u.0) (map_at log_in seats t u.0 u.1) in
+      ap (λ (p : Part). p.thread) (get_or_from_slice_get (map log_part (map log_in seats)) t (log_part (log_in u.0)) d at)
       ∙ (a.each t u.0 u.1).sits.seat.worker.log_thread
 
-  parts_many : length (map log_part (map log_of seats)) ≡ setup.threads
-  parts_many = length-map (map log_of seats) log_part ∙ length-map seats log_of ∙ a.len
+  parts_many : length (map log_part (map log_in seats)) ≡ setup.threads
+  parts_many = length-map (map log_in seats) log_part ∙ length-map seats log_in ∙ a.len
 
   -- no two logs are of one thread
-  pub logs_apart : AreOfDifferentThreads (map log_part (map log_of seats))
+  pub logs_apart : AreOfDifferentThreads (map log_part (map log_in seats))
   logs_apart i j d low lt same =
-      let many : length (map log_part (map log_of seats)) ≡ setup.threads = parts_many in
+      let many : length (map log_part (map log_in seats)) ≡ setup.threads = parts_many in
       let j-low : j < setup.threads = subst (λ (n : ℕ). j < n) many lt in
       let i-low : i < setup.threads = omega arith in
       let e : i ≡ j = sym (log_threads i d i-low) ∙ same ∙ log_threads j d j-low in
@@ -211,12 +208,12 @@ module _ (setup : Setup) (w : Wires) (seats : List Seat) (phases : ℕ → Phase
 
   -- ---- the merge
 
-  parts_are : ArePartsOf setup.threads logs_of (map log_part (map log_of seats))
+  parts_are : ArePartsOf setup.threads logs_of (map log_part (map log_in seats))
   parts_are = record {
     len = parts_many setup w seats true phases a;
     each = λ t d lt.
         let u = seat_of t lt in
-        get_or_from_slice_get (map log_part (map log_of seats)) t (log_part (log_of u.0)) d (map_at log_part (map log_of seats) t (log_of u.0) (map_at log_of seats t u.0 u.1))
+        get_or_from_slice_get (map log_part (map log_in seats)) t (log_part (log_in u.0)) d (map_at log_part (map log_in seats) t (log_in u.0) (map_at log_in seats t u.0 u.1))
         ∙ ap₂ (λ (n : ℕ) (es : List Entry). record { thread = n; entries = es }) (seat_is t u.0 u.1).worker.log_thread
         ((seat_is t u.0 u.1).worker.log_entries ∙ ap entries (sym (logs_are t lt)));
     none_else = none_else;
@@ -226,10 +223,10 @@ module _ (setup : Setup) (w : Wires) (seats : List Seat) (phases : ℕ → Phase
   pub done_complete : list_all seat_rests seats ≡ true → are_all_taken seats ≡ true → list_all seat_has_destructed seats ≡ true
       → wires.AreDelivered (map passes_of seats)
       → (r : Registered) → wires.HasJournalOf (map passes_of seats) r → IsOrdered r.journal → ((x : Setup) → HasRowsOf r x → IsReplayFromStart x r.journal)
-      → (merged : List Entry) → IsMerge (map log_part (map log_of seats)) merged → IsCompleteRun setup [] merged
+      → (merged : List Entry) → IsMerge (map log_part (map log_in seats)) merged → IsCompleteRun setup [] merged
   done_complete rest taken gone d r h ordered replay merged m =
       courses_are_complete_run setup sh.stamp sh.firsts sh.marks logs_of courses_of ends_of r.journal merged
-      (ended rest taken gone) (delivered d) (journal_of r h ordered replay) (merge_of_parts setup.threads logs_of (map log_part (map log_of seats)) merged parts_are m)
+      (ended rest taken gone) (delivered d) (journal_of r h ordered replay) (merge_of_parts setup.threads logs_of (map log_part (map log_in seats)) merged parts_are m)
 
 -- ---- a node, taken apart
 
@@ -248,12 +245,12 @@ passes_fit n h k passes many e =
     (passes_linked (setup_in n) n.wires n.seats.items n.shut h.phases h.seated)))
 
 -- the logs of all seats may be merged
-pub logs_fit : (n : Node) → IsNode n → (logs : List Written) → logs ≡ map log_of n.seats.items → AreOfDifferentThreads (map log_part logs)
+pub logs_fit : (n : Node) → IsNode n → (logs : List Written) → logs ≡ map log_in n.seats.items → AreOfDifferentThreads (map log_part logs)
 logs_fit n h logs e =
     subst (λ (ls : List Written). AreOfDifferentThreads (map log_part ls)) (sym e) (logs_apart (setup_in n) n.wires n.seats.items n.shut h.phases h.seated)
 
 -- and where the node is done, their merge is a complete run
-pub node_complete : (n : Node) → IsNode n → state_of n ≡ Done → (logs : List Written) (passes : List Passes) → logs ≡ map log_of n.seats.items → passes ≡ map passes_of n.seats.items
+pub node_complete : (n : Node) → IsNode n → state_of n ≡ Done → (logs : List Written) (passes : List Passes) → logs ≡ map log_in n.seats.items → passes ≡ map passes_of n.seats.items
     → wires.AreDelivered passes → (r : Registered) → wires.HasJournalOf passes r → IsOrdered r.journal → ((x : Setup) → HasRowsOf r x → IsReplayFromStart x r.journal)
     → (merged : List Entry) → IsMerge (map log_part logs) merged → IsCompleteRun (setup_in n) [] merged
 node_complete n h done logs passes logs-is passes-is d r j ordered replay merged m =

@@ -1,6 +1,6 @@
 -- How a worker and its seat are shut down: thread 0 puts the Shutdown into its log and into the registry's journal, and the others learn of it.
 use Rattle.std.proofs.Common.{◌≡◌, ◌≢◌, ℕ, ◌+◌, ◌<◌, ◌≤◌, Bool, true, false, cond, ◌==◌, List, [], ◌∷◌, ◌++◌, drop, length, set, Some, None, refl, sym}
-use Rattle.std.proofs.Common.{◌∙◌, ap, ap₂, subst, append-nil, ltb-false, ltb-true, nat_lt, ne_eqb, arith}
+use Rattle.std.proofs.Common.{◌∙◌, ap, ap₂, subst, append-nil, eq-eqb, ltb-false, ltb-true, nat_lt, ne_eqb, arith}
 use Rattle.std.specs.List.{slice_get}
 use Rattle.std.specs.Prelude.{max}
 use Rattle.std.proofs.Math.Seq.{drop-append_seam}
@@ -212,11 +212,15 @@ module _ (w : Wires) (s : Seat) (lent lent' : Registered) (pass slot : Holder) (
       }
 
   -- whoever sat there is thread 0
-  pub seat_shuts : (stamp above : ℕ) (worker : Worker) → s.worker.me ≡ 0 → ShutsWith s.seen above s.worker lent stamp worker lent' → Shuts w stamp s (seat_by s worker slot (length lent'.journal))
-  seat_shuts stamp above worker first shut = record {
+  pub seat_shuts : (stamp above : ℕ) (worker : Worker) → s.worker.me ≡ 0 → s.worker.log.thread ≡ 0 → ShutsWith s.seen above s.worker lent stamp worker lent' → Shuts w stamp s (seat_by s worker slot (length lent'.journal))
+  seat_shuts stamp above worker first thread shut = record {
     flag = shut.flag;
     halted = refl;
     later = shut.later;
+    entries =
+        shut.entries
+        ∙ ap (λ (n : ℕ). let e : Entry = record { stamp = stamp; thread = n; act = acts.Shutdown } in s.worker.log.entries ++ e ∷ []) thread
+        ∙ ap (λ b. s.worker.log.entries ++ cond b (shutdown_at stamp ∷ []) []) (sym (eq-eqb s.worker.me 0 first));
     sits = λ setup t p c q.
         let zero_is : t ≡ 0 = sym q.worker.me ∙ first in
         let q' : IsSeat setup 0 p c w s = subst (λ (n : ℕ). IsSeat setup n p c w s) zero_is q in
@@ -245,6 +249,7 @@ learns_shut stamp s other above w = record {
   flag = refl;
   halted = refl;
   later = above;
+  entries = sym (append-nil s.worker.log.entries) ∙ ap (λ b. s.worker.log.entries ++ cond b (shutdown_at stamp ∷ []) []) (sym (ne_eqb s.worker.me 0 other));
   sits = λ setup t p c q.
       let a : IsAt setup t p c s.worker = q.worker in
       let l : Local = local s.worker.thread s.worker.links in

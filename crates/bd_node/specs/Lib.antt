@@ -3,3 +3,4 @@ pub mod Seats
 pub mod Whole
 pub mod Starting
 pub mod Shutting
+pub mod Waits

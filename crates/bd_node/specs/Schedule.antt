@@ -1,5 +1,12 @@
 -- The schedule: which thread's turn comes next.
 use Rattle.std.specs.Prelude.{ℕ, zero, suc, ◌+◌, ◌*◌, ◌/◌, ◌%◌, ◌^◌}
+use Rattle.bd_node.specs.declared.run.Drive.{Drive}
+use Rattle.bd_node.specs.declared.run.Drive.TheVariants.{Schedule, Reactors}
+
+-- where the schedule of a run begins
+abbrev pub seed_by : Drive → ℕ
+seed_by (Schedule seed) = seed
+seed_by (Reactors count) = 0
 
 -- the next state: Knuth's linear congruential generator of 64 bits
 abbrev pub advance : ℕ → ℕ

@@ -1,5 +1,5 @@
 -- Seats: each thread of a node with what it has for itself and its passes, and when it is on its course.
-use Rattle.std.specs.Prelude.{◌≡◌, ℕ, ◌<◌, List, [], length, vec_len, slice_index_or, None}
+use Rattle.std.specs.Prelude.{◌≡◌, ℕ, ◌+◌, ◌<◌, Bool, true, false, List, [], length, vec_len, slice_index_or, Option, Some, None}
 use Rattle.bd_base.specs.declared.act.Entry.{Entry}
 use Rattle.bd_base.specs.declared.setup.Setup.{Setup}
 use Rattle.bd_log.specs.Merge.{entries_of}
@@ -8,6 +8,8 @@ use Rattle.bd_merged.specs.Rows.{entries}
 use Rattle.bd_ring.specs.SlotRule.{AddsOwn, StartsWith}
 use Rattle.bd_apart.specs.Course.{all_rows, Course, IsCourse, Phase}
 use Rattle.bd_thread.specs.Requests.{KeepsTickets}
+use Rattle.bd_thread.specs.declared.turn.Turned.{Turned}
+use Rattle.bd_thread.specs.declared.turn.Turned.TheVariants.{Moved, Quiet}
 use Rattle.bd_thread.specs.Seen.{local, number_of, setup_of}
 use Rattle.bd_wires.specs.declared.wires.Wires.{Wires}
 use Rattle.bd_wires.specs.Wires.{put_into, IsLinked}
@@ -55,6 +57,31 @@ pub record WentAlone (setup : Setup) (t : ℕ) (p : Phase) (c : Course) (new : W
 abbrev pub GoesAlone : Worker → Worker → Type 0
 GoesAlone old new = (new.links.shut ≡ old.links.shut) × ((setup : Setup) (t : ℕ) (p : Phase) (c : Course) → IsAt setup t p c old → WentAlone setup t p c new)
 
+-- ---- what an answer tells
+
+-- quiet where no entry was added, else how many were
+abbrev pub Tells : ℕ → ℕ → Turned → Type 0
+Tells before after Quiet = after ≡ before
+Tells before after (Moved n) = (0 < n) × (after ≡ before + n)
+
+-- without an answer none was
+abbrev pub TellsIfAny : ℕ → ℕ → Option Turned → Type 0
+TellsIfAny before after None = after ≡ before
+TellsIfAny before after (Some turned) = Tells before after turned
+
+-- true exactly where entries were added, and none was lost
+abbrev pub HasMoved : ℕ → ℕ → Bool → Type 0
+HasMoved before after true = before < after
+HasMoved before after false = after ≡ before
+
+abbrev pub has_moved : Turned → Bool
+has_moved Quiet = false
+has_moved (Moved n) = true
+
+-- how many entries a worker's log has
+abbrev pub made_in : Worker → ℕ
+made_in w = length w.log.entries
+
 -- ---- with the registry
 
 -- the registry that it is lent is the setup's, its journal begins with what the thread saw, and has no other row of the thread
@@ -88,6 +115,18 @@ GoesWith seen old lent new lent' =
 
 -- ---- a seat
 
+-- what its thread did
+abbrev pub entries_in : Seat → List Entry
+entries_in s = s.worker.log.entries
+
+-- how many entries that is
+abbrev pub made_by : Seat → ℕ
+made_by s = made_in s.worker
+
+-- it did nothing
+abbrev pub HasSameEntries : Seat → Seat → Type 0
+HasSameEntries old new = entries_in new ≡ entries_in old
+
 -- thread t of the setup sits with its passes for these wires, at this place of its course
 pub record IsSeat (setup : Setup) (t : ℕ) (p : Phase) (c : Course) (w : Wires) (s : Seat) : Type 0 where
   pub worker : IsAt setup t p c s.worker
@@ -103,6 +142,10 @@ pub record IsSeat (setup : Setup) (t : ℕ) (p : Phase) (c : Course) (w : Wires)
 pub record Sits (setup : Setup) (t : ℕ) (p : Phase) (w : Wires) (s : Seat) : Type 0 where
   pub course : Course
   pub seat : IsSeat setup t p course w s
+
+-- the number of the thread that it says it is
+abbrev pub number_in : Seat → ℕ
+number_in s = s.worker.me
 
 -- some thread sits, in some phase
 pub record IsSitting (w : Wires) (s : Seat) : Type 0 where

@@ -1,6 +1,9 @@
 -- How a seat is shut down.
-use Rattle.std.specs.Prelude.{◌≡◌, ◌≢◌, ℕ, ◌<◌, true, List, Some, slice_get}
+use Rattle.std.specs.Prelude.{◌≡◌, ◌≢◌, ℕ, ◌<◌, ◌==◌, true, cond, List, [], ◌∷◌, ◌++◌, Some, slice_get}
+use Rattle.bd_base.specs.declared.act.Act.TheVariants as acts
+use Rattle.bd_base.specs.declared.act.Entry.{Entry}
 use Rattle.bd_base.specs.declared.setup.Setup.{Setup}
+use Rattle.bd_machine.specs.Lines.{shutdown_at}
 use Rattle.bd_merged.specs.Rows.{Row}
 use Rattle.bd_registry.specs.State.{Registered, start_of}
 use Rattle.bd_ring.specs.SlotRule.{AddsOwn}
@@ -8,9 +11,10 @@ use Rattle.bd_apart.specs.Course.{all_rows, Course, Phase}
 use Rattle.bd_apart.specs.Steps.{second_phase}
 use Rattle.bd_thread.specs.Seen.{local}
 use Rattle.bd_wires.specs.declared.wires.Wires.{Wires}
+use Rattle.bd_node.specs.declared.node.Node.{Node}
 use Rattle.bd_node.specs.declared.seat.Seat.{Seat}
 use Rattle.bd_node.specs.declared.worker.Worker.{Worker}
-use Rattle.bd_node.specs.Seats.{HasSamePosts, IsAt, IsLent, IsSeat}
+use Rattle.bd_node.specs.Seats.{entries_in, HasSamePosts, IsAt, IsLent, IsSeat}
 
 -- ---- a worker
 
@@ -27,9 +31,14 @@ pub record ShutsWith (seen met : ℕ) (old : Worker) (lent : Registered) (stamp 
   pub flag : new.links.shut ≡ true
   pub above : met < stamp
   pub later : old.log.last < stamp
+  pub entries : new.log.entries ≡ old.log.entries ++ record { stamp = stamp; thread = old.log.thread; act = acts.Shutdown } ∷ []
   pub at : (setup : Setup) (p : Phase) (c : Course) → IsAt setup 0 p c old → IsLent setup 0 c seen lent → ShutWith setup p c stamp old lent new lent'
 
 -- ---- a seat
+
+-- what is new in the log of a thread when a Shutdown comes with this stamp: its entry, in that of thread 0
+abbrev pub shutdown_by : ℕ → ℕ → List Entry
+shutdown_by stamp t = cond (t == 0) (shutdown_at stamp ∷ []) []
 
 -- a Shutdown came with this stamp: whoever sat there, at some place of its course, sits there in the phase after it
 pub record IsShutAt (setup : Setup) (t : ℕ) (p : Phase) (c : Course) (stamp : ℕ) (w : Wires) (old new : Seat) : Type 0 where
@@ -40,6 +49,7 @@ pub record Shuts (w : Wires) (stamp : ℕ) (old new : Seat) : Type 0 where
   pub flag : new.worker.links.shut ≡ true
   pub halted : new.halted ≡ old.halted
   pub later : old.worker.log.last < stamp
+  pub entries : entries_in new ≡ entries_in old ++ shutdown_by stamp old.worker.me
   pub sits : (setup : Setup) (t : ℕ) (p : Phase) (c : Course) → IsSeat setup t p c w old → IsShutAt setup t p c stamp w old new
 
 -- so it is with any wires
@@ -49,3 +59,17 @@ LearnsShut stamp old new = (w : Wires) → Shuts w stamp old new
 -- each seat but the first is another thread's than 0, and has lower stamps
 abbrev pub AreToLearn : ℕ → List Seat → Type 0
 AreToLearn stamp seats = (i : ℕ) (s : Seat) → 0 < i → slice_get seats i ≡ Some s → (s.worker.me ≢ 0) × (s.worker.log.last < stamp)
+
+-- ---- a node
+
+-- each thread's log is as before, but that of thread 0 has the Shutdown more
+pub record AddsShutdown (old new : Node) : Type 0 where
+  pub stamp : ℕ
+  pub each : (t : ℕ) (a b : Seat) → slice_get old.seats.items t ≡ Some a → slice_get new.seats.items t ≡ Some b → entries_in b ≡ entries_in a ++ shutdown_by stamp t
+
+-- its seats, its wires, its schedule, and whether the Shutdown came
+pub record IsUnchanged (old new : Node) : Type 0 where
+  pub seats : new.seats.items ≡ old.seats.items
+  pub wires : new.wires ≡ old.wires
+  pub schedule : new.schedule ≡ old.schedule
+  pub shut : new.shut ≡ old.shut

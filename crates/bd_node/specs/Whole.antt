@@ -1,7 +1,9 @@
 -- A node: when all its seats are on their courses, and how far it is.
-use Rattle.std.specs.Prelude.{◌≡◌, ℕ, ◌<◌, ◌≤◌, ◌==◌, Bool, true, false, cond, ◌&&◌, List, [], length, slice_get, Option, Some, None, is_none, not}
+use Rattle.std.specs.Prelude.{◌≡◌, ℕ, ◌<◌, ◌≤◌, ◌==◌, Bool, true, false, cond, ◌&&◌, List, [], length, map, sum_by, slice_get, Option, Some, None, is_none, not}
 use Rattle.std.specs.List.{list_all}
 use Rattle.bd_base.specs.declared.setup.Setup.{Setup}
+use Rattle.bd_log.specs.Log.{log_part, Written}
+use Rattle.bd_log.specs.Merge.{Part}
 use Rattle.bd_machine.specs.Messages.{count_at}
 use Rattle.bd_machine.specs.View.{View}
 use Rattle.bd_merged.specs.Rows.{Row}
@@ -16,7 +18,7 @@ use Rattle.bd_node.specs.declared.node.Node.{Node}
 use Rattle.bd_node.specs.declared.node.NodeState.{NodeState}
 use Rattle.bd_node.specs.declared.node.NodeState.TheVariants.{Idle, Done, Busy}
 use Rattle.bd_node.specs.declared.seat.Seat.{Seat}
-use Rattle.bd_node.specs.Seats.{IsSitting, Sits}
+use Rattle.bd_node.specs.Seats.{made_by, IsSitting, Sits}
 
 -- ---- all seats
 
@@ -66,6 +68,10 @@ seat_has_stamps s = not (is_spent s.halted)
 abbrev pub halt_of : List Seat → SeatNo
 halt_of seats = cond (list_all seat_has_stamps seats) OutOfMemory StampsSpent
 
+-- whichever setup's threads sat at their places sit there still, where none has to halt
+abbrev pub StaySeated : Wires → List Seat → List Seat → Type 0
+StaySeated w old new = list_all seat_goes new ≡ true → (setup : Setup) (shut : Bool) (phases : ℕ → Phase) → AreSeated setup w old shut phases → AreSeated setup w new shut phases
+
 -- ---- how far it is
 
 abbrev pub seat_rests : Seat → Bool
@@ -100,6 +106,17 @@ abbrev pub state_of : Node → NodeState
 state_of n = cond n.shut (cond (is_over n) Done Busy) (cond (is_idle n) Idle Busy)
 
 -- ---- what a caller sees of a node
+
+-- the log of each thread, as a part of what happened
+abbrev pub log_in : Seat → Written
+log_in s = s.worker.log
+
+abbrev pub logs_of : Node → List Part
+logs_of n = map log_part (map log_in n.seats.items)
+
+-- how many entries all threads have made
+abbrev pub entries_made : Node → ℕ
+entries_made n = sum_by made_by n.seats.items
 
 -- the setup that it plays
 abbrev pub setup_in : Node → Setup

@@ -10,28 +10,11 @@ use bd_thread::{Links, Thread};
 use bd_wires::Passes;
 use std::alloc::Global;
 
-// A seat's tickets are abandoned; all else of it is dropped.
-fn abandon<'a>(seat: Seat<'a>) {
-    let Seat {
-        worker,
-        passes: _,
-        seen: _,
-        halted: _,
-    } = seat;
-    let Worker {
-        me: _,
-        thread,
-        links: _,
-        log: _,
-    } = worker;
-    thread.abandon();
-}
-
 /// Abandons the tickets of all seats.
 pub(crate) fn abandon_all<'a>(seats: Vec<Seat<'a>>) {
     let mut left = seats;
     while let Some(seat) = left.pop() {
-        abandon(seat);
+        seat.take_apart();
     }
     left.destroy_empty();
 }
@@ -81,7 +64,7 @@ pub(crate) fn seats_of<'a>(
             }
         };
         if let Err(failed) = seats.push(seat) {
-            abandon(failed.value);
+            failed.value.take_apart();
             abandon_all(seats);
             return Err(OutOfMemory);
         }

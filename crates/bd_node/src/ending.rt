@@ -97,27 +97,6 @@ pub(crate) fn learn_all<'a>(seats: &mut [Seat<'a>], stamp: u128)
     }
 }
 
-// A seat's log and passes; its tickets are abandoned.
-fn take_apart<'a>(seat: Seat<'a>) -> (Log, Passes)
-    ensures log { result.0 ≡ seat.entry.worker.log }
-    ensures passes { result.1 ≡ seat.entry.passes }
-{
-    let Seat {
-        worker,
-        passes,
-        seen: _,
-        halted: _,
-    } = seat;
-    let Worker {
-        me: _,
-        thread,
-        links: _,
-        log,
-    } = worker;
-    thread.abandon();
-    (log, passes)
-}
-
 /// The logs and the passes of all seats, in their order; their tickets are abandoned.
 pub(crate) fn take_all_apart<'a>(
     alloc: Global,
@@ -130,7 +109,7 @@ pub(crate) fn take_all_apart<'a>(
     let mut passes = Vec::new(alloc);
     let mut left = VecDeque::from(seats);
     while let Some(seat) = left.pop_front() {
-        let (log, own) = take_apart(seat);
+        let (log, own) = seat.take_apart();
         if logs.push(log).is_err() || passes.push(own).is_err() {
             abandon_all(left.into());
             return Err(OutOfMemory);

@@ -9,6 +9,7 @@ mod node;
 mod run;
 mod schedule;
 mod seat;
+mod sharing;
 #[cfg(test)]
 mod tests;
 mod turning;

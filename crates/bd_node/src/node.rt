@@ -1,16 +1,20 @@
 //! A node: the seats of all threads, and what they share.
-ghost use Rattle.std.specs.Prelude.{◌≡◌, ◌<◌, ◌≤◌, [], All, None, length, IfOk, OnOk};
+ghost use Rattle.std.specs.Prelude.{◌≡◌, ◌<◌, ◌≤◌, [], None, IfOk, MatchBool, OnOk};
 ghost use Rattle.std.specs.List.{list_all};
+ghost use Rattle.bd_log.specs.Merge.{IsMerge};
 ghost use Rattle.bd_machine.specs.Run.{IsCompleteRun};
 ghost use Rattle.bd_node.specs.Schedule.{advance, advance_by};
-ghost use Rattle.bd_node.specs.Seats.{AllWentOn, IsSitting};
-ghost use Rattle.bd_node.specs.Whole.{HasSameFlag, HasSameSetup, IsNode, are_all_taken, halt_of, has_taken, is_spent, is_at_rest, is_idle, is_over, seat_goes, seat_has_destructed, seat_has_stamps, seat_is_blocked, seat_rests, seed_of, setup_in, state_of};
+ghost use Rattle.bd_node.specs.Seats.{has_moved, HasMoved, Tells};
+ghost use Rattle.bd_node.specs.Shutting.{AddsShutdown, IsUnchanged};
+ghost use Rattle.bd_node.specs.Waits.{TurnsQuietly};
+ghost use Rattle.bd_node.specs.Whole.{HasSameFlag, HasSameSetup, IsNode, are_all_taken, entries_made, halt_of, has_taken, is_spent, is_at_rest, is_idle, is_over, logs_of, seat_goes, seat_has_destructed, seat_has_stamps, seat_is_blocked, seat_rests, seed_of, setup_in, state_of};
 
 use crate::building::{abandon_all, seats_of};
 use crate::ending::{greatest, learn_all, take_all_apart};
 use crate::history::History;
 use crate::schedule::Schedule;
 use crate::seat::Seat;
+use crate::sharing::{Deal, turn_all};
 use crate::turning::Watch;
 use bd_base::{OutOfMemory, Rows, Setup};
 use bd_log::merge;
@@ -21,7 +25,7 @@ use bd_thread::Turned;
 use bd_wires::{Wires, connect, disconnect};
 use std::alloc::Global;
 use std::sync::Wait;
-use std::thread::{self, Threads};
+use std::thread::Threads;
 
 /// How many turns a round by the schedule has.
 const TURNS: u32 = 256;
@@ -118,31 +122,17 @@ fn halt_of<'a>(seats: &[Seat<'a>]) -> SeatNo
     }
 }
 
+// Whether entries were added.
+fn has_moved(turned: Turned) -> bool
+    ensures { result ≡ has_moved turned }
+{
+    matches!(turned, Turned::Moved(_))
+}
+
 fn is_spent(halted: Option<SeatNo>) -> bool
     ensures { result ≡ is_spent halted }
 {
     matches!(halted, Some(SeatNo::StampsSpent))
-}
-
-// Each seat has its turns of a round, on as many system threads as there are reactors.
-fn turn_all<'a, R: Threads + Wait + Sync, G: Gate + Sync>(
-    rt: &R,
-    alloc: Global,
-    seats: &mut [Seat<'a>],
-    wires: &Wires,
-    watch: &Watch<G>,
-)
-    requires sits { All (IsSitting wires.now) seats.old }
-    ensures len { length seats.new ≡ length seats.old }
-    ensures each { AllWentOn wires.now seats.old seats.new }
-{
-    let reactors = watch.reactors(seats.len());
-    thread::for_each_mut(
-        rt,
-        seats,
-        reactors,
-        &|_, seat: &mut Seat| { seat.turns(rt, alloc, wires, watch) },
-    );
 }
 
 impl<'a> Node<'a> {
@@ -157,6 +147,7 @@ impl<'a> Node<'a> {
         ensures node { IfOk result IsNode }
         ensures setup { IfOk result (λ node. setup_in node ≡ setup.now) }
         ensures seed { IfOk result (λ node. seed_of node ≡ seed) }
+        ensures none { IfOk result (λ node. entries_made node ≡ 0) }
     {
         let registry = Registry::of(alloc, setup)?;
         let (wires, passes) = connect(rt, alloc, registry, setup.threads)?;
@@ -179,6 +170,8 @@ impl<'a> Node<'a> {
         ensures setup { OnOk result (HasSameSetup self.old self.new) }
         ensures flag { OnOk result (HasSameFlag self.old self.new) }
         ensures schedule { OnOk result (seed_of self.new ≡ seed_of self.old) }
+        ensures turned { IfOk result (Tells (entries_made self.old) (entries_made self.new)) }
+        ensures quiet { IfOk result (TurnsQuietly thread self.old self.new) }
         ensures none { (setup_in self.old).threads ≤ thread → OnOk result (self.new ≡ self.old) }
     {
         let place = thread as usize;
@@ -196,10 +189,11 @@ impl<'a> Node<'a> {
         ensures setup { OnOk result (HasSameSetup self.old self.new) }
         ensures flag { OnOk result (HasSameFlag self.old self.new) }
         ensures schedule { OnOk result (seed_of self.new ≡ advance (seed_of self.old)) }
+        ensures moved { IfOk result (HasMoved (entries_made self.old) (entries_made self.new)) }
     {
         let thread = self.schedule.next(self.setup.threads);
         let turned = self.turn_of(rt, thread)?;
-        Ok(turned != Turned::Quiet)
+        Ok(has_moved(turned))
     }
 
     /// 256 turns by the schedule, which goes on from call to call. True where some turn moved.
@@ -209,6 +203,7 @@ impl<'a> Node<'a> {
         ensures setup { OnOk result (HasSameSetup self.old self.new) }
         ensures flag { OnOk result (HasSameFlag self.old self.new) }
         ensures schedule { OnOk result (seed_of self.new ≡ advance_by 256 (seed_of self.old)) }
+        ensures moved { IfOk result (HasMoved (entries_made self.old) (entries_made self.new)) }
     {
         let mut moved = false;
         for _ in 0..TURNS {
@@ -218,9 +213,11 @@ impl<'a> Node<'a> {
         Ok(moved)
     }
 
-    /// A round: this number of reactors (from 1 on; else one) share the threads, each a run of neighbours, and
-    /// give each up to 256 turns, until one is quiet. Where there are more than one they run beside each other,
-    /// if the system has threads for them. Each passes the gate before a turn.
+    /// A round: this number of reactors (from 1 on; else one) share the threads by turns, of N reactors number r
+    /// has those whose number is r modulo N, and give each up to 256 turns, until one is quiet. No reactor has
+    /// more than (threads / reactors, rounded up): the last may have fewer, and some none. Where there are more
+    /// than one they run beside each other, if the system has threads for them. Each passes the gate before a
+    /// turn.
     pub fn round<R: Threads + Wait + Sync, G: Gate + Sync>(
         &mut self,
         rt: &R,
@@ -237,14 +234,14 @@ impl<'a> Node<'a> {
         let watch = Watch {
             gate,
             round: self.rounds,
-            threads: self.setup.threads.div_ceil(reactors.max(1)),
+            deal: Deal::of(self.setup.threads, reactors),
         };
         turn_all(
             rt,
             self.alloc,
-            self.seats.as_mut_slice(),
             &self.wires,
             &watch,
+            self.seats.as_mut_slice(),
         );
         if all_go(self.seats.as_slice()) {
             Ok(())
@@ -296,6 +293,7 @@ impl<'a> Node<'a> {
         ensures node { OnOk result (IsNode self.new) }
         ensures setup { OnOk result (HasSameSetup self.old self.new) }
         ensures shut { IfOk result (λ shut. self.new.shut ≡ shut) }
+        ensures logs { IfOk result (λ shut. MatchBool shut (AddsShutdown self.old self.new) (IsUnchanged self.old self.new)) }
     {
         let above = greatest(self.seats.as_slice());
         let first = &mut self.seats[0];
@@ -311,6 +309,7 @@ impl<'a> Node<'a> {
     pub fn settle<R: Wait>(self, rt: &R) -> Result<History, OutOfMemory>
         requires node { IsNode self }
         requires done { state_of self ≡ NodeState.Done }
+        ensures merged { IfOk result (λ history. IsMerge (logs_of self.entry) history) }
         ensures complete { IfOk result (λ history. IsCompleteRun (setup_in self.entry) [] history) }
     {
         let Node {

@@ -2,6 +2,7 @@
 ghost use Rattle.std.specs.Prelude.{◌≡◌, ◌<◌, [], true, IfOk, OnOk};
 ghost use Rattle.bd_machine.specs.Run.{IsCompleteRun};
 ghost use Rattle.bd_node.specs.declared.node.NodeState.TheVariants as states;
+ghost use Rattle.bd_node.specs.Schedule.{seed_by};
 ghost use Rattle.bd_node.specs.Whole.{HasSameSetup, IsNode, state_of};
 
 use crate::history::History;
@@ -22,30 +23,15 @@ pub enum Drive {
     Reactors(u32),
 }
 
-fn seed_of(drive: Drive) -> u64 {
-    match drive {
-        Drive::Schedule(seed) => seed,
-        Drive::Reactors(_) => 0,
-    }
-}
-
-// A round as the drive has it.
-fn round<'a, R: Threads + Wait + Sync, G: Gate + Sync>(
-    rt: &R,
-    node: &mut Node<'a>,
-    drive: Drive,
-    gate: &G,
-) -> Result<(), SeatNo>
-    requires { IsNode node.old }
-    ensures node { OnOk result (IsNode node.new) }
-    ensures setup { OnOk result (HasSameSetup node.old node.new) }
-{
-    match drive {
-        Drive::Schedule(_) => {
-            node.round_by(rt)?;
-            Ok(())
+impl Drive {
+    // Where the schedule of the turns begins; reactors need none.
+    fn seed(self) -> u64
+        ensures { result ≡ seed_by self }
+    {
+        match self {
+            Drive::Schedule(seed) => seed,
+            Drive::Reactors(_) => 0,
         }
-        Drive::Reactors(reactors) => node.round(rt, reactors, gate),
     }
 }
 
@@ -67,7 +53,12 @@ fn play_out<'a, R: Threads + Wait + Sync, G: Gate + Sync>(
             NodeState::Idle => {
                 node.shut(rt)?;
             }
-            NodeState::Busy => round(rt, node, drive, gate)?,
+            NodeState::Busy => match drive {
+                Drive::Schedule(_) => {
+                    node.round_by(rt)?;
+                }
+                Drive::Reactors(reactors) => node.round(rt, reactors, gate)?,
+            },
         }
     }
     unreachable!()
@@ -86,7 +77,7 @@ pub fn play<R: Threads + Wait + Sync, G: Gate + Sync>(
     requires { 0 < setup.now.threads }
     ensures { IfOk result (λ history. IsCompleteRun setup.now [] history) }
 {
-    let mut node = Node::build(rt, alloc, setup, seed_of(drive))?;
+    let mut node = Node::build(rt, alloc, setup, drive.seed())?;
     match play_out(rt, &mut node, drive, gate) {
         Ok(()) => node.settle(rt),
         Err(_) => {

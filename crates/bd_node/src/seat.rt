@@ -1,5 +1,8 @@
 //! A seat: a worker with its passes for the rings and the slot.
+ghost use Rattle.std.specs.Prelude.{◌≡◌};
+
 use crate::worker::Worker;
+use bd_log::Log;
 use bd_seat::SeatNo;
 use bd_wires::Passes;
 
@@ -11,4 +14,27 @@ pub(crate) struct Seat<'a> {
     pub seen: usize,
     /// Why it has to halt, if it has.
     pub halted: Option<SeatNo>,
+}
+
+impl<'a> Seat<'a> {
+    /// Its log and its passes; its tickets are abandoned, and all else is dropped.
+    pub fn take_apart(self) -> (Log, Passes)
+        ensures log { result.0 ≡ self.entry.worker.log }
+        ensures passes { result.1 ≡ self.entry.passes }
+    {
+        let Seat {
+            worker,
+            passes,
+            seen: _,
+            halted: _,
+        } = self;
+        let Worker {
+            me: _,
+            thread,
+            links: _,
+            log,
+        } = worker;
+        thread.abandon();
+        (log, passes)
+    }
 }

@@ -146,14 +146,14 @@ fn script(alloc: Global, role: &Role) -> Result<Script, OutOfMemory> {
     })
 }
 
-// Two threads with these scripts, over one device.
-fn setup_of(alloc: Global, scripts: Rows<Script>) -> Result<Setup, OutOfMemory>
-    ensures { IfOk result (λ setup. setup.threads ≡ 2) }
+// This number of threads, two at least, with these scripts, over one device.
+fn setup_of(alloc: Global, threads: u32, scripts: Rows<Script>) -> Result<Setup, OutOfMemory>
+    ensures { IfOk result (λ setup. 0 < setup.threads) }
 {
     let mut devices = Rows::new(alloc);
     devices.push(device(alloc)?)?;
     Ok(Setup {
-        threads: 2,
+        threads: threads.max(2),
         devices,
         rates: Rows::new(alloc),
         injections: Rows::new(alloc),
@@ -162,13 +162,14 @@ fn setup_of(alloc: Global, scripts: Rows<Script>) -> Result<Setup, OutOfMemory>
     })
 }
 
-fn two_writers(alloc: Global) -> Result<Setup, OutOfMemory>
-    ensures { IfOk result (λ setup. setup.threads ≡ 2) }
+// This number of threads, of which the first two write and read.
+fn two_writers(alloc: Global, threads: u32) -> Result<Setup, OutOfMemory>
+    ensures { IfOk result (λ setup. 0 < setup.threads) }
 {
     let mut scripts = Rows::new(alloc);
     scripts.push(script(alloc, &FIRST)?)?;
     scripts.push(script(alloc, &SECOND)?)?;
-    setup_of(alloc, scripts)
+    setup_of(alloc, threads, scripts)
 }
 
 // ---- what they did
@@ -251,7 +252,7 @@ fn history_by<R: Wait>(
 
 #[test]
 fn two_threads_write_and_read_in_any_order(rt: HostRuntime) -> Result<(), Fail> {
-    let setup = two_writers(rt.alloc())?;
+    let setup = two_writers(rt.alloc(), 2)?;
     for order in &ORDERS {
         let Some(history) = history_by(&rt, rt.alloc(), &setup, order)? else {
             return Err("not done")?;
@@ -263,7 +264,7 @@ fn two_threads_write_and_read_in_any_order(rt: HostRuntime) -> Result<(), Fail> 
 
 #[test]
 fn however_driven_they_come_to_the_end(rt: HostRuntime) -> Result<(), Fail> {
-    let setup = two_writers(rt.alloc())?;
+    let setup = two_writers(rt.alloc(), 2)?;
     for drive in &DRIVES {
         let history = play(&rt, rt.alloc(), &setup, *drive, &OpenGate)?;
         assert!(rt; are_both_done(history.entries()), "drive {drive:?}");
@@ -285,25 +286,26 @@ fn schedule_is_the_generators(rt: HostRuntime) {
 
 // ---- reactors beside each other
 
-// A gate at which the reactors 0 and 1 wait for each other before the first turn of the first round, for ten
-// seconds at most.
+// A gate at which all reactors wait for each other before their first turns of the first round, for ten seconds
+// at most.
 #[derive(Drop)]
 struct MeetGate<'a, R> {
     rt: &'a R,
-    // which of them came, a bit for each
+    // how many reactors there are, and how many of them came
+    reactors: u64,
     came: AtomicU64,
-    // how many of them saw both there
+    // how many of them saw all there
     met: AtomicU64,
 }
 
 impl<'a, R: Clock> Gate for MeetGate<'a, R> {
-    fn pass(&self, reactor: u32, round: u64, turn: u32) {
-        if round != 1 || turn != 1 || reactor > 1 {
+    fn pass(&self, _reactor: u32, round: u64, turn: u32) {
+        if round != 1 || turn != 1 {
             return;
         }
-        self.came.fetch_or(1 << reactor, Ordering::SeqCst);
+        self.came.fetch_add(1, Ordering::SeqCst);
         for _ in 0..10_000 {
-            if self.came.load(Ordering::SeqCst) == 3 {
+            if self.came.load(Ordering::SeqCst) == self.reactors {
                 self.met.fetch_add(1, Ordering::SeqCst);
                 return;
             }
@@ -312,18 +314,26 @@ impl<'a, R: Clock> Gate for MeetGate<'a, R> {
     }
 }
 
-// On one thread of the system the first would go on before the second came.
+// Numbers of threads, of reactors that are asked for, and of those that have threads.
+const CREWS: [(u32, u32, u64); 5] = [(2, 2, 2), (4, 2, 2), (5, 4, 3), (7, 3, 3), (2, 8, 2)];
+
+// The first turns of reactors are of the threads 0, 1 and on. Where one thread of the system had two of these,
+// the second would wait until the first had gone on, which waits for the second.
 #[test]
 fn reactors_meet(rt: HostRuntime) -> Result<(), Fail> {
-    let setup = two_writers(rt.alloc())?;
-    let gate = MeetGate {
-        rt: &rt,
-        came: AtomicU64::new(0),
-        met: AtomicU64::new(0),
-    };
-    let history = play(&rt, rt.alloc(), &setup, Drive::Reactors(2), &gate)?;
-    assert_eq!(rt; gate.met.load(Ordering::SeqCst), 2);
-    assert!(rt; are_both_done(history.entries()));
+    for (threads, asked, reactors) in &CREWS {
+        let setup = two_writers(rt.alloc(), *threads)?;
+        let gate = MeetGate {
+            rt: &rt,
+            reactors: *reactors,
+            came: AtomicU64::new(0),
+            met: AtomicU64::new(0),
+        };
+        let history = play(&rt, rt.alloc(), &setup, Drive::Reactors(*asked), &gate)?;
+        let met = gate.met.load(Ordering::SeqCst);
+        assert_eq!(rt; met, *reactors, "{asked} reactors, {threads} threads");
+        assert!(rt; are_both_done(history.entries()));
+    }
     Ok(())
 }
 
@@ -331,7 +341,7 @@ fn reactors_meet(rt: HostRuntime) -> Result<(), Fail> {
 
 // Thread 1 posts a mark in each of `count` lines.
 fn posts(alloc: Global, count: u32) -> Result<Setup, OutOfMemory>
-    ensures { IfOk result (λ setup. setup.threads ≡ 2) }
+    ensures { IfOk result (λ setup. 0 < setup.threads) }
 {
     let mut lines = Rows::new(alloc);
     for number in 0..count {
@@ -340,7 +350,7 @@ fn posts(alloc: Global, count: u32) -> Result<Setup, OutOfMemory>
     }
     let mut scripts = Rows::new(alloc);
     scripts.push(Script { thread: 1, lines })?;
-    setup_of(alloc, scripts)
+    setup_of(alloc, 2, scripts)
 }
 
 // A turn of the thread: what it answers, and how many messages thread 1 then put to thread 0 in all.
@@ -391,7 +401,7 @@ fn what_is_to_be_put_waits_for_room(rt: HostRuntime) -> Result<(), Fail> {
 
 // Thread 1 opens the device, whose home is thread 0, and reads a block in each of `count` lines.
 fn readers(alloc: Global, count: u32) -> Result<Setup, OutOfMemory>
-    ensures { IfOk result (λ setup. setup.threads ≡ 2) }
+    ensures { IfOk result (λ setup. 0 < setup.threads) }
 {
     let mut lines = Rows::new(alloc);
     let job = open(alloc, "a")?;
@@ -402,7 +412,7 @@ fn readers(alloc: Global, count: u32) -> Result<Setup, OutOfMemory>
     }
     let mut scripts = Rows::new(alloc);
     scripts.push(Script { thread: 1, lines })?;
-    setup_of(alloc, scripts)
+    setup_of(alloc, 2, scripts)
 }
 
 // How many requests were accepted.

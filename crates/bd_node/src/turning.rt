@@ -1,8 +1,10 @@
 //! A seat's turns.
-ghost use Rattle.std.specs.Prelude.{◌≡◌, ◌<◌, OnOk};
-ghost use Rattle.bd_node.specs.Seats.{Continues, IsSitting, IsWorking, KeepsOn, WentOn};
+ghost use Rattle.std.specs.Prelude.{IfOk, OnOk};
+ghost use Rattle.bd_node.specs.Seats.{made_by, Continues, HasSameEntries, IsSitting, IsWorking, KeepsOn, Tells, TellsIfAny, WentOn};
+ghost use Rattle.bd_node.specs.Waits.{Idles, IdlesAlone, IdlesIfLent, QuietTurns, Receives, Sends};
 
 use crate::seat::Seat;
+use crate::sharing::Deal;
 use bd_outside::Gate;
 use bd_seat::{SeatNo, fetch, flush_all};
 use bd_thread::Turned;
@@ -13,28 +15,20 @@ use std::sync::Wait;
 /// How many turns a seat has in a round, at most.
 const TURNS: u32 = 256;
 
-/// The gate that reactors pass, in one round: each has a run of neighbouring threads of this length.
+/// The gate that reactors pass, in one round, and how the threads were dealt to them.
 #[derive(Drop)]
 pub(crate) struct Watch<'g, G> {
     pub gate: &'g G,
     pub round: u64,
-    pub threads: u32,
+    pub deal: Deal,
 }
 
 impl<'g, G: Gate> Watch<'g, G> {
-    /// How many reactors share this number of threads, at least one.
-    pub fn reactors(&self, threads: usize) -> usize
-        ensures { 0 < result }
-    {
-        threads.div_ceil((self.threads as usize).max(1)).max(1)
-    }
-
     // The reactor of a thread passes before this turn of it, from 0 on.
     fn pass(&self, thread: u32, turn: u32) {
-        let each = self.threads.max(1);
-        let turns = (thread % each).saturating_mul(TURNS).saturating_add(turn);
-        self.gate
-            .pass(thread / each, self.round, turns.saturating_add(1));
+        let (reactor, before) = self.deal.place(thread);
+        let turns = before.saturating_mul(TURNS).saturating_add(turn);
+        self.gate.pass(reactor, self.round, turns.saturating_add(1));
     }
 }
 
@@ -42,7 +36,9 @@ impl<'a> Seat<'a> {
     // Posts of its ring come into its queue.
     fn receive<W: Wait>(&mut self, rt: &W, wires: &Wires) -> Result<(), SeatNo>
         requires { IsSitting wires.now self.old }
-        ensures { OnOk result (Continues wires.now self.old self.new) }
+        ensures goes { OnOk result (Continues wires.now self.old self.new) }
+        ensures entries { OnOk result (HasSameEntries self.old self.new) }
+        ensures came { OnOk result (Receives self.old self.new) }
     {
         let me = self.worker.me;
         let worker = &mut self.worker;
@@ -60,7 +56,9 @@ impl<'a> Seat<'a> {
     // What is in its queues to others goes into their rings.
     fn send<W: Wait>(&mut self, rt: &W, wires: &Wires) -> Result<(), SeatNo>
         requires { IsSitting wires.now self.old }
-        ensures { OnOk result (Continues wires.now self.old self.new) }
+        ensures goes { OnOk result (Continues wires.now self.old self.new) }
+        ensures entries { OnOk result (HasSameEntries self.old self.new) }
+        ensures went { OnOk result (Sends self.old self.new) }
     {
         let me = self.worker.me;
         let worker = &mut self.worker;
@@ -83,7 +81,9 @@ impl<'a> Seat<'a> {
         wires: &Wires,
     ) -> Result<Option<Turned>, SeatNo>
         requires { IsSitting wires.now self.old }
-        ensures { OnOk result (Continues wires.now self.old self.new) }
+        ensures goes { OnOk result (Continues wires.now self.old self.new) }
+        ensures turned { IfOk result (TellsIfAny (made_by self.old) (made_by self.new)) }
+        ensures quiet { IfOk result (IdlesIfLent self.old self.new) }
     {
         let Some(mut lent) = wires.slot.try_take(rt, &mut self.passes.slot) else {
             return Ok(None);
@@ -97,7 +97,9 @@ impl<'a> Seat<'a> {
     // A turn without the registry.
     fn work(&mut self, alloc: Global) -> Result<Turned, SeatNo>
         requires { IsWorking self.old.worker }
-        ensures { OnOk result (KeepsOn self.old self.new) }
+        ensures goes { OnOk result (KeepsOn self.old self.new) }
+        ensures turned { IfOk result (Tells (made_by self.old) (made_by self.new)) }
+        ensures quiet { IfOk result (IdlesAlone self.old.worker self.new.worker) }
     {
         self.worker.work(alloc)
     }
@@ -105,7 +107,9 @@ impl<'a> Seat<'a> {
     // A turn with the registry, where the thread wants it and it is in its slot; else one without.
     fn act<W: Wait>(&mut self, rt: &W, alloc: Global, wires: &Wires) -> Result<Turned, SeatNo>
         requires { IsSitting wires.now self.old }
-        ensures { OnOk result (Continues wires.now self.old self.new) }
+        ensures goes { OnOk result (Continues wires.now self.old self.new) }
+        ensures turned { IfOk result (Tells (made_by self.old) (made_by self.new)) }
+        ensures quiet { IfOk result (Idles self.old self.new) }
     {
         if !self.worker.wants_registry() {
             return self.work(alloc);
@@ -119,7 +123,9 @@ impl<'a> Seat<'a> {
     /// A turn: what came in its ring, what the thread does, and what it put to others.
     pub fn turn<W: Wait>(&mut self, rt: &W, alloc: Global, wires: &Wires) -> Result<Turned, SeatNo>
         requires { IsSitting wires.now self.old }
-        ensures { OnOk result (Continues wires.now self.old self.new) }
+        ensures goes { OnOk result (Continues wires.now self.old self.new) }
+        ensures turned { IfOk result (Tells (made_by self.old) (made_by self.new)) }
+        ensures quiet { IfOk result (QuietTurns self.old self.new) }
     {
         self.receive(rt, wires)?;
         let turned = self.act(rt, alloc, wires)?;

@@ -1,7 +1,8 @@
 //! What a worker does in a turn.
-ghost use Rattle.std.specs.Prelude.{◌≡◌, [], OnOk};
+ghost use Rattle.std.specs.Prelude.{◌≡◌, [], IfOk, OnOk};
 ghost use Rattle.bd_thread.specs.Work.{wants_registry};
-ghost use Rattle.bd_node.specs.Seats.{GoesAlone, GoesWith, IsLentTo, IsWorking};
+ghost use Rattle.bd_node.specs.Seats.{made_in, GoesAlone, GoesWith, IsLentTo, IsWorking, Tells};
+ghost use Rattle.bd_node.specs.Waits.{IdlesAlone, IdlesWith};
 
 use crate::worker::Worker;
 use bd_base::{Entry, Rows};
@@ -30,7 +31,9 @@ impl<'a> Worker<'a> {
     /// A turn that asks the registry for nothing. What it did is in the log.
     pub fn work(&mut self, alloc: Global) -> Result<Turned, SeatNo>
         requires { IsWorking self.old }
-        ensures { OnOk result (GoesAlone self.old self.new) }
+        ensures goes { OnOk result (GoesAlone self.old self.new) }
+        ensures turned { IfOk result (Tells (made_in self.old) (made_in self.new)) }
+        ensures quiet { IfOk result (IdlesAlone self.old self.new) }
     {
         let turned = self.thread.work(&mut self.links)?;
         let entries = self.take_entries(alloc);
@@ -47,7 +50,9 @@ impl<'a> Worker<'a> {
         seen: usize,
     ) -> Result<Turned, SeatNo>
         requires { IsLentTo self.old seen lent.old }
-        ensures { OnOk result (GoesWith seen self.old lent.old self.new lent.new) }
+        ensures goes { OnOk result (GoesWith seen self.old lent.old self.new lent.new) }
+        ensures turned { IfOk result (Tells (made_in self.old) (made_in self.new)) }
+        ensures quiet { IfOk result (IdlesWith lent.old self.old self.new) }
     {
         self.log.meet(lent.last_stamp());
         let _rows = lent.journal();

@@ -1,9 +1,10 @@
-use Rattle.std.proofs.Common.{refl, subst, ap}
+use Rattle.std.proofs.Common.{refl, subst, sym, ap, ◌∙◌}
 use Rattle.bd_base.specs.declared.journal.Start.{Start}
 use Rattle.bd_registry.specs.State.{Registered, start_of}
 use Rattle.bd_apart.specs.Steps.{first_phase}
 use Rattle.bd_wires.specs.Wires.{AreNew}
 use Rattle.bd_node.proofs.Starts.{seated_at_start}
+use Rattle.bd_node.proofs.Telling.{new_made_none}
 use Rattle.bd_node.proofs.node.Node.build.Goals as goal
 
 pub returns-clause-node : goal.returns-clause-node
@@ -18,3 +19,7 @@ returns-clause-node g c =
           (subst (λ (s : Start). AreNew setup.threads s wires passes) (ap (λ (r : Registered). start_of r.setup) c.in_ok-registry.ensures) c.in_ok-wires.ensures.new) c.in_ok-seats.ensures.each;
       phases_are = λ t. refl;
     }
+
+pub returns-clause-none : goal.returns-clause-none
+returns-clause-none g c =
+    new_made_none c.args.setup.now c.in_ok-wires.passes.items c.in_ok-seats.seats.items (c.in_ok-seats.ensures.len ∙ sym c.in_ok-wires.ensures.new.len) c.in_ok-seats.ensures.each

@@ -3,9 +3,9 @@ use Rattle.std.specs.List.{list_all}
 use Rattle.std.specs.Vec.{with_items}
 use Rattle.std.proofs.lemmas.List.{with_items_is}
 use Rattle.bd_node.specs.declared.seat.Seat.{Seat}
-use Rattle.bd_node.specs.Seats.{AllWentOn, IsSitting}
-use Rattle.bd_node.specs.Whole.{seat_goes, AreSeated}
-use Rattle.bd_node.proofs.Rounds.{all_sit, all_turned}
+use Rattle.bd_node.specs.Seats.{IsSitting}
+use Rattle.bd_node.specs.Whole.{seat_goes, AreSeated, StaySeated}
+use Rattle.bd_node.proofs.Rounds.{all_sit}
 use Rattle.bd_node.proofs.node.Node.round.Goals as goal
 
 pub turn_all-requires-clause-sits : goal.turn_all-requires-clause-sits
@@ -20,12 +20,12 @@ returns-then-all_go-clause-node g c =
     let many : vec_len o.seats ≡ length o.seats.items = search rules in
     let same : length news ≡ length o.seats.items = c.turn_all.ensures.len ∙ ap (λ (ss : List Seat). length ss) c.as_mut_slice.ensures.value in
     let items-are : (with_items o.seats news).items ≡ news = with_items_is o.seats news (same ∙ sym many) in
-    let on : AllWentOn o.wires o.seats.items news = subst (λ (ss : List Seat). AllWentOn o.wires ss news) c.as_mut_slice.ensures.value c.turn_all.ensures.each in
     let go : list_all seat_goes news ≡ true =
     ap (list_all seat_goes) (sym (c.as_slice.ensures.value ∙ items-are)) ∙ sym c.all_go.ensures ∙ c.if-all_go.true in
+    let stay : StaySeated o.wires o.seats.items news = subst (λ (ss : List Seat). StaySeated o.wires ss news) c.as_mut_slice.ensures.value c.turn_all.ensures.seats in
     record {
       phases = c.requires.phases;
       seated = subst (λ (ss : List Seat). AreSeated o.setup.now o.wires ss o.shut c.requires.phases) (sym items-are)
-          (all_turned o.setup.now o.wires o.seats.items o.shut c.requires.phases c.requires.seated news same on go);
+          (stay go o.setup.now o.shut c.requires.phases c.requires.seated);
       phases_are = c.requires.phases_are;
     }

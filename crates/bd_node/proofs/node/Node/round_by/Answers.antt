@@ -1,18 +1,33 @@
-use Rattle.std.proofs.Common.{refl, ◌∙◌, ap}
+use Rattle.std.proofs.Common.{Bool, true, false, refl, sym, ◌∙◌, ap, subst}
 use Rattle.bd_node.specs.Schedule.{advance}
+use Rattle.bd_node.specs.Seats.{HasMoved}
+use Rattle.bd_node.specs.Whole.{entries_made}
 use Rattle.bd_node.proofs.Advancing.{advance_next, advance_none}
+use Rattle.bd_node.proofs.Telling.{moved_more}
 use Rattle.bd_node.proofs.node.Node.round_by.Goals as goal
+use Rattle.bd_node.proofs.node.Node.round_by.Goals.{then-moved, else-moved}
 
 pub loop-init : goal.loop-init
-loop-init g c = record { node = c.requires; setup = refl; flag = refl; schedule = advance_none c.args.self.now.schedule.state }
+loop-init g c = record { node = c.requires; setup = refl; flag = refl; moved = refl; schedule = advance_none c.args.self.now.schedule.state }
 
 pub loop-preserved : goal.loop-preserved
 loop-preserved g c =
     let i = c.loop.invariant in
+    let first = entries_made c.args.self.now in
+    let before = entries_made c.loop.self in
+    let after = entries_made c.next_turn.new.self in
     record {
       node = c.in_ok-turned.ensures.node;
       setup = c.in_ok-turned.ensures.setup ∙ i.setup;
       flag = c.in_ok-turned.ensures.flag ∙ i.flag;
+      moved = elim c.if-moved.branch [
+        | then-moved w ↦
+            subst (λ (b : Bool). HasMoved first after b) (sym (w.moved-is ∙ w.if-moved.true))
+            (moved_more first before after true c.in_ok-turned.turned (subst (λ (b : Bool). HasMoved first before b) w.if-moved.true i.moved) c.in_ok-turned.ensures.moved)
+        | else-moved w ↦
+            subst (λ (b : Bool). HasMoved first after b) (sym w.moved-is)
+            (moved_more first before after false c.in_ok-turned.turned (subst (λ (b : Bool). HasMoved first before b) w.if-moved.false i.moved) c.in_ok-turned.ensures.moved)
+      ];
       schedule =
           c.in_ok-turned.ensures.schedule
           ∙ ap advance i.schedule

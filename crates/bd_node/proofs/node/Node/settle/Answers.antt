@@ -1,8 +1,10 @@
 -- The passes may be ended, the logs may be merged, and the merge is a complete run.
-use Rattle.std.proofs.Common.{◌≡◌, List, [], length, vec_len, sym, ◌∙◌, subst, arith}
+use Rattle.std.proofs.Common.{◌≡◌, List, [], length, map, vec_len, sym, ◌∙◌, subst, arith}
 use Rattle.bd_base.specs.declared.act.Entry.{Entry}
+use Rattle.bd_log.specs.Log.{log_part, Written}
+use Rattle.bd_log.specs.Merge.{IsMerge}
 use Rattle.bd_machine.specs.Run.{IsCompleteRun}
-use Rattle.bd_node.specs.Whole.{setup_in}
+use Rattle.bd_node.specs.Whole.{logs_of, setup_in}
 use Rattle.bd_node.proofs.Settling.{logs_fit, node_complete, passes_fit}
 use Rattle.bd_node.proofs.node.Node.settle.Goals as goal
 
@@ -16,6 +18,9 @@ merge-requires g c = logs_fit c.args.self c.requires.node c.in_ok-logs.logs.item
 
 pub returns : goal.returns
 returns g c = record {
+  merged =
+      subst (λ (es : List Entry). IsMerge (logs_of c.args.self) es) (sym (c.of.ensures ∙ c.from_vec.ensures))
+      (subst (λ (ls : List Written). IsMerge (map log_part ls) c.in_ok-merged.merged.items) c.in_ok-logs.ensures.logs c.in_ok-merged.ensures);
   complete =
       subst (λ (es : List Entry). IsCompleteRun (setup_in c.args.self) [] es) (sym (c.of.ensures ∙ c.from_vec.ensures))
       (node_complete c.args.self c.requires.node c.requires.done c.in_ok-logs.logs.items c.in_ok-logs.passes.items c.in_ok-logs.ensures.logs c.in_ok-logs.ensures.passes

@@ -1,11 +1,12 @@
-use Rattle.std.proofs.Common.{◌≡◌, ◌<◌, ◌≤◌, ℕ, true, All, List, Option, length, length-set, vec_len, subst, sym, ◌∙◌, ap, rules}
+use Rattle.std.proofs.Common.{◌≡◌, ◌<◌, ◌≤◌, ℕ, true, All, List, Option, length, length-set, refl, set, vec_len, subst, sym, ◌∙◌, ap, rules}
+use Rattle.std.specs.List.{slice_get}
 use Rattle.std.specs.Option.{MatchOption}
 use Rattle.std.specs.Vec.{with_item}
-use Rattle.std.proofs.lemmas.List.{with_items_is}
+use Rattle.std.proofs.lemmas.List.{set-get_or, with_items_is}
 use Rattle.bd_node.specs.declared.seat.Seat.{Seat}
 use Rattle.bd_node.specs.Shutting.{AreToLearn, Shuts}
 use Rattle.bd_node.specs.Whole.{AreSeated}
-use Rattle.bd_node.proofs.Marks.{first_at, node_shuts, others_learn, AreAllShut}
+use Rattle.bd_node.proofs.Marks.{each_adds, first_at, node_shuts, others_learn, AreAllShut}
 use Rattle.bd_node.proofs.node.Node.shut.Goals as goal
 
 pub shut-requires-clause-sits : goal.shut-requires-clause-sits
@@ -50,4 +51,33 @@ returns-clause-node g c =
       phases = all.phases;
       seated = subst (λ (ss : List Seat). AreSeated o.setup.now o.wires ss true all.phases) (sym (with_items_is v news len)) all.seated;
       phases_are = all.phases_are;
+    }
+
+pub returns-clause-logs : goal.returns-clause-logs
+returns-clause-logs g c =
+    let o = c.args.self.now in
+    let a = c.index_mut-first.result.now in
+    let news = c.learn_all.new.seats in
+    let shut = subst (λ (s : Option ℕ). MatchOption s (c.shut.new.self ≡ a) (λ k. (c.greatest-above.result < k) × Shuts o.wires k a c.shut.new.self)) c.in-Some.is c.in_ok-stamp.ensures.shut in
+    let v = with_item o.seats 0 c.shut.new.self in
+    let many : vec_len o.seats ≡ length o.seats.items = search rules in
+    let len : length news ≡ vec_len o.seats =
+    c.learn_all.ensures.len ∙ ap (λ (ss : List Seat). length ss) c.as_mut_slice.ensures.value ∙ length-set o.seats.items 0 c.shut.new.self ∙ sym many in
+    record {
+      stamp = c.in-Some.stamp;
+      each = λ t s s' h k. each_adds o c.in-Some.stamp a c.shut.new.self c.as_mut_slice.result.now news c.requires.node (first_at o a c.requires.node c.index_mut-first.ensures.value) shut.1
+          c.as_mut_slice.ensures.value c.learn_all.ensures.first c.learn_all.ensures.others t s s' h (ap (λ (ss : List Seat). slice_get ss t) (sym (with_items_is v news len)) ∙ k);
+    }
+
+pub returns-in_default-clause-logs : goal.returns-in_default-clause-logs
+returns-in_default-clause-logs g c =
+    let o = c.args.self.now in
+    let a = c.index_mut-first.result.now in
+    let same : c.shut.new.self ≡ a =
+    subst (λ (s : Option ℕ). MatchOption s (c.shut.new.self ≡ a) (λ k. (c.greatest-above.result < k) × Shuts o.wires k a c.shut.new.self)) c.in_default.is c.in_ok-stamp.ensures.shut in
+    record {
+      seats = ap (λ (s : Seat). set o.seats.items 0 s) (same ∙ c.index_mut-first.ensures.value) ∙ set-get_or o.seats.items 0 a;
+      wires = refl;
+      schedule = refl;
+      shut = refl;
     }

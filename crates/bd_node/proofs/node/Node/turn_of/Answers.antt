@@ -1,8 +1,10 @@
 use Rattle.std.proofs.Common.{◌≡◌, ◌<◌, length, Some, refl, rules}
 use Rattle.std.specs.List.{slice_get}
 use Rattle.std.proofs.lemmas.Option.{slice_get_read}
-use Rattle.std.proofs.lemmas.Result.{on_ok_weaker}
+use Rattle.std.proofs.lemmas.Result.{on_ok_weaker, IfOk-weaker}
 use Rattle.bd_node.proofs.Rounds.{one_sits, one_turned}
+use Rattle.bd_node.proofs.Telling.{tells_among}
+use Rattle.bd_node.proofs.Waiting.{turns_at}
 use Rattle.bd_node.proofs.node.Node.turn_of.Goals as goal
 
 pub turn-requires : goal.turn-requires
@@ -23,4 +25,20 @@ returns-clause-node g c =
       phases = c.requires.phases;
       seated = one_turned o.setup.now o.wires o.seats.items o.shut c.requires.phases c.requires.seated c.args.thread a c.turn.new.self at on;
       phases_are = c.requires.phases_are;
-    }) c.turn.ensures
+    }) c.turn.ensures.goes
+
+pub returns-clause-turned : goal.returns-clause-turned
+returns-clause-turned g c =
+    let o = c.args.self.now in
+    let a = c.index_mut-seat.result.now in
+    let lt : c.args.thread < length o.seats.items = search rules in
+    let at : slice_get o.seats.items c.args.thread ≡ Some a = slice_get_read o.seats.items (length o.seats.items) c.args.thread a refl lt c.index_mut-seat.ensures.value in
+    IfOk-weaker c.turn.result _ _ (λ turned told. tells_among o.seats.items c.args.thread a c.turn.new.self turned at told) c.turn.ensures.turned
+
+pub returns-clause-quiet : goal.returns-clause-quiet
+returns-clause-quiet g c =
+    let o = c.args.self.now in
+    let a = c.index_mut-seat.result.now in
+    let lt : c.args.thread < length o.seats.items = search rules in
+    let at : slice_get o.seats.items c.args.thread ≡ Some a = slice_get_read o.seats.items (length o.seats.items) c.args.thread a refl lt c.index_mut-seat.ensures.value in
+    IfOk-weaker c.turn.result _ _ (λ turned q. turns_at o.seats.items c.args.thread a c.turn.new.self turned at q) c.turn.ensures.quiet

@@ -5,12 +5,15 @@ use Rattle.bd_node.specs.Seats.{Continues}
 use Rattle.bd_node.proofs.Borrowing.{borrowed_continues}
 use Rattle.bd_node.proofs.seat.Seat.borrow.Goals as goal
 
-pub returns : goal.returns
-returns g c =
+pub returns-clause-goes : goal.returns-clause-goes
+returns-clause-goes g c =
     let s = c.args.self.now in
     let w = c.args.wires.now in
     let worker = c.work_with.new.self in
     let lent = c.work_with.new.lent in
     subst (λ (es : List Entry). Continues w s (record s { worker = worker; passes = record s.passes { slot = c.give.new.pass }; seen = length es })) (sym c.journal.ensures.rows)
     (subst (λ (h : Holder). Continues w s (record s { worker = worker; passes = record s.passes { slot = h }; seen = length lent.journal })) (sym c.give.ensures)
-    (borrowed_continues w s worker c.in-Some.lent lent c.try_take.new.pass c.in-Some.ensures.take c.in_ok-turned.ensures))
+    (borrowed_continues w s worker c.in-Some.lent lent c.try_take.new.pass c.in-Some.ensures.take c.in_ok-turned.ensures.goes))
+
+pub returns-clause-quiet : goal.returns-clause-quiet
+returns-clause-quiet g c = (c.in-Some.lent, c.in_ok-turned.ensures.quiet)

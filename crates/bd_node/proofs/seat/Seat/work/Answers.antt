@@ -2,5 +2,5 @@ use Rattle.std.proofs.lemmas.Result.{on_ok_weaker}
 use Rattle.bd_node.proofs.Borrowing.{alone}
 use Rattle.bd_node.proofs.seat.Seat.work.Goals as goal
 
-pub returns : goal.returns
-returns c = on_ok_weaker c.work.result (λ goes w. alone w c.args.self.now c.work.new.self goes) c.work.ensures
+pub returns-clause-goes : goal.returns-clause-goes
+returns-clause-goes c = on_ok_weaker c.work.result (λ goes w. alone w c.args.self.now c.work.new.self goes) c.work.ensures.goes

@@ -18,6 +18,7 @@ returns c =
       flag = refl;
       above = log.second;
       later = log.later;
+      entries = log.has.entries;
       at = λ setup p d a lends.
           shut_with setup p d old c.args.seen lent c.catch_up.new.replica c.push.new.self stamp c.shut.new.self (sym (c.journal-journal.ensures.leaves setup lends.start))
           c.catch_up.ensures.setup c.in_ok-catch_up.ensures.state log.later log.has c.in_ok-shut.ensures.ok a lends;

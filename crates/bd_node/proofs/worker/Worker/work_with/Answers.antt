@@ -1,4 +1,4 @@
-use Rattle.std.proofs.Common.{◌≡◌, ℕ, ◌≤◌, false, List, ◌++◌, ap, subst, sym, ◌∙◌}
+use Rattle.std.proofs.Common.{◌≡◌, ℕ, ◌≤◌, false, List, ◌++◌, length, ap, ap₂, subst, sym, ◌∙◌}
 use Rattle.std.specs.List.{AllByRecursion}
 use Rattle.std.specs.Prelude.{max}
 use Rattle.std.proofs.Math.Nat.{le-max_right}
@@ -12,10 +12,13 @@ use Rattle.bd_registry.specs.State.{rows_of}
 use Rattle.bd_registry.proofs.Alike.{rows_are_enough}
 use Rattle.bd_apart.specs.Course.{acts_of, restamped}
 use Rattle.bd_seat.specs.Taking.{TakesOver}
+use Rattle.bd_thread.specs.Moves.{turned_of}
 use Rattle.bd_thread.specs.Seen.{local}
 use Rattle.bd_node.specs.declared.worker.Worker.{Worker}
-use Rattle.bd_node.specs.Seats.{GoesWith}
+use Rattle.bd_node.specs.Seats.{GoesWith, Tells}
 use Rattle.bd_node.proofs.Lent.{begins_alike, replica_left, seen_within}
+use Rattle.bd_node.proofs.Telling.{tells_appended}
+use Rattle.bd_node.proofs.Waiting.{idles_with}
 use Rattle.bd_node.proofs.Workers.{goes_with, has_queue, leads_no_shutdown, leads_replay, leads_threads}
 use Rattle.bd_node.proofs.worker.Worker.work_with.Goals as goal
 
@@ -68,8 +71,8 @@ take_over-requires c =
           (leads_replay setup w.thread.me (local w.thread links) (local c.turn.new.self c.turn.new.links) acted.entries acted.leads))));
     }
 
-pub returns : goal.returns
-returns c =
+pub returns-clause-goes : goal.returns-clause-goes
+returns-clause-goes c =
     let w = c.args.self.now in
     let lent = c.args.lent.now in
     let now = c.take_over.new.registry in
@@ -86,3 +89,25 @@ returns c =
     (subst (λ (x : Written). TakesOver x lent (restamped x.thread x.last (acts_of links.entries)) log now) met-is
     (subst (λ (es : List Entry). TakesOver c.meet.new.self lent (restamped c.meet.new.self.thread c.meet.new.self.last (acts_of es)) log now) c.take_entries-entries.ensures.entries takes)))
     c.in_ok-take_over.ensures.taken
+
+pub returns-clause-turned : goal.returns-clause-turned
+returns-clause-turned c =
+    let w = c.args.self.now in
+    let x = c.take_entries-entries.new.self in
+    let entries = c.take_entries-entries.result in
+    let log = c.take_over.new.log in
+    let turned = c.in_ok-turned.turned in
+    let is : turned ≡ turned_of 0 (length entries) =
+    c.in_ok-turned.ensures.turned ∙ ap₂ (λ (es fs : List Entry). turned_of (length es) (length fs)) c.requires.at.empty (sym c.take_entries-entries.ensures.entries) in
+    let many : length x.log.entries ≡ length w.log.entries =
+    ap (λ (y : Worker). length y.log.entries) c.take_entries-entries.ensures.left ∙ ap (λ (l : Written). length l.entries) c.meet.ensures in
+    subst (λ (n : ℕ). Tells n (length log.entries) turned) many (tells_appended x.log log entries turned is c.in_ok-take_over.ensures.taken.log_is)
+
+pub returns-clause-quiet : goal.returns-clause-quiet
+returns-clause-quiet c =
+    let w = c.args.self.now in
+    let x = c.take_entries-entries.new.self in
+    let log = c.take_over.new.log in
+    idles_with c.args.lent.now w (record x { log = log }) c.catch_up.new.replica c.turn.new.self c.turn.new.links c.in_ok-turned.turned c.requires.at.empty
+    c.in_ok-catch_up.ensures.state c.in_ok-turned.ensures.quiet
+    (ap (λ (y : Worker). y.thread) c.take_entries-entries.ensures.left) (ap (λ (y : Worker). y.links) c.take_entries-entries.ensures.left)

@@ -1,0 +1,11 @@
+use Rattle.std.proofs.Common.{Bool, subst, sym}
+use Rattle.bd_node.specs.Seats.{HasMoved}
+use Rattle.bd_node.specs.Whole.{entries_made}
+use Rattle.bd_node.proofs.Telling.{moved_as_told}
+use Rattle.bd_node.proofs.node.Node.next_turn.Goals as goal
+
+pub returns-clause-moved : goal.returns-clause-moved
+returns-clause-moved g c =
+    let before = entries_made c.args.self.now in
+    let after = entries_made c.turn_of.new.self in
+    subst (λ (b : Bool). HasMoved before after b) (sym c.has_moved.ensures) (moved_as_told before after c.in_ok-turned.turned c.in_ok-turned.ensures.turned)

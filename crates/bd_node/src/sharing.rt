@@ -1,0 +1,109 @@
+//! How reactors share the threads of a node.
+ghost use Rattle.std.specs.Prelude.{◌≡◌, ◌<◌, All, IsPermutation, length};
+ghost use Rattle.std.specs.List.Sorted.{IsNonDecreasingBy};
+ghost use Rattle.bd_node.specs.Seats.{AllWentOn, IsSitting, number_in};
+ghost use Rattle.bd_node.specs.Whole.{StaySeated};
+
+use crate::seat::Seat;
+use crate::turning::Watch;
+use bd_outside::Gate;
+use bd_wires::Wires;
+use std::alloc::Global;
+use std::sync::Wait;
+use std::thread::{self, Threads};
+
+/// How threads are dealt to reactors: by turns, so that number r of N has the threads whose number is r modulo N.
+/// No reactor has more than (threads / reactors, rounded up); where the last then has fewer, the threads that are
+/// left are dealt to the others by turns.
+#[derive(Clone, Copy, Debug, PartialEq, Eq)]
+pub(crate) struct Deal {
+    /// How many reactors there may be, at least one.
+    pub most: u32,
+    /// How many there are.
+    reactors: u32,
+    /// How many threads the last of them has.
+    common: u32,
+}
+
+impl Deal {
+    pub fn of(threads: u32, reactors: u32) -> Self
+        ensures { 0 < result.most }
+    {
+        let most = reactors.min(threads).max(1);
+        let each = threads.div_ceil(most).max(1);
+        let reactors = threads.div_ceil(each).max(1);
+        let others = each.saturating_mul(reactors - 1);
+        Deal {
+            most,
+            reactors,
+            common: threads.saturating_sub(others),
+        }
+    }
+
+    /// The reactor of a thread, and how many it has before that one.
+    pub fn place(&self, thread: u32) -> (u32, u32) {
+        let all = self.reactors.max(1);
+        let dealt = all.saturating_mul(self.common);
+        if thread < dealt || all == 1 {
+            return (thread % all, thread / all);
+        }
+        let left = thread - dealt;
+        let others = all - 1;
+        (left % others, self.common.saturating_add(left / others))
+    }
+}
+
+// The seats of the first reactor come first, then those of the next.
+fn deal_out<'a>(deal: &Deal, seats: &mut [Seat<'a>])
+    ensures { IsPermutation seats.old seats.new }
+{
+    seats.sort_unstable_by_key(|seat| deal.place(seat.worker.me));
+}
+
+// The seats in the order of their numbers.
+fn gather<'a>(seats: &mut [Seat<'a>])
+    ensures same { IsPermutation seats.old seats.new }
+    ensures sorted { IsNonDecreasingBy number_in seats.new }
+{
+    seats.sort_unstable_by_key(|seat| seat.worker.me);
+}
+
+// Each seat has its turns of a round. A system thread has (seats / threads, rounded up) neighbours, the last the rest.
+fn turn_each<R: Threads + Wait + Sync, G: Gate + Sync>(
+    rt: &R,
+    alloc: Global,
+    wires: &Wires,
+    watch: &Watch<G>,
+    threads: usize,
+    seats: &mut [Seat],
+)
+    requires some { 0 < threads }
+    requires sits { All (IsSitting wires.now) seats.old }
+    ensures len { length seats.new ≡ length seats.old }
+    ensures each { AllWentOn wires.now seats.old seats.new }
+{
+    thread::for_each_mut(
+        rt,
+        seats,
+        threads,
+        &|_, seat: &mut Seat| { seat.turns(rt, alloc, wires, watch) },
+    );
+}
+
+/// Each seat has its turns of a round, on as many system threads as there are reactors.
+pub(crate) fn turn_all<R: Threads + Wait + Sync, G: Gate + Sync>(
+    rt: &R,
+    alloc: Global,
+    wires: &Wires,
+    watch: &Watch<G>,
+    seats: &mut [Seat],
+)
+    requires some { 0 < watch.now.deal.most }
+    requires sits { All (IsSitting wires.now) seats.old }
+    ensures len { length seats.new ≡ length seats.old }
+    ensures seats { StaySeated wires.now seats.old seats.new }
+{
+    deal_out(&watch.deal, seats);
+    turn_each(rt, alloc, wires, watch, watch.deal.most as usize, seats);
+    gather(seats);
+}
