@@ -1,5 +1,5 @@
 -- A ticket is spent, where it is kept.
-use Rattle.std.proofs.Common.{◌≡◌, ◌↔◌, ℕ, suc, Bool, true, false, cond, List, [], ◌∷◌, Option, Some, None, IsSome, OnSome, IfNone, Contains, refl, sym, ◌∙◌, ap, arith}
+use Rattle.std.proofs.Common.{◌≡◌, ◌↔◌, suc, Bool, true, false, cond, List, [], ◌∷◌, Option, Some, None, IsSome, OnSome, IfNone, Contains, refl, sym, ◌∙◌, ap, arith}
 use Rattle.bd_base.specs.declared.id.ReqId.{ReqId}
 use Rattle.bd_machine.specs.Same.{same_request}
 use Rattle.bd_machine.proofs.Tables.{request_same}

@@ -1,5 +1,5 @@
 -- How ids are compared and hashed.
-use Rattle.std.specs.Prelude.{◌≡◌, Bool, true, List, ◌++◌}
+use Rattle.std.specs.Prelude.{◌≡◌, Bool, true, ◌++◌}
 use Rattle.std.specs.Cmp.{IsEquivalence, IsPartialEquivalence, both_ways, partial_equiv_from_equiv}
 use Rattle.std.specs.Hash.{HashWrites, u32, u64, u128}
 use Rattle.std.proofs.Common.{ap, ◌∙◌}
