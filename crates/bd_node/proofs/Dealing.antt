@@ -1,6 +1,6 @@
 -- Seats that were dealt to reactors, had their turns, and were put in the order of their numbers, are at their places again.
-use Rattle.std.proofs.Common.{◌≡◌, ℕ, zero, suc, ◌+◌, ◌<◌, ◌≤◌, Bool, true, false, cond, nat_lt, List, [], ◌∷◌, ◌++◌, length, sum_by, All, IsPermutation, ◌⊎◌, inl, inr, Some, None, refl, sym, ◌∙◌, ap, ap₂, subst, lt-ltb, ltb-false, ltb-true, arith}
-use Rattle.std.specs.List.{list_all, slice_get}
+use Rattle.std.proofs.Common.{◌≡◌, ℕ, zero, suc, ◌+◌, ◌<◌, ◌≤◌, Bool, true, false, cond, nat_lt, List, [], ◌∷◌, length, sum_by, All, IsPermutation, ◌⊎◌, inl, inr, None, refl, sym, ◌∙◌, ap, subst, lt-ltb, ltb-true, arith}
+use Rattle.std.specs.List.{list_all}
 use Rattle.std.specs.List.Sorted.{IsNonDecreasingBy}
 use Rattle.std.specs.Prelude.{slice_index_or}
 use Rattle.std.proofs.lemmas.Bool.{cases_lt}
@@ -12,8 +12,8 @@ use Rattle.bd_apart.specs.Course.{Phase}
 use Rattle.bd_wires.specs.declared.wires.Wires.{Wires}
 use Rattle.bd_node.specs.declared.seat.Seat.{Seat}
 use Rattle.bd_node.specs.Seats.{AllWentOn, Continues, number_in}
-use Rattle.bd_node.specs.Whole.{seat_goes, AreSeated, IsIn, StaySeated}
-use Rattle.bd_node.proofs.Places.{all_at, has_at}
+use Rattle.bd_node.specs.Whole.{seat_goes, AreSeated, IsIn}
+use Rattle.bd_node.proofs.Places.{all_at}
 use Rattle.bd_node.proofs.Rounds.{no_halt}
 
 -- ---- numbers in order

@@ -1,6 +1,6 @@
 -- What a thread put to others goes into their rings: the seat goes on.
-use Rattle.std.proofs.Common.{◌≡◌, ◌≢◌, ℕ, ◌<◌, ◌≤◌, Bool, true, false, ◌==◌, nat_lt, List, [], ◌∷◌, ◌++◌, zero, suc, length, map, vec_len, Option, Some, None, refl, sym, ◌∙◌, ap, ap₂, subst, append-nil, eq-eqb, eqb-true, ltb-true, ltb-false, arith, rules}
-use Rattle.std.specs.List.{AllByRecursion, slice_get}
+use Rattle.std.proofs.Common.{◌≡◌, ℕ, ◌<◌, ◌≤◌, Bool, true, false, ◌==◌, nat_lt, List, [], ◌∷◌, ◌++◌, zero, suc, length, vec_len, Option, refl, sym, ◌∙◌, ap, subst, append-nil, eq-eqb, ltb-true, ltb-false, arith, rules}
+use Rattle.std.specs.List.{slice_get}
 use Rattle.std.specs.Prelude.{slice_index_or}
 use Rattle.std.proofs.lemmas.Option.{slice_get-get_or, slice_get_past}
 use Rattle.bd_base.specs.declared.setup.Setup.{Setup}
@@ -8,12 +8,11 @@ use Rattle.bd_turns.specs.declared.queue.Message.{Message}
 use Rattle.bd_turns.specs.declared.queue.Post.{Post}
 use Rattle.bd_turns.specs.Local.{Local}
 use Rattle.bd_links.specs.Queues.{queues_of}
-use Rattle.bd_merged.specs.Rows.{message_of}
-use Rattle.bd_ring.specs.Rings.{Place, Sender}
+use Rattle.bd_ring.specs.Rings.{Sender}
 use Rattle.bd_apart.specs.Course.{Course, IsCourse, Phase}
 use Rattle.bd_apart.specs.Steps.{sent_more, with_queues, Goes}
 use Rattle.bd_apart.proofs.Leaving.{departures_are_stamped}
-use Rattle.bd_seat.specs.Outgoing.{AreSendsTo, Flushed, FlushedAll, FlushedIf}
+use Rattle.bd_seat.specs.Outgoing.{AreSendsTo, FlushedAll, FlushedIf}
 use Rattle.bd_thread.specs.declared.links.Links.{Links}
 use Rattle.bd_thread.specs.Seen.{local}
 use Rattle.bd_wires.specs.declared.wires.Passes.{Passes}

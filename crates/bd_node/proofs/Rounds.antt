@@ -1,18 +1,18 @@
 -- After a turn of a seat, and after a round of all: the seats are where they have to be.
-use Rattle.std.proofs.Common.{◌≡◌, ℕ, ◌<◌, Bool, true, List, length, set, Option, Some, None, is_none, ◌⊎◌, inl, inr, refl, sym, ◌∙◌, ap, subst}
-use Rattle.std.specs.List.{All, list_all, slice_get}
+use Rattle.std.proofs.Common.{◌≡◌, ℕ, Bool, true, List, set, Option, Some, None, is_none, ◌⊎◌, inl, inr, refl, sym, ◌∙◌, ap, subst}
+use Rattle.std.specs.List.{All, slice_get}
 use Rattle.std.specs.Prelude.{slice_index_or}
 use Rattle.std.proofs.lemmas.Bool.{cases_eq}
 use Rattle.std.proofs.lemmas.List.{length-set}
-use Rattle.std.proofs.lemmas.Option.{get_or_from_slice_get, same_Some, slice_get-get_or, slice_get_within}
+use Rattle.std.proofs.lemmas.Option.{same_Some, slice_get-get_or, slice_get_within}
 use Rattle.bd_base.specs.declared.setup.Setup.{Setup}
 use Rattle.bd_seat.specs.declared.seat_no.SeatNo.{SeatNo}
 use Rattle.bd_apart.specs.Course.{Phase}
 use Rattle.bd_wires.specs.declared.wires.Wires.{Wires}
 use Rattle.bd_node.specs.declared.seat.Seat.{Seat}
-use Rattle.bd_node.specs.Seats.{AllWentOn, Continues, IsSitting}
-use Rattle.bd_node.specs.Whole.{seat_goes, AreSeated, IsIn}
-use Rattle.bd_node.proofs.Places.{all_at, has_at, set_else, set_here}
+use Rattle.bd_node.specs.Seats.{Continues, IsSitting}
+use Rattle.bd_node.specs.Whole.{AreSeated, IsIn}
+use Rattle.bd_node.proofs.Places.{set_else, set_here}
 
 pub no_halt : (o : Option SeatNo) → is_none o ≡ true → o ≡ None
 no_halt None h = refl

@@ -1,7 +1,6 @@
 -- A seat goes on: posts come and go, and its worker works, without the registry and with it.
-use Rattle.std.proofs.Common.{◌≡◌, ◌≢◌, ℕ, ◌+◌, ◌<◌, ◌≤◌, Bool, true, false, cond, ◌==◌, List, [], ◌∷◌, ◌++◌, length, map, vec_len, Option, Some, None, refl, sym, ◌∙◌, ap, ap₂, subst, arith}
-use Rattle.std.specs.List.{AllByRecursion, slice_get}
-use Rattle.std.specs.Prelude.{slice_index_or}
+use Rattle.std.proofs.Common.{◌≡◌, ℕ, ◌<◌, ◌≤◌, List, [], ◌∷◌, ◌++◌, map, vec_len, refl, sym, ◌∙◌, ap, subst}
+use Rattle.std.specs.List.{AllByRecursion}
 use Rattle.bd_base.specs.declared.setup.Setup.{Setup}
 use Rattle.bd_turns.specs.declared.queue.Message.{Message}
 use Rattle.bd_turns.specs.declared.queue.Post.{Post}
@@ -9,8 +8,7 @@ use Rattle.bd_turns.specs.Local.{Local}
 use Rattle.bd_links.specs.Queues.{queues_of}
 use Rattle.bd_log.specs.Log.{Written}
 use Rattle.bd_merged.specs.Rows.{message_of}
-use Rattle.bd_ring.specs.Posts.{Brings}
-use Rattle.bd_ring.specs.Rings.{Receiver, Sender}
+use Rattle.bd_ring.specs.Rings.{Receiver}
 use Rattle.bd_apart.specs.Course.{Course, IsCourse, Phase}
 use Rattle.bd_apart.specs.Steps.{arrived_more, with_arrived, with_queues}
 use Rattle.bd_apart.proofs.Arriving.{arrivals_are_met}
@@ -18,10 +16,8 @@ use Rattle.bd_seat.specs.Incoming.{Fetched, IsMet}
 use Rattle.bd_thread.specs.declared.links.Links.{Links}
 use Rattle.bd_thread.specs.Seen.{local}
 use Rattle.bd_wires.specs.declared.wires.Wires.{Wires}
-use Rattle.bd_wires.specs.Wires.{put_into, IsLinked}
 use Rattle.bd_node.specs.declared.seat.Seat.{Seat}
-use Rattle.bd_node.specs.declared.worker.Worker.{Worker}
-use Rattle.bd_node.specs.Seats.{Continues, IsAt, IsSeat, IsSitting, Sits}
+use Rattle.bd_node.specs.Seats.{Continues, IsAt, IsSeat, IsSitting}
 
 -- ---- one after the other
 

@@ -1,10 +1,9 @@
 -- What the answers of turns tell of the entries that they added.
-use Rattle.std.proofs.Common.{◌≡◌, ℕ, zero, suc, ◌+◌, ◌<◌, ◌≤◌, Bool, true, false, ◌||◌, cond, ◌==◌, ◌-◌, ◌⊎◌, inl, inr, eqb-true, eq-eqb, List, [], ◌∷◌, ◌++◌, length, set, sum_by, get_or, Option, Some, None, refl, sym, ◌∙◌, ap, subst, length-append, arith}
+use Rattle.std.proofs.Common.{◌≡◌, ℕ, suc, ◌+◌, ◌<◌, ◌≤◌, Bool, true, false, ◌||◌, cond, ◌==◌, ◌-◌, ◌⊎◌, inl, inr, eqb-true, eq-eqb, List, [], ◌∷◌, ◌++◌, length, set, sum_by, Some, refl, sym, ◌∙◌, ap, subst, length-append, arith}
 use Rattle.std.specs.List.{slice_get}
 use Rattle.std.proofs.lemmas.Bool.{cases_lt, true≢false}
 use Rattle.std.proofs.lemmas.List.Sums.{sum_by-cons, sum_by-set}
 use Rattle.std.proofs.lemmas.Option.{get_or_from_slice_get, slice_get_within}
-use Rattle.bd_base.specs.declared.act.Act.{Act}
 use Rattle.bd_base.specs.declared.act.Entry.{Entry}
 use Rattle.bd_base.specs.declared.setup.Setup.{Setup}
 use Rattle.bd_apart.specs.Course.{acts_of, restamped}

@@ -1,5 +1,5 @@
 -- A quiet turn of a seat, by what its thread answers.
-use Rattle.std.proofs.Common.{◌≡◌, ℕ, false, List, [], set, Some, ◌⊎◌, inl, inr, refl, sym, ◌∙◌, ap, subst}
+use Rattle.std.proofs.Common.{◌≡◌, ℕ, false, List, [], set, Some, ◌⊎◌, inl, inr, sym, ◌∙◌, ap, subst}
 use Rattle.std.specs.List.{slice_get}
 use Rattle.std.proofs.lemmas.Option.{same_Some}
 use Rattle.bd_base.specs.declared.act.Entry.{Entry}

@@ -1,8 +1,8 @@
 -- A worker goes on: its log meets a stamp, its registry follows another, and its thread acts.
-use Rattle.std.proofs.Common.{◌≡◌, ℕ, ◌+◌, ◌≤◌, Bool, true, false, cond, ◌||◌, ◌==◌, ◌<◌, List, [], ◌∷◌, ◌++◌, zero, suc, length, map, vec_len, refl, sym, ◌∙◌, ap, ap₂, subst, append_assoc, append-nil, arith}
+use Rattle.std.proofs.Common.{◌≡◌, ℕ, ◌+◌, ◌≤◌, Bool, true, false, cond, ◌||◌, ◌==◌, ◌<◌, List, [], ◌∷◌, ◌++◌, zero, suc, length, vec_len, refl, sym, ◌∙◌, ap, ap₂, subst, append_assoc, append-nil, arith}
 use Rattle.std.specs.List.{All, AllByRecursion}
 use Rattle.std.specs.Prelude.{max}
-use Rattle.std.proofs.Math.Nat.{le-max_left, le-max_right}
+use Rattle.std.proofs.Math.Nat.{le-max_left}
 use Rattle.std.proofs.lemmas.List.{map-append}
 use Rattle.std.proofs.lemmas.List.Elements.{filter-append}
 use Rattle.bd_base.specs.declared.act.Act.{Act}
@@ -16,12 +16,12 @@ use Rattle.bd_machine.specs.View.{asked}
 use Rattle.bd_turns.specs.Local.{local_after, Leads, Local}
 use Rattle.bd_log.specs.Log.{Written}
 use Rattle.bd_log.specs.Merge.{entries_of}
-use Rattle.bd_merged.specs.Rows.{Row, entries, entry_of}
+use Rattle.bd_merged.specs.Rows.{entries, entry_of}
 use Rattle.bd_merged.specs.Journals.{events, is_event, registry_by, registry_next, IsAnswered, IsReplay}
 use Rattle.bd_merged.specs.Turning.{AreRestamped}
 use Rattle.bd_merged.proofs.Turning.{turn_is_accepted}
-use Rattle.bd_registry.specs.State.{Registered, rows_of, start_of}
-use Rattle.bd_apart.specs.Course.{acts_of, all_rows, restamped, Course, IsCourse, Phase}
+use Rattle.bd_registry.specs.State.{Registered, start_of}
+use Rattle.bd_apart.specs.Course.{acts_of, restamped, Course, IsCourse, Phase}
 use Rattle.bd_apart.specs.Steps.{with_registry, GoesOn, SeesOwn}
 use Rattle.bd_apart.proofs.Acting.{acts_on, any_stamp}
 use Rattle.bd_apart.proofs.Arriving.{stamps_are_met}

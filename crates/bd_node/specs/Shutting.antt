@@ -4,10 +4,9 @@ use Rattle.bd_base.specs.declared.act.Act.TheVariants as acts
 use Rattle.bd_base.specs.declared.act.Entry.{Entry}
 use Rattle.bd_base.specs.declared.setup.Setup.{Setup}
 use Rattle.bd_machine.specs.Lines.{shutdown_at}
-use Rattle.bd_merged.specs.Rows.{Row}
 use Rattle.bd_registry.specs.State.{Registered, start_of}
 use Rattle.bd_ring.specs.SlotRule.{AddsOwn}
-use Rattle.bd_apart.specs.Course.{all_rows, Course, Phase}
+use Rattle.bd_apart.specs.Course.{Course, Phase}
 use Rattle.bd_apart.specs.Steps.{second_phase}
 use Rattle.bd_thread.specs.Seen.{local}
 use Rattle.bd_wires.specs.declared.wires.Wires.{Wires}

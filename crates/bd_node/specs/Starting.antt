@@ -1,5 +1,5 @@
 -- Seats before any entry.
-use Rattle.std.specs.Prelude.{◌≡◌, ℕ, List, [], Some, None, length, slice_get}
+use Rattle.std.specs.Prelude.{◌≡◌, ℕ, List, [], Some, None, slice_get}
 use Rattle.bd_base.specs.declared.setup.Setup.{Setup}
 use Rattle.bd_thread.specs.Requests.{KeepsTickets}
 use Rattle.bd_thread.specs.Starts.{IsNew, IsNewLinks}

@@ -18,7 +18,7 @@ use Rattle.bd_node.specs.declared.node.Node.{Node}
 use Rattle.bd_node.specs.declared.node.NodeState.{NodeState}
 use Rattle.bd_node.specs.declared.node.NodeState.TheVariants.{Idle, Done, Busy}
 use Rattle.bd_node.specs.declared.seat.Seat.{Seat}
-use Rattle.bd_node.specs.Seats.{made_by, IsSitting, Sits}
+use Rattle.bd_node.specs.Seats.{made_by, Sits}
 
 -- ---- all seats
 
