@@ -47,7 +47,7 @@ class Pairs(list):
 
 NUMBERS = ["-1", "-0", "0", "0.5", "64.0", "6.4e1", "1e2", "1E400", "-1e999", "1e308", "1e-999", "9223372036854775807", "9223372036854775808",
            "18446744073709551615", "18446744073709551616", "1" + "0" * 30, "9" * 400, "9" * 5000, "0." + "3" * 3000, "+1", "01", "1.", ".5", "1e",
-           "0x40", "1_000", "NaN", "Infinity", "-", "2097152", "2097153", "1023", "1025", "4294967296"]
+           "0x40", "1_000", "NaN", "Infinity", "-", "2097152", "2097153", "1023", "1025", "4294967296", "1099511627776", "1099511627777"]
 OTHERS = ["null", "true", "false", '""', '"64"', "[]", "[64]", "{}", '{"a":1}', '"M\\u0000"', '"\\ud800"', '"\\ud83d\\ude00"', '"\\ud83dx"', '"a b"', '"\\x41"',
           '"tab\there"', '"' + "n" * 200 + '"', '"' + "n" * 201 + '"', '"' + "n" * 100000 + '"', "'M'", "nul", "True", "undefined"]
 BYTES = [b"\xff", b"\xc0\xaf", b"\xed\xa0\x80", b"\xf4\x90\x80\x80", b"\xe2\x82", b"\x80", b"\x00", b"\xef\xbb\xbf", b"\xf0\x9f\x98\x80", b"\xc3\xa9"]
@@ -68,6 +68,10 @@ KEYS = {
 
 def malloc(name="M", **more):
     return {"method": "bdev_malloc_create", "params": dict({"name": name, "num_blocks": 64, "block_size": 512}, **more)}
+
+
+def null(name="N", **more):
+    return {"method": "bdev_null_create", "params": dict({"name": name, "num_blocks": 64, "block_size": 512}, **more)}
 
 
 def config(*calls):
@@ -98,7 +102,7 @@ THREADS = ["2", "16", "-1", "01", "x", "", "4294967296", "18446744073709551616",
 
 def bend_params(dice):
     key = dice.of(["name", "num_blocks", "block_size", "optimal_io_boundary", "queue_depth", "md_size", "dif_type", "readonly", "uuid"])
-    return text_of(config(malloc(**{key: Raw(dice.of(NUMBERS + OTHERS))}))).encode()
+    return text_of(config(dice.of([malloc, malloc, null])(**{key: Raw(dice.of(NUMBERS + OTHERS))}))).encode()
 
 
 def cut_off(dice):
@@ -174,10 +178,13 @@ def equal_keys(dice):
 def many(dice):
     kind = dice.below(4)
     if kind == 0:
-        return text_of(config(*[malloc("M%d" % i, num_blocks=1) for i in range(255 + dice.below(4))])).encode()
+        return text_of(config(*[dice.of([malloc, null])("M%d" % i, num_blocks=1) for i in range(255 + dice.below(4))])).encode()
     if kind == 1:
+        # Only malloc devices count as memory.
         blocks = dice.of([2097152, 1048577, 262144])
-        return text_of(config(*[malloc("M%d" % i, num_blocks=blocks, block_size=dice.of([512, 4096])) for i in range(5)])).encode()
+        calls = [malloc("M%d" % i, num_blocks=blocks, block_size=dice.of([512, 4096])) for i in range(5)]
+        calls.insert(dice.below(6), null(num_blocks=dice.of([1 << 40, (1 << 40) + 1, 2097153]), block_size=4096))
+        return text_of(config(*calls)).encode()
     if kind == 2:
         twice = dice.below(20)
         names = ["M%d" % i for i in range(20)]
@@ -207,9 +214,11 @@ def stacks(dice):
     names = ["M", "N", "P", "Q", "Mp0", "Mp1", "Pp0", "Mp1p0"]
     calls = []
     for _ in range(2 + dice.below(7)):
-        kind = dice.below(3)
+        kind = dice.below(4)
         if kind == 0:
             calls.append(malloc(dice.of(names[:3]), num_blocks=dice.of([1, 2, 3, 64, 65, 2048, 4097, 2097152]), optimal_io_boundary=dice.of([0, 8, 9])))
+        elif kind == 3:
+            calls.append(null(dice.of(names[:3]), num_blocks=dice.of([1, 3, 65, 2048, 1 << 40, 1 << 40, (1 << 40) - 1]), optimal_io_boundary=dice.of([0, 8])))
         elif kind == 1:
             calls.append({"method": "bdev_passthru_create", "params": {"base_bdev_name": dice.of(names), "name": dice.of(names)}})
         else:

@@ -264,14 +264,15 @@ class Call:
         return self.params.get("readonly") is not True
 
 
-def malloc(call):
-    name, blocks, size = call.name("name"), call.whole("num_blocks", 1, 1 << 21), call.size()
-    call.boundary(), call.depth()
-    return ("malloc", name, blocks, size)
+def base_device(kind, most_blocks):
+    """What reads a call that makes a base device without a file."""
 
+    def read(call):
+        name, blocks, size = call.name("name"), call.whole("num_blocks", 1, most_blocks), call.size()
+        call.boundary(), call.depth()
+        return (kind, name, blocks, size)
 
-def null(call):
-    call.name("name"), call.whole("num_blocks", 1, 1 << 40), call.size(), call.boundary(), call.depth()
+    return read
 
 
 def aio(call):
@@ -316,7 +317,7 @@ def limits(call):
         raise Wrong
 
 
-BASES = {"bdev_malloc_create": malloc, "bdev_null_create": null, "bdev_aio_create": aio}
+BASES = {"bdev_malloc_create": base_device("malloc", 1 << 21), "bdev_null_create": base_device("null", 1 << 40), "bdev_aio_create": aio}
 OTHERS = {
     "bdev_passthru_create": passthru,
     "bdev_split_create": split,
@@ -379,11 +380,11 @@ class Devices:
         self.made, self.memory = {}, 0
 
     def base_of(self, command):
-        return None if command[0] == "malloc" else command[1]
+        return None if command[0] in ("malloc", "null") else command[1]
 
     def rows(self, command):
         """What the command asks for: names, with blocks, size and layers."""
-        if command[0] == "malloc":
+        if command[0] in ("malloc", "null"):
             return [(command[1], (command[2], command[3], 1))]
         blocks, size, layers = self.made[command[1]][:3]
         if command[0] == "passthru":

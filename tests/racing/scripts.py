@@ -1,4 +1,4 @@
-"""Scripts whose threads race: over 1 to 6 devices, on 1 to 16 threads.
+"""Scripts whose threads race: over 1 to 6 devices, about one in five of which is a null device, on 1 to 16 threads.
 
 `script(number)` makes one of them; one number always gives the same script. The numbers go through the plans below in turn.
 The plans of EXACT give scripts whose report is the same in every order of turns: no two requests that are open at once touch
@@ -9,8 +9,9 @@ far a removal is. In the others the threads race.
 import random
 from collections import namedtuple
 
-# `devices` is a list of (name, blocks, size). `exact`: whether no order of turns changes the report.
+# `devices` is a list of Device. `exact`: whether no order of turns changes the report.
 Made = namedtuple("Made", "text threads devices plan exact")
+Device = namedtuple("Device", "name blocks size kind base", defaults=("malloc", None))
 
 MOST_BYTES = 262144
 # All requests of a script together move at most so many bytes, but for one block each.
@@ -73,9 +74,9 @@ class Thread:
         made = [("open", "none", "Absent", self.random.choice("rw")), ("remove", "Absent"), ("close", "unbound"),
                 ("claim", "unbound", "one"), ("gone", "unbound"), ("read", "unbound", 0, 1), ("write", "unbound", 0, 1, 1)]
         if self.handles:
-            name, (device, blocks, size) = self.random.choice(self.handles)
-            made += [("read", name, 0, 0), ("read", name, blocks, 1), ("read", name, blocks - 1, 2), ("open", name, device, "w"),
-                     ("read", name, 0, MOST_BYTES // size + 1), ("read", name, (1 << 64) - 1, 2)]
+            name, device = self.random.choice(self.handles)
+            made += [("read", name, 0, 0), ("read", name, device.blocks, 1), ("read", name, device.blocks - 1, 2), ("open", name, device.name, "w"),
+                     ("read", name, 0, MOST_BYTES // device.size + 1), ("read", name, (1 << 64) - 1, 2)]
         self.say(*self.random.choice(made))
 
     def work(self, count, ranges, apart=False, waits=0.15, words=("read", "write", "zeroes", "unmap", "flush")):
@@ -130,7 +131,8 @@ class Maker:
         self.plan = exact[place] if self.exact else racing[(turn * 6 + place - len(exact)) % len(racing)]
         self.threads = (1 + (number * 7 + turn) % 16) if self.exact else 2 + (number * 7 + turn) % 15
         self.devices = [
-            ("Malloc%d" % i, *self.random.choice([(32, 512), (64, 512), (128, 512), (32, 4096)])) for i in range(1 + (number * 5 + turn) % 6)
+            Device("Disk%d" % i, *self.random.choice([(32, 512), (64, 512), (128, 512), (32, 4096)]), "null" if (turn + i) % 5 == 4 else "malloc")
+            for i in range(1 + (number * 5 + turn) % 6)
         ]
 
     def make(self):
@@ -354,7 +356,7 @@ class Maker:
 
     def burst(self):
         """Each thread has many requests open at once, over several handles."""
-        self.devices = [(name, 1024, 512) for name, _, _ in self.devices]
+        self.devices = [device._replace(blocks=1024, size=512) for device in self.devices]
         for thread in self.all:
             handles = [thread.open(device) for device in self.devices]
             ranges = [(handle, *self.part(handle[1], thread)) for handle in handles]
@@ -397,6 +399,7 @@ def script(number):
 def config(made):
     """The configuration that goes with a script."""
     calls = ", ".join(
-        '{ "method": "bdev_malloc_create", "params": { "name": "%s", "num_blocks": %d, "block_size": %d } }' % device for device in made.devices
+        '{ "method": "bdev_%s_create", "params": { "name": "%s", "num_blocks": %d, "block_size": %d } }' % (kind, name, blocks, size)
+        for name, blocks, size, kind, _ in made.devices
     )
     return '{ "subsystems": [ { "subsystem": "bdev", "config": [ %s ] } ] }\n' % calls

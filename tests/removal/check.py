@@ -761,6 +761,8 @@ class Check:
                     parts.setdefault((line.hold.device.root, block), []).append(line)
 
         def values(read, root, block):
+            if root.kind == "null":
+                return {None}
             return self.values_at(read, writes.get((root, block), {}), parts.get((root, block), ()), block)
 
         for line in self.sorted:
@@ -770,7 +772,7 @@ class Check:
                 self.check_read(patterns_of(device.size), line, choices)
         digests = {}
         for device in self.devices.values():
-            if device.root is device:
+            if device.kind == "malloc":
                 choices = [values(None, device, block) for block in range(device.blocks)]
                 digests[device.name] = patterns_of(device.size).digests(choices)
         return digests

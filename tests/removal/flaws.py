@@ -1,5 +1,7 @@
 """Ways to play a script with one rule broken, to try the checker with."""
 
+import hashlib
+
 from imitate import Imitation
 
 
@@ -191,6 +193,46 @@ class StopsAtGone(Imitation):
         return super().outcome(t, try_only)
 
 
+class KeepsOnNull(Imitation):
+    """A null device keeps what was written."""
+
+    def serve_one(self, home, t, request, piece):
+        root = request.handle.device.root
+        kind, root.kind = root.kind, "malloc"
+        super().serve_one(home, t, request, piece)
+        root.kind = kind
+
+
+class ShowsDigestOfNull(Imitation):
+    """The device line of a null device has a digest."""
+
+    def report(self):
+        for device in self.devices.values():
+            if device.kind == "null":
+                device.digest = hashlib.sha256(b"".join(device.content)).hexdigest()
+        return super().report()
+
+
+class ReadsNullShort(Imitation):
+    """A read of a null device shows too few zeros."""
+
+    def serve_one(self, home, t, request, piece):
+        super().serve_one(home, t, request, piece)
+        device = request.handle.device
+        if request.words[0] == "read" and device.root.kind == "null":
+            request.data[piece[0]] = bytes((piece[1] - 1) * device.size)
+
+
+class FailsOnNull(Imitation):
+    """A write to a null device fails."""
+
+    def complete(self, t):
+        for request in self.threads[t].ended:
+            if request.words[0] == "write" and request.handle.device.root.kind == "null" and request.status == "success":
+                request.status = "failed"
+        super().complete(t)
+
+
 class ReadsOldData(Imitation):
     """A read gives zeros once the device goes."""
 
@@ -301,7 +343,8 @@ class CountsAtBase(Imitation):
 FLAWS = [
     AcceptsAfterGone, OpensWhileRemoving, RemovesTwice, RefusesFirstRemoval, DestructsEarly, TellsNobody, TellsClosedHandles,
     TellsInAnotherOrder, ClosesAfterGone, ForgetsName, AbortsAtAnyTime, AbortsWhatWasServed, LosesWrites, CompletesTwice,
-    FailsWhatIsInFlight, ClaimsBesideWriter, ClaimsWhileRemoving, WaitsForNothing, StopsAtGone, ReadsOldData,
+    FailsWhatIsInFlight, ClaimsBesideWriter, ClaimsWhileRemoving, WaitsForNothing, StopsAtGone, ReadsOldData, KeepsOnNull,
+    ShowsDigestOfNull, ReadsNullShort, FailsOnNull,
 ]
 # These are tried on the scripts with stacks.
 STACKED = [

@@ -1,7 +1,7 @@
 """Plays a script by the rules of docs/MODEL.md in an order by chance, and gives the report.
 
 It serves to try the checker: whatever the order, the checker must find nothing wrong with what comes out. It shares no
-code with the program or the checker, and knows malloc devices, passthrus and parts of splits. Each thread acts in single
+code with the program or the checker, and knows malloc and null devices, passthrus and parts of splits. Each thread acts in single
 steps; which thread is next, and which of the things that it may do it does, is left to chance.
 
 A device is (name, blocks, size), or with more: (name, blocks, size, kind, base, shift, boundary), where base is the name of the
@@ -239,7 +239,9 @@ class Imitation:
         word, device = request.words[0], request.handle.device
         lba, count = piece
         content = device.root.content
-        for block in range(lba, lba + count):
+        # A null device takes what is written and keeps none of it.
+        kept = range(lba, lba + count) if device.root.kind == "malloc" else ()
+        for block in kept:
             if word == "write":
                 first = self.first_byte(request, block)
                 content[device.under(block)] = (STEPS * 2)[first * 183 % 256:][:256] * (device.size // 256)
@@ -315,7 +317,8 @@ class Imitation:
                     self.put_channel(t, device.base)
                 self.free(t, device)
         elif what == "destruct":
-            device.digest = hashlib.sha256(b"".join(device.content)).hexdigest()
+            if device.kind == "malloc":
+                device.digest = hashlib.sha256(b"".join(device.content)).hexdigest()
             thread.owed.append(("report", device))
         elif what == "follow":
             if device.standing == "live":
@@ -472,7 +475,7 @@ class Imitation:
                 out.append(" ".join(["thread %d" % t] + ["%s %d" % (word, thread.counts[word]) for word in words + ("refused",)]))
         for device in self.devices.values():
             (reads, read_bytes), (writes, write_bytes) = device.moved["read"], device.moved["write"]
-            digest = " sha256 %s" % device.digest if device.kind == "malloc" else ""
+            digest = " sha256 %s" % device.digest if device.digest else ""
             out.append("device %s %s blocks %d size %d reads %d writes %d read_bytes %d write_bytes %d%s" % (
                 device.name, device.kind, device.blocks, device.size, reads, writes, read_bytes, write_bytes, digest))
         out.append("end " + " ".join("%s %d" % (word, sum(thread.counts[word] for thread in self.threads)) for word in words))

@@ -2,7 +2,8 @@
 
 `script(number)` makes one of them: the text of the script, the number of its threads and its devices. One number always gives
 the same script. The numbers go through the plans below in turn, so that each plan comes with 1 to 16 threads. The scripts below
-number STACKED have one malloc device; the others have stacks of up to 8 layers of passthrus and splits.
+number STACKED have one device, the others stacks of up to 8 layers of passthrus and splits. In four of five tens of scripts the
+content is that of a malloc device; in the fifth it is a null device that goes, or that the stack stands on.
 """
 
 import json
@@ -13,7 +14,8 @@ Made = namedtuple("Made", "text threads devices plan")
 # A device stands on the one of the name `base`, at its block `shift`. Requests are cut at multiples of `boundary`.
 Row = namedtuple("Row", "name blocks size kind base shift boundary", defaults=("malloc", None, 0, 0))
 
-DEVICE = "Malloc0"
+DEVICE = "Disk0"
+ABSENT = "Disk1"
 STACKED = 200
 MOST_LAYERS = 8
 MOST_OPEN = 1024
@@ -112,8 +114,8 @@ class Thread:
             ("claim", "unbound", "one"),
             ("gone", "unbound"),
             ("open", handle, DEVICE, "r"),
-            ("open", "other", "Malloc1", "w"),
-            ("remove", "Malloc1"),
+            ("open", "other", ABSENT, "w"),
+            ("remove", ABSENT),
         ]))
 
     def burst(self, count, waits=0.0):
@@ -166,7 +168,7 @@ class Thread:
             say("open", "again", self.some_device(), self.random.choice("rw"))
             say("read", "again", 0, 1)
         for _ in range(self.random.randrange(3)):
-            say("remove", self.random.choice([self.going(), self.going(), self.going(), "Malloc1"]))
+            say("remove", self.random.choice([self.going(), self.going(), self.going(), ABSENT]))
             if self.random.random() < 0.5:
                 say("wait")
 
@@ -243,9 +245,9 @@ class StackThread(Thread):
             ("read", handle, (1 << 64) - 1, 2),
             ("write", "unbound", 0, 1, 1),
             ("open", handle, row.name, "r"),
-            ("open", "other", "Malloc1", "w"),
+            ("open", "other", ABSENT, "w"),
             ("open", "claimed", row.base or row.name, "w"),
-            ("remove", "Malloc1"),
+            ("remove", ABSENT),
         ]))
 
 
@@ -263,7 +265,8 @@ class Maker:
         self.plan = plans[number % len(plans)]
         self.threads = 1 + (number * 7 + number // len(plans)) % 16
         self.blocks, self.size = self.random.choice([(64, 512), (256, 512), (1024, 512), (2048, 512), (64, 4096), (256, 4096)])
-        self.rows = [Row(DEVICE, self.blocks, self.size)]
+        self.kind = "null" if number // 10 % 5 == 4 else "malloc"
+        self.rows = [Row(DEVICE, self.blocks, self.size, self.kind)]
         self.thread = Thread
         if number >= STACKED:
             self.stack()
@@ -279,7 +282,7 @@ class Maker:
             self.blocks, self.size, boundary = 2048, 512, 8
         # Devices before it move its home to another thread.
         self.others = [Row("Other%d" % i, 8, self.size) for i in range(self.random.randrange(4))]
-        self.rows = [Row(DEVICE, self.blocks, self.size, boundary=boundary)]
+        self.rows = [Row(DEVICE, self.blocks, self.size, self.kind, boundary=boundary)]
         for layer in range(self.random.randrange(1, MOST_LAYERS)):
             base = self.rows[-1]
             if self.random.random() < 0.6 or base.blocks < 8:
@@ -546,11 +549,11 @@ def config(made):
     """The configuration that goes with a script."""
     calls, split = [], set()
     for row in made.devices:
-        if row.kind == "malloc":
+        if row.kind in ("malloc", "null"):
             params = {"name": row.name, "num_blocks": row.blocks, "block_size": row.size}
             if row.boundary:
                 params["optimal_io_boundary"] = row.boundary
-            calls.append({"method": "bdev_malloc_create", "params": params})
+            calls.append({"method": "bdev_%s_create" % row.kind, "params": params})
         elif row.kind == "passthru":
             calls.append({"method": "bdev_passthru_create", "params": {"base_bdev_name": row.base, "name": row.name}})
         elif row.base not in split:
