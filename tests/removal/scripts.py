@@ -2,8 +2,8 @@
 
 `script(number)` makes one of them: the text of the script, the number of its threads and its devices. One number always gives
 the same script. The numbers go through the plans below in turn, so that each plan comes with 1 to 16 threads. The scripts below
-number STACKED have one device, the others stacks of up to 8 layers of passthrus and splits. In four of five tens of scripts the
-content is that of a malloc device; in the fifth it is a null device that goes, or that the stack stands on.
+number STACKED have one device, the others stacks of up to 8 layers of passthrus and splits. Of each fifty scripts the last ten have
+a null device in place of the malloc device.
 """
 
 import json
