@@ -7,3 +7,4 @@ pub mod Following
 pub mod Asking
 pub mod Resting
 pub mod Tickets
+pub mod Serving

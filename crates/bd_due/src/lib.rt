@@ -10,6 +10,7 @@ mod following;
 mod pieces;
 mod resting;
 mod sending;
+mod serving;
 mod stopping;
 mod tickets;
 
@@ -20,5 +21,6 @@ pub use following::{close_due, get_due};
 pub use pieces::{hold_pieces, piece_count, send_pieces};
 pub use resting::{are_done_with, is_done_with};
 pub use sending::{copy_of, first_due, leave, may_take, send_off, send_on};
+pub use serving::{Next, next_due};
 pub use stopping::{drop_unsent, stop_waiting};
 pub use tickets::{next_ticket, spend};

@@ -7,7 +7,7 @@ ghost use Rattle.bd_due.specs.Sending.{bound_for, first_brought, first_due, goes
 use bd_base::{OutOfMemory, Token, WalkId};
 use bd_blocks::first_of;
 use bd_changes::{is_at_end, news_of, sent};
-use bd_links::Queue;
+use bd_links::{Queue, is_full};
 use bd_machine::{Due, Id, Kept, News, OpenWalk};
 use bd_rules::brings;
 use bd_tokens::Tokens;
@@ -91,12 +91,16 @@ fn token_of(news: &News) -> Result<Token, OutOfMemory>
     }
 }
 
-/// The first message that is due, and its receiver; none where none is due.
-pub fn first_due(due: &[Due]) -> Result<Option<(u32, Token)>, OutOfMemory>
-    ensures { IfOk result (λ first. first ≡ first_due due.now) }
+/// The first message that is due, and its receiver; none where none is due, or the receiver's queue is full.
+/// It takes memory only for a message that it gives.
+pub fn first_due(due: &[Due], queues: &[Queue]) -> Result<Option<(u32, Token)>, OutOfMemory>
+    ensures { IfOk result (λ first. first ≡ first_due queues.now due.now) }
 {
     match due.first() {
         Some(d) => {
+            if is_full(queues, d.receiver) {
+                return Ok(None);
+            }
             let what = token_of(&d.news)?;
             Ok(Some((d.receiver, what)))
         }
