@@ -22,5 +22,5 @@ pub use pieces::{hold_pieces, piece_count, send_pieces};
 pub use resting::{are_done_with, is_done_with};
 pub use sending::{copy_of, first_due, leave, may_take, send_off, send_on};
 pub use serving::{Next, next_due};
-pub use stopping::{drop_unsent, stop_waiting};
+pub use stopping::{drop_left, drop_unsent, stop_waiting};
 pub use tickets::{next_ticket, spend};
