@@ -8,3 +8,5 @@ pub mod Asking
 pub mod Resting
 pub mod Tickets
 pub mod Serving
+pub mod Visiting
+pub mod Answering

@@ -27,6 +27,11 @@ bound_for walk w = (unwrap_or (first_of w.left) walk.thread, tokens.Walk walk) �
 abbrev pub goes_on : ℕ → WalkId → OpenWalk → List (ℕ × Token)
 goes_on me walk w = cond (is_at_end me walk w) [] (bound_for walk w)
 
+-- a walk that begins is to be put to where it goes first
+abbrev pub sent_off : Option (WalkId × OpenWalk) → List (ℕ × Token)
+sent_off None = []
+sent_off (Some walk) = bound_for walk.0 walk.1
+
 -- ---- messages
 
 -- what is kept of a token on its way, where this is kept of it here: a request or a piece is out, or on its way back; what is sent once is only told

@@ -3,6 +3,7 @@
 //! what the thread has to ask the registry for.
 #![tactic(auto)]
 
+mod answering;
 mod asking;
 mod completion;
 mod duties;
@@ -13,14 +14,17 @@ mod sending;
 mod serving;
 mod stopping;
 mod tickets;
+mod visiting;
 
+pub use answering::{made_by, removal_answered};
 pub use asking::{asks_registry, is_any_live};
 pub use completion::{Ending, drop_request, ending_of};
-pub use duties::{duty_owed, has_duty, removal_of};
+pub use duties::{duty_owed, has_duty, owes_nothing, removal_after};
 pub use following::{close_due, get_due};
 pub use pieces::{hold_pieces, piece_count, send_pieces};
-pub use resting::{are_done_with, is_done_with};
-pub use sending::{copy_of, first_due, leave, may_take, send_off, send_on};
+pub use resting::{are_done_with, are_settled, is_done_with};
+pub use sending::{begin_walk, copy_of, first_due, leave, may_take, send_off, send_on};
 pub use serving::{Next, next_due};
-pub use stopping::{drop_left, drop_unsent, stop_waiting};
+pub use stopping::{abortable, drop_left, drop_unsent, stop_waiting};
 pub use tickets::{next_ticket, spend};
+pub use visiting::visitor;
