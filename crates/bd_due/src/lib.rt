@@ -1,6 +1,7 @@
-//! What is due on a thread, over what it sees: how a request completes, which pieces are to be put and which
-//! no longer, where a walk goes next, which event does what the thread owes, what has to follow an event, and
-//! what the thread has to ask the registry for.
+//! What is due on a thread, over what it sees: how a request completes and whether it may be aborted, which
+//! pieces are to be put and which no longer, which is served next, whether a walk visits and where it goes next,
+//! which event does what the thread owes, what has to follow an event, what an answer of the registry makes of
+//! the thread, and what the thread has to ask the registry for.
 #![tactic(auto)]
 
 mod answering;

@@ -1,5 +1,5 @@
-//! Which request may be aborted, and what an abort stops: the request waits at no limited device, and its pieces that wait unsent are no longer
-//! to be put; nor are they where a request completes without success.
+//! Which request may be aborted, and what an abort stops: the request waits at no limited device, and its pieces
+//! that wait unsent are no longer to be put; nor are they where a request completes without success.
 ghost use Rattle.std.specs.Prelude.{◌≡◌, option_copied, Some};
 ghost use Rattle.bd_machine.specs.Aborts.{stopped};
 ghost use Rattle.bd_machine.specs.Completion.{waits_unsent};

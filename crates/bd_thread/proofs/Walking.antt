@@ -56,22 +56,19 @@ pub record MayBe (t : Thread) (links : Links) (walk : WalkId) (w : OpenWalk) : T
   pub passes : first_failing (guards_visit t.setup.now t.me (view_of t links) walk w.dev w.kind) ≡ None
 
 pub visit_may : (t : Thread) (links : Links) (walk : WalkId) (w : OpenWalk) → visit_due t links walk ≡ Some w → MayBe t links walk w
-visit_may t links walk w due = go (walk_here v walk) refl due
+visit_may t links walk w due = go (walk_here (view_of t links) walk) refl due
   where
-    v : View
-    v = view_of t links
-
-    go : (o : Option OpenWalk) → walk_here v walk ≡ o → if_visited t.setup.now t.me v walk o ≡ Some w → MayBe t links walk w
+    go : (o : Option OpenWalk) → walk_here (view_of t links) walk ≡ o → if_visited t.setup.now t.me (view_of t links) walk o ≡ Some w → MayBe t links walk w
     go None e k = cc
-    go (Some x) e k = may (may_visit t.setup.now t.me v walk x) refl k
+    go (Some x) e k = may (may_visit t.setup.now t.me (view_of t links) walk x) refl k
       where
-        may : (b : Bool) → may_visit t.setup.now t.me v walk x ≡ b → cond b (Some x) None ≡ Some w → MayBe t links walk w
+        may : (b : Bool) → may_visit t.setup.now t.me (view_of t links) walk x ≡ b → cond b (Some x) None ≡ Some w → MayBe t links walk w
         may false m k = cc
         may true m k =
             let same : x ≡ w = cc in
             record {
               here = e ∙ ap Some same;
-              passes = none_is _ (subst (λ (y : OpenWalk). may_visit t.setup.now t.me v walk y ≡ true) same m);
+              passes = none_is _ (subst (λ (y : OpenWalk). may_visit t.setup.now t.me (view_of t links) walk y ≡ true) same m);
             }
 
 -- ---- what the visit changes

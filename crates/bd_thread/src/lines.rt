@@ -11,7 +11,6 @@ ghost use Rattle.bd_due.specs.Following.{close_due};
 ghost use Rattle.bd_thread.specs.Acted.{Acted};
 ghost use Rattle.bd_thread.specs.Lines.{close_asked, made_by, may_ask, may_ask_after, may_close, Claims, Closes, EndsLine, Follows, IsAnswered, IsFollowed, Opens, Removes};
 ghost use Rattle.bd_thread.specs.Requests.{KeepsTickets};
-ghost use Rattle.bd_thread.specs.Seen.{view_of};
 ghost use Rattle.bd_base.specs.declared.event.RegEvent.TheVariants as events;
 
 use crate::links::Links;
