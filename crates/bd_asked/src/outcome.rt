@@ -101,6 +101,7 @@ fn outcome_now<S: Sees>(seen: &S, job: &Job) -> Result<Option<Outcome>, OutOfMem
 }
 
 // How a line ends that no entry decided: it goes on by itself only once it waits for nothing.
+#[tactic(auto, using(crate::proofs::Waiting::waiting))]
 fn undecided_outcome<S: Sees>(seen: &S, job: &Job) -> Result<Option<Outcome>, OutOfMemory>
     ensures { IfOk result (λ o. o ≡ undecided_outcome (S.view_of seen.now) job.now) }
 {
@@ -137,6 +138,7 @@ pub fn outcome_due<S: Sees>(
 }
 
 /// Whether a thread's script is at its end, or its next line waits.
+#[tactic(auto, using(crate::proofs::Waiting::blocked_line, crate::proofs::Waiting::going_line))]
 pub fn is_script_blocked<S: Sees>(seen: &S, setup: &Setup, thread: u32) -> bool
     ensures { result ≡ is_script_blocked setup.now thread (S.view_of seen.now) }
 {
