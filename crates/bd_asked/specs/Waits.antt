@@ -1,5 +1,5 @@
 -- What is known of a thread by its part, as far as the lines of its script wait for it.
-use Rattle.std.specs.Prelude.{Bool, true, false, not, length, List, Option, Some, None}
+use Rattle.std.specs.Prelude.{Bool, true, false, not, length, Option, Some, None}
 use Rattle.bd_base.specs.declared.id.HandleId.{HandleId}
 use Rattle.bd_machine.specs.declared.state.Part.{Part}
 use Rattle.bd_machine.specs.Admission.{is_gone}
