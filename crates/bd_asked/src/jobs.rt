@@ -5,9 +5,10 @@ ghost use Rattle.bd_machine.specs.Requests.{is_new};
 ghost use Rattle.bd_machine.specs.Same.{is_the, same_handle};
 ghost use Rattle.bd_view.specs.Came.{came_shut};
 
-use crate::lines::{MOST_REQUESTS, bound_to, is_open_handle, undecided_job};
+use crate::lines::{bound_to, is_open_handle, undecided_job};
 use bd_base::{ClaimKind, HandleId, Job, Name, Op, ReqId, Setup};
 use bd_machine::{Part, Submitted};
+use bd_user::has_room;
 use bd_view::{Sees, Submission, same_handle_if_any, same_kind, same_op};
 
 /// The number that names no request.
@@ -155,6 +156,6 @@ pub fn is_new<S: Sees>(seen: &S, thread: u32, req: ReqId) -> bool
     let part = seen.part();
     req.thread == thread
         && part.next_request <= req.seq
-        && part.requests.len() < MOST_REQUESTS
+        && has_room(part.requests.len())
         && req.seq < u64::MAX
 }

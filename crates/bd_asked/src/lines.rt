@@ -7,9 +7,6 @@ use bd_base::{HandleId, Job, Line, Name, Script, Setup};
 use bd_machine::Part;
 use bd_view::Sees;
 
-/// The most open requests of a thread.
-pub const MOST_REQUESTS: usize = 1024;
-
 fn lines_of(scripts: &[Script], thread: u32) -> &[Line]
     ensures { result.now ≡ lines_if_any (find (λ s. s.thread == thread) scripts.now) }
 {

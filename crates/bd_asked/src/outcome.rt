@@ -1,11 +1,15 @@
 //! How a script's line ends, and when it waits.
-ghost use Rattle.std.specs.Prelude.{◌≡◌, ◌&&◌, cond, is_none, IfOk, None, Some};
-ghost use Rattle.bd_machine.specs.Asked.{busy_outcome, claim_outcome, close_outcome, decided_outcome, gone_outcome, is_script_blocked, is_waiting_job, outcome_by, outcome_due, undecided_outcome};
+ghost use Rattle.std.specs.Prelude.{◌≡◌, false, IfOk, None, Some};
+ghost use Rattle.bd_asked.specs.Waits.{awaits_removal, known_by};
+ghost use Rattle.bd_machine.specs.Asked.{busy_outcome, claim_outcome, close_outcome, decided_outcome, gone_outcome, is_script_blocked, outcome_by, outcome_due, undecided_outcome};
+ghost use Rattle.bd_machine.specs.declared.state.Part.{Part};
+ghost use Rattle.bd_user.specs.Moves.{waits_for};
 
-use crate::lines::{MOST_REQUESTS, bound_to, has_mark, is_open_handle, next_line, open_on};
+use crate::lines::{bound_to, is_open_handle, next_line, open_on};
+use crate::waits::{next_move, waits_for};
 use bd_base::{Errno, HandleId, Job, OutOfMemory, Outcome, Setup};
-use bd_machine::{Decided, Part};
-use bd_rules::is_gone;
+use bd_machine::Decided;
+use bd_user::Move;
 use bd_view::Sees;
 
 fn decided_outcome(decided: Decided) -> Outcome
@@ -64,23 +68,19 @@ fn close_outcome<S: Sees>(
     }
 }
 
-// How a line ends that waits for the remove event of a handle.
-fn gone_outcome(part: &Part, handle: Option<HandleId>) -> Option<Outcome>
-    ensures { result ≡ gone_outcome part.now handle }
+// How a line ends that waited for the remove event of a handle.
+fn gone_outcome(handle: Option<HandleId>) -> Outcome
+    ensures { (part : Part) → awaits_removal part handle ≡ false → gone_outcome part handle ≡ Some result }
 {
     match handle {
-        Some(id) => done_if(is_gone(part, id)),
-        None => Some(Outcome::Errno(Errno::BadDesc)),
+        Some(_) => Outcome::Done,
+        None => Outcome::Errno(Errno::BadDesc),
     }
 }
 
-fn done_if(done: bool) -> Option<Outcome>
-    ensures { result ≡ cond done (Some Outcome.Done) None }
-{
-    if done { Some(Outcome::Done) } else { None }
-}
-
-fn undecided_outcome<S: Sees>(seen: &S, job: &Job) -> Result<Option<Outcome>, OutOfMemory>
+// How a line ends that waits for nothing and that no entry decided.
+fn outcome_now<S: Sees>(seen: &S, job: &Job) -> Result<Option<Outcome>, OutOfMemory>
+    requires { waits_for (known_by (S.view_of seen.now).part) job.now ≡ None }
     ensures { IfOk result (λ o. o ≡ undecided_outcome (S.view_of seen.now) job.now) }
 {
     let part = seen.part();
@@ -95,10 +95,19 @@ fn undecided_outcome<S: Sees>(seen: &S, job: &Job) -> Result<Option<Outcome>, Ou
         Job::Close { handle } => close_outcome(seen, bound_to(part, handle)),
         Job::Claim { handle, .. } => Ok(claim_outcome(seen, bound_to(part, handle))),
         Job::Submit { .. } | Job::Remove { .. } => Ok(None),
-        Job::Wait => Ok(done_if(part.requests.len() == 0)),
-        Job::Sleep(_) | Job::Post(_) => Ok(Some(Outcome::Done)),
-        Job::Await(mark) => Ok(done_if(has_mark(part, mark))),
-        Job::Gone { handle } => Ok(gone_outcome(part, bound_to(part, handle))),
+        Job::Wait | Job::Sleep(_) | Job::Post(_) | Job::Await(_) => Ok(Some(Outcome::Done)),
+        Job::Gone { handle } => Ok(Some(gone_outcome(bound_to(part, handle)))),
+    }
+}
+
+// How a line ends that no entry decided: it goes on by itself only once it waits for nothing.
+#[tactic(auto, using(crate::proofs::Waiting::waiting))]
+fn undecided_outcome<S: Sees>(seen: &S, job: &Job) -> Result<Option<Outcome>, OutOfMemory>
+    ensures { IfOk result (λ o. o ≡ undecided_outcome (S.view_of seen.now) job.now) }
+{
+    match waits_for(seen.part(), job) {
+        Some(_) => Ok(None),
+        None => outcome_now(seen, job),
     }
 }
 
@@ -128,27 +137,15 @@ pub fn outcome_due<S: Sees>(
     }
 }
 
-// Whether a line with this job, which nothing decided, waits: for the open requests, for a mark, for a
-// remove event, or for room.
-fn is_waiting<S: Sees>(seen: &S, job: &Job) -> bool
-    ensures { result ≡ (is_waiting_job (S.view_of seen.now).part job.now && is_none (undecided_outcome (S.view_of seen.now) job.now)) }
-{
-    let part = seen.part();
-    match job {
-        Job::Wait => part.requests.len() != 0,
-        Job::Await(mark) => !has_mark(part, mark),
-        Job::Gone { handle } => gone_outcome(part, bound_to(part, handle)).is_none(),
-        Job::Submit { .. } => MOST_REQUESTS <= part.requests.len(),
-        _ => false,
-    }
-}
-
 /// Whether a thread's script is at its end, or its next line waits.
+#[tactic(auto, using(crate::proofs::Waiting::blocked_line, crate::proofs::Waiting::going_line))]
 pub fn is_script_blocked<S: Sees>(seen: &S, setup: &Setup, thread: u32) -> bool
     ensures { result ≡ is_script_blocked setup.now thread (S.view_of seen.now) }
 {
-    match next_line(setup, thread, seen.part()) {
-        None => true,
-        Some(line) => seen.part().decided.is_none() && is_waiting(seen, &line.job),
+    let part = seen.part();
+    match next_move(part, next_line(setup, thread, part)) {
+        Move::End => true,
+        Move::Blocked(_) => part.decided.is_none(),
+        Move::Do(_) => false,
     }
 }

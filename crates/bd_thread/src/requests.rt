@@ -13,7 +13,7 @@ ghost use Rattle.bd_thread.specs.Seen.{number_of, view_of};
 
 use crate::links::Links;
 use crate::thread::Thread;
-use bd_asked::{MOST_REQUESTS, next_line};
+use bd_asked::next_line;
 use bd_base::{Act, DevId, Errno, HandleId, OutOfMemory, ReqId};
 use bd_blocks::{extents, home};
 use bd_changes::{accepted, completed};
@@ -23,6 +23,7 @@ use bd_due::{
 use bd_machine::{Decided, Id, Kept, Open, OpenRequest};
 use bd_msg::Ticket;
 use bd_rules::{admit, new_request, uncut};
+use bd_user::has_room;
 use bd_view::Submission;
 
 /// Why a submission isn't accepted.
@@ -112,7 +113,7 @@ impl<'a> Thread<'a> {
         ensures refused { IfErr result (λ e. (e.1 ≡ ticket) × Refuses e.0 handle asked self.old links.old self.new links.new) }
         ensures tickets { OnOk result (KeepsTickets self.old → KeepsTickets self.new) }
     {
-        if MOST_REQUESTS <= self.part.requests.len() {
+        if !has_room(self.part.requests.len()) {
             return Err((Refused::Full, ticket));
         }
         let req = ticket.id();

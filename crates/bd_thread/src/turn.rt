@@ -11,12 +11,13 @@ ghost use Rattle.bd_registry.specs.State.{rows_of};
 use crate::links::Links;
 use crate::requests::Refused;
 use crate::thread::Thread;
-use bd_asked::{MOST_REQUESTS, bound_to, undecided_job};
+use bd_asked::{bound_to, undecided_job};
 use bd_base::{DevId, Errno, HandleId, Job, OutOfMemory, Token};
 use bd_due::{first_due, next_ticket};
 use bd_links::is_full;
 use bd_machine::Id;
 use bd_rules::has_range;
+use bd_user::has_room;
 use bd_view::Submission;
 
 /// How many messages a turn takes, pieces of a store it serves, and lines it does, at most (SPDK's
@@ -88,7 +89,7 @@ impl<'a> Thread<'a> {
         ensures quiet { OnOk result (Idles NoSubmission self.old links.old self.new links.new) }
         ensures alone { OnOk result (AsksNothing links.old links.new) }
     {
-        if links.shut || MOST_REQUESTS <= self.part.requests.len() {
+        if links.shut || !has_room(self.part.requests.len()) {
             return Ok(false);
         }
         let Some(

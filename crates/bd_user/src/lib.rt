@@ -1,10 +1,12 @@
-//! The next move of one thread's script, from what its thread sees.
+//! The next move of one thread's script, from what is known of its thread.
 #![tactic(auto)]
 
-mod law;
+mod known;
 mod moves;
+mod room;
 mod user;
 
-pub use law::agrees_with_machine;
+pub use known::Knows;
 pub use moves::{Move, Why};
-pub use user::User;
+pub use room::{MOST_REQUESTS, has_room};
+pub use user::{User, next_move, waits_for};

@@ -1,13 +1,52 @@
 //! A script as one thread goes through it.
-ghost use Rattle.std.specs.Prelude.{◌≡◌, drop};
-ghost use Rattle.bd_user.specs.Moves.{IsNextMove, awaits_removal, waits_for};
+ghost use Rattle.std.specs.Prelude.{◌≡◌, drop, option_copied, slice_get};
+ghost use Rattle.bd_user.specs.Moves.{IsNextMove, waits_for};
 
+use crate::known::Knows;
 use crate::moves::{Move, Why};
-use bd_base::{Job, Line, Name, View};
+use crate::room::has_room;
+use bd_base::{Job, Line};
 use std::marker::Model;
 
-/// How many requests of a thread may be open at once.
-const MOST_REQUESTS: u32 = 1024;
+/// What a line with this command waits for, where it waits:
+///
+/// - A submission waits for `Room` while 1,024 requests are open, whatever it submits.
+/// - `wait` waits for `Requests` while any is open.
+/// - `sleep` waits for `Time` until it is over.
+/// - `await` waits for its `Mark` until the thread took it.
+/// - `gone` waits for `Gone` until the thread took the handle's remove event; on a name that
+///   isn't bound it doesn't wait.
+/// - Nothing else waits.
+pub fn waits_for<K: Knows>(known: &K, job: &Job) -> Option<Why>
+    ensures { result ≡ waits_for (K.known_of known.now) job.now }
+{
+    match job {
+        Job::Submit { .. } => (!has_room(known.requests())).then_some(Why::Room),
+        Job::Wait => (known.requests() > 0).then_some(Why::Requests),
+        Job::Sleep(micros) => (!known.has_slept(*micros)).then_some(Why::Time),
+        Job::Await(mark) => (!known.has_mark(mark)).then_some(Why::Mark),
+        Job::Gone { handle } => known.awaits_removal(handle).then_some(Why::Gone),
+        Job::Open { .. }
+        | Job::Close { .. }
+        | Job::Claim { .. }
+        | Job::Remove { .. }
+        | Job::Post(_) => None,
+    }
+}
+
+/// What a script may do now whose next line this is: `End` exactly where there is none, `Blocked` exactly
+/// where it waits, with what it waits for, and else `Do` with its command.
+pub fn next_move<'a, K: Knows>(known: &K, line: Option<&'a Line>) -> Move<'a>
+    ensures { IsNextMove (option_copied line.entry) (K.known_of known.entry.now) result }
+{
+    match line {
+        None => Move::End,
+        Some(line) => match waits_for(known, &line.job) {
+            None => Move::Do(&line.job),
+            Some(why) => Move::Blocked(why),
+        },
+    }
+}
 
 /// The lines of a script that are left, seen as their list.
 #[derive(Debug, Drop)]
@@ -32,27 +71,11 @@ impl<'a> User<'a> {
         User { left: lines }
     }
 
-    /// What the script may do now: `End` exactly where no line is left, `Blocked` exactly where the
-    /// next line waits, with what it waits for, and else `Do` with the next line's command.
-    ///
-    /// - A submission waits for `Room` while 1,024 requests are open, whatever it submits.
-    /// - `wait` waits for `Requests` while any is open.
-    /// - `sleep` waits for `Time` until its microseconds passed since the line was first met. The
-    ///   moment to wait for is at most the last one that a u64 can say.
-    /// - `await` waits for its `Mark` until the thread took it.
-    /// - `gone` waits for `Gone` until the thread took the handle's remove event; on a name that
-    ///   isn't bound it doesn't wait.
-    /// - Nothing else waits.
-    pub fn next(&self, view: &View) -> Move<'a>
-        ensures { IsNextMove self.now view.entry.now result }
+    /// What the script may do now, by its first line that is left.
+    pub fn next<K: Knows>(&self, known: &K) -> Move<'a>
+        ensures { IsNextMove (slice_get self.now 0) (K.known_of known.entry.now) result }
     {
-        match self.left {
-            [] => Move::End,
-            [line, ..] => match waits_for(&line.job, view) {
-                None => Move::Do(&line.job),
-                Some(why) => Move::Blocked(why),
-            },
-        }
+        next_move(known, self.left.get(0))
     }
 
     /// The next line was done: goes to the one after it. At the end it stays there.
@@ -63,29 +86,4 @@ impl<'a> User<'a> {
             self.left = rest;
         }
     }
-}
-
-// What a command waits for, where it waits.
-fn waits_for(job: &Job, view: &View) -> Option<Why>
-    ensures { result ≡ waits_for view.entry.now job.now }
-{
-    match job {
-        Job::Submit { .. } => (view.requests >= MOST_REQUESTS).then_some(Why::Room),
-        Job::Wait => (view.requests > 0).then_some(Why::Requests),
-        Job::Sleep(micros) => (view.now < view.met.saturating_add(*micros)).then_some(Why::Time),
-        Job::Await(mark) => (!view.marks.has(mark)).then_some(Why::Mark),
-        Job::Gone { handle } => is_gone_due(handle, view).then_some(Why::Gone),
-        Job::Open { .. }
-        | Job::Close { .. }
-        | Job::Claim { .. }
-        | Job::Remove { .. }
-        | Job::Post(_) => None,
-    }
-}
-
-// Whether the name is bound to a handle whose remove event the thread hasn't taken.
-fn is_gone_due(handle: &Name, view: &View) -> bool
-    ensures { result ≡ awaits_removal view.entry.now handle.now }
-{
-    view.bound.has(handle) && !view.gone.has(handle)
 }
