@@ -1,0 +1,5 @@
+//! The blocks of a malloc device as pages that are taken at the first write.
+#![tactic(auto)]
+
+mod page;
+mod table;
