@@ -1,9 +1,9 @@
 -- A place among the pieces into which bytes are cut.
-use Rattle.std.proofs.Common.{◌≡◌, ℕ, zero, suc, ◌+◌, ◌-◌, ◌*◌, ◌<◌, ◌≤◌, min, List, [], ◌∷◌, ◌++◌, length, take, drop, get_or, set, refl, sym, ◌∙◌, ap, subst, arith, length-append}
+use Rattle.std.proofs.Common.{◌≡◌, ℕ, zero, suc, ◌+◌, ◌-◌, ◌*◌, ◌/◌, ◌<◌, ◌≤◌, min, List, [], ◌∷◌, ◌++◌, length, take, drop, get_or, set, refl, sym, ◌∙◌, ap, subst, arith, length-append}
 use Rattle.std.specs.List.{concat}
 use Rattle.std.proofs.lemmas.List.{take-append-le, drop-append-le, length-drop}
 use Rattle.bd_pages.specs.Bytes.{written}
-use Rattle.bd_pages.specs.Table.{IsCut}
+use Rattle.bd_pages.specs.Table.{IsCut, pages_of}
 use Rattle.bd_pages.proofs.Splices.{drop_past, written_past, written_front}
 
 -- all pieces have all bytes
@@ -13,6 +13,7 @@ cut_length len (b ∷ bs) c =
     let rest = cut_length (len - 65536) bs c.2 in
     let here = c.1 in
     omega (arith, here, rest, length-append b (concat bs))
+
 -- a piece in place of one as long
 pub cut_set : (len : ℕ) (bs : List (List ℕ)) (n : ℕ) (b : List ℕ) → IsCut len bs → length b ≡ length (get_or bs n b) → IsCut len (set bs n b)
 cut_set len [] n b c e = c
@@ -66,3 +67,30 @@ set_at len (x ∷ bs) (suc n) a at new b c lt inside e is =
     let whole = full len x bs n c lt' in
     ap (λ (ys : List ℕ). x ++ ys) (set_at (len - 65536) bs n a (65536 * n + a) new b c.2 lt' inside refl is)
     ∙ written_past x (concat bs) new (65536 * n + a) at (omega (arith, e, whole))
+
+-- where a range ends there is a piece, or the end
+covers : (len : ℕ) (bs : List (List ℕ)) → IsCut len bs → len ≤ 65536 * length bs
+covers len [] c = omega (arith, c)
+covers len (b ∷ bs) c = let rest = covers (len - 65536) bs c.2 in omega (arith, rest)
+
+pub end_inside : (len : ℕ) (bs : List (List ℕ)) (at n : ℕ) → IsCut len bs → at + n ≤ len → at / 65536 + pages_of at n ≤ length bs
+end_inside len bs at zero c inside = let all = covers len bs c in omega (arith, inside, all)
+end_inside len bs at (suc m) c inside =
+    let there = piece_there len bs ((at + m) / 65536) c (omega (arith, inside)) in
+    let order : at / 65536 ≤ (at + m) / 65536 = omega arith in
+    omega (arith, there, order)
+
+-- one page more of zeros
+pub pages_step : (left count : ℕ) → 0 < left → count ≡ min left 65536 → pages_of 0 left ≡ suc (pages_of 0 (left - count))
+pages_step left count some e = go left (left - count) refl some e
+  where
+    go : (left rest : ℕ) → rest ≡ left - count → 0 < left → count ≡ min left 65536 → pages_of 0 left ≡ suc (pages_of 0 rest)
+    go zero rest is some e = absurd (omega (arith, some))
+    go (suc m) zero is some e = omega (arith, is, e)
+    go (suc m) (suc j) is some e = omega (arith, is, e)
+
+-- one piece more
+pub cut_more : (left count : ℕ) (b : List ℕ) (rest : List (List ℕ)) → 0 < left → count ≡ min left 65536 → length b ≡ count → IsCut (left - count) rest → IsCut left (b ∷ rest)
+cut_more left count b rest some e long c =
+    let less : left - count ≡ left - 65536 = omega (arith, e) in
+    (some, omega (arith, e, long), subst (λ (n : ℕ). IsCut n rest) less c)

@@ -1,13 +1,13 @@
 -- Pages that are changed one after another.
-use Rattle.std.proofs.Common.{◌≡◌, ℕ, zero, suc, ◌+◌, ◌-◌, ◌*◌, ◌/◌, ◌%◌, ◌<◌, ◌≤◌, inl, inr, Bool, true, List, [], ◌∷◌, ◌++◌, length, map, take, drop, get_or, set, refl, sym, ◌∙◌, ap, subst, arith}
+use Rattle.std.proofs.Common.{◌≡◌, ℕ, zero, suc, ◌+◌, ◌-◌, ◌*◌, ◌/◌, ◌%◌, ◌<◌, ◌≤◌, min, inl, inr, Bool, true, false, List, [], ◌∷◌, ◌++◌, length, map, take, drop, get_or, set, replicate, refl, sym, ◌∙◌, ap, subst, append_assoc, arith}
 use Rattle.std.proofs.lemmas.Bool.{cases_eq}
-use Rattle.std.proofs.lemmas.List.{get_or_default, get_or-set_same, get_or-set_other, length-map}
+use Rattle.std.proofs.lemmas.List.{append-nil, get_or_default, get_or-set_same, get_or-set_other, length-map, length-replicate, replicate-append-replicate, take_more}
 use Rattle.std.specs.List.{concat}
 use Rattle.bd_pages.specs.Bytes.{written}
 use Rattle.bd_pages.specs.Leaf.{Leaf}
 use Rattle.bd_pages.specs.Table.{IsCut, SameContents, flat, marks, pages_of, pieces}
 use Rattle.bd_pages.proofs.Splices.{length_written}
-use Rattle.bd_pages.proofs.Cuts.{cut_set, piece_there, piece_length, read_at, set_at}
+use Rattle.bd_pages.proofs.Cuts.{cut_more, cut_set, pages_step, piece_there, piece_length, read_at, set_at}
 
 -- a page in place of one that shows the same
 pub map_set_same : {X : Type 0} (f : Leaf → X) (pages : List Leaf) (n : ℕ) (p : Leaf) → f p ≡ f (get_or pages n p) → map f (set pages n p) ≡ map f pages
@@ -112,3 +112,42 @@ module _ (len : ℕ) (pages : List Leaf) (place count : ℕ) where
       page_cut =
           subst (IsCut len) (sym (map_set (λ (x : Leaf). x.bytes) pages (place / 65536) q))
           (cut_set len (pieces pages) (place / 65536) q.bytes cut (ap length wrote ∙ length_written (place % 65536) new page.bytes has ∙ ap length (sym (piece q.bytes))))
+
+-- one page more
+pub map_more : {X : Type 0} (f : Leaf → X) (pages : List Leaf) (p : Leaf) (rest : List X) → map f (pages ++ p ∷ []) ++ rest ≡ map f pages ++ (f p ∷ rest)
+map_more f [] p rest = refl
+map_more {X} f (q ∷ qs) p rest = ap (λ (xs : List X). f q ∷ xs) (map_more f qs p rest)
+
+pub flat_more : (pages : List Leaf) (p : Leaf) → flat (pages ++ p ∷ []) ≡ flat pages ++ p.bytes
+flat_more [] p = append-nil p.bytes
+flat_more (q ∷ qs) p = ap (λ (xs : List ℕ). q.bytes ++ xs) (flat_more qs p) ∙ sym (append_assoc q.bytes (flat qs) p.bytes)
+
+pub flat_next : (pages : List Leaf) (i : ℕ) (p : Leaf) → i < length pages → p ≡ get_or pages i p → flat (take (i + 1) pages) ≡ flat (take i pages) ++ p.bytes
+flat_next pages i p lt is =
+    ap flat (take_more pages i p lt ∙ ap (λ (q : Leaf). take i pages ++ q ∷ []) (sym is)) ∙ flat_more (take i pages) p
+
+-- a blank page more
+module _ (pages now : List Leaf) (p : Leaf) (left count : ℕ) (grown : now ≡ pages ++ p ∷ []) (blank : p ≡ record { bytes = replicate count 0; ready = false; taken = false }) where
+  pub blank_bytes : (all : List ℕ) → count ≤ left → flat pages ++ replicate left 0 ≡ all → flat now ++ replicate (left - count) 0 ≡ all
+  blank_bytes all few is =
+      let zeros : ℕ → List ℕ = λ n. replicate n 0 in
+      let whole : count + (left - count) ≡ left = omega (arith, few) in
+      ap (λ (xs : List ℕ). xs ++ zeros (left - count)) (ap flat grown ∙ flat_more pages p)
+      ∙ append_assoc (flat pages) p.bytes (zeros (left - count))
+      ∙ ap (λ (xs : List ℕ). flat pages ++ xs) (ap (λ (q : Leaf). q.bytes ++ zeros (left - count)) blank ∙ replicate-append-replicate count (left - count) 0 ∙ ap zeros whole)
+      ∙ is
+
+  pub blank_cut : (len : ℕ) → 0 < left → count ≡ min left 65536 → ((rest : List (List ℕ)) → IsCut left rest → IsCut len (pieces pages ++ rest)) → (rest : List (List ℕ)) → IsCut (left - count) rest → IsCut len (pieces now ++ rest)
+  blank_cut len some e before rest c =
+      let long : length p.bytes ≡ count = ap (λ (q : Leaf). length q.bytes) blank ∙ length-replicate count 0 in
+      subst (IsCut len) (sym (ap (λ (ps : List Leaf). pieces ps ++ rest) grown ∙ map_more (λ (q : Leaf). q.bytes) pages p rest))
+      (before (p.bytes ∷ rest) (cut_more left count p.bytes rest some e long c))
+
+  pub blank_marks : (all : List Bool) → 0 < left → count ≡ min left 65536 → marks pages ++ replicate (pages_of 0 left) false ≡ all → marks now ++ replicate (pages_of 0 (left - count)) false ≡ all
+  blank_marks all some e is =
+      let unmarked : ℕ → List Bool = λ n. replicate n false in
+      ap (λ (ps : List Leaf). marks ps ++ unmarked (pages_of 0 (left - count))) grown
+      ∙ map_more (λ (q : Leaf). q.taken) pages p (unmarked (pages_of 0 (left - count)))
+      ∙ ap (λ (q : Leaf). marks pages ++ (q.taken ∷ unmarked (pages_of 0 (left - count)))) blank
+      ∙ ap (λ (n : ℕ). marks pages ++ unmarked n) (sym (pages_step left count some e))
+      ∙ is

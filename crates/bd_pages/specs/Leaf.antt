@@ -1,5 +1,5 @@
 -- A page: a part of the bytes of a device.
-use Rattle.std.specs.Prelude.{◌≡◌, ℕ, Bool, true, false, List, length, replicate, Option, Some, None}
+use Rattle.std.specs.Prelude.{◌≡◌, ℕ, Bool, false, List, length, replicate, Option, Some, None}
 
 -- its bytes, whether there is memory for them, and whether a write touched it
 pub record Leaf : Type 0 where

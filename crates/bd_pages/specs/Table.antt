@@ -1,5 +1,5 @@
 -- The pages of a device in order.
-use Rattle.std.specs.Prelude.{◌≡◌, ℕ, zero, suc, ◌+◌, ◌-◌, ◌*◌, ◌/◌, ◌<◌, ◌≤◌, min, Bool, true, List, [], ◌∷◌, length, map, replicate, slice_index_or}
+use Rattle.std.specs.Prelude.{◌≡◌, ℕ, zero, suc, ◌+◌, ◌-◌, ◌/◌, ◌<◌, ◌≤◌, min, Bool, true, List, [], ◌∷◌, length, map, replicate, slice_index_or}
 use Rattle.std.specs.List.{concat}
 use Rattle.bd_pages.specs.Bytes.{written}
 use Rattle.bd_pages.specs.Leaf.{Leaf}

@@ -2,4 +2,7 @@
 #![tactic(auto)]
 
 mod page;
+mod pages;
 mod table;
+
+pub use pages::Pages;

@@ -1,9 +1,11 @@
 //! One page: a part of a device's bytes, which takes memory only once a write needs it.
-ghost use Rattle.std.specs.Prelude.{◌≡◌, ◌+◌, ◌≤◌, ◌++◌, true, false, length, replicate, take, drop, OnOk, OnErr};
+ghost use Rattle.std.specs.Prelude.{◌≡◌, ◌+◌, ◌≤◌, ◌++◌, ℕ, List, true, false, length, min, replicate, take, drop, OnOk, OnErr};
+ghost use Rattle.sha2.specs.Hashers.{Holds256};
 ghost use Rattle.bd_pages.specs.Bytes.{written};
 ghost use Rattle.bd_pages.specs.Leaf.{Leaf};
 
 use bd_base::OutOfMemory;
+use sha2::{Digest, Sha256};
 use std::alloc::Global;
 use std::marker::Model;
 
@@ -35,6 +37,29 @@ fn append_zeros(to: &mut Vec<u8>, n: usize) -> Result<(), OutOfMemory>
         None => return Err(OutOfMemory),
     }
     Ok(())
+}
+
+// How many zeros a hasher is fed at a time.
+const ZEROS: usize = 1_024;
+
+// The lesser of two.
+fn least(n: usize, most: usize) -> usize
+    ensures { result ≡ min n most }
+{
+    if n < most { n } else { most }
+}
+
+// Feeds zeros to a hasher. It takes no memory.
+fn feed_zeros(hasher: &mut Sha256, n: usize)
+    ensures { (m : List ℕ) → Holds256 hasher.old m → Holds256 hasher.new (m ++ replicate n 0) }
+{
+    let zeros = [0; ZEROS];
+    let mut done = 0;
+    while done < n {
+        let count = least(n - done, ZEROS);
+        hasher.update(&zeros[..count]);
+        done += count;
+    }
 }
 
 impl Page {
@@ -117,5 +142,15 @@ impl Page {
             None => append_zeros(to, n)?,
         }
         Ok(())
+    }
+
+    /// Feeds its bytes to a hasher. It takes no memory.
+    pub(crate) fn feed(&self, hasher: &mut Sha256)
+        ensures { (m : List ℕ) → Holds256 hasher.old m → Holds256 hasher.new (m ++ self.now.bytes) }
+    {
+        match &self.memory {
+            Some(memory) => hasher.update(memory.as_slice()),
+            None => feed_zeros(hasher, self.len),
+        }
     }
 }

@@ -1,5 +1,5 @@
 //! The pages of a device in order: their bytes, read and written over several pages.
-ghost use Rattle.std.specs.Prelude.{◌≡◌, ◌+◌, ◌*◌, ◌/◌, ◌%◌, ◌-◌, ◌^◌, ◌<◌, ◌≤◌, ◌++◌, ℕ, Bool, true, false, min, length, replicate, take, drop, IfOk, OnOk, slice_index_or, count_by};
+ghost use Rattle.std.specs.Prelude.{◌≡◌, ◌+◌, ◌*◌, ◌/◌, ◌%◌, ◌-◌, ◌^◌, ◌<◌, ◌≤◌, ◌++◌, ℕ, Bool, true, false, min, length, replicate, take, drop, IfOk, OnOk, OnErr, slice_index_or, count_by};
 ghost use Rattle.sha2.specs.Sha256.{sha256};
 ghost use Rattle.bd_pages.specs.Bytes.{written};
 ghost use Rattle.bd_pages.specs.Leaf.{Leaf};
@@ -7,6 +7,7 @@ ghost use Rattle.bd_pages.specs.Table.{AreReady, AreTaken, IsPaged, SameContents
 
 use crate::page::Page;
 use bd_base::OutOfMemory;
+use sha2::{Digest, Sha256};
 use std::alloc::Global;
 
 /// How many bytes a page has.
@@ -17,11 +18,7 @@ fn reach(at: usize, n: usize) -> usize
     ensures { result ≡ min n (65536 - at % 65536) }
 {
     let left = PAGE - at % PAGE;
-    if n < left {
-        n
-    } else {
-        left
-    }
+    if n < left { n } else { left }
 }
 
 // The page behind that of a range's last byte; for no bytes that of its place.
@@ -36,13 +33,24 @@ fn end_of(at: usize, n: usize) -> usize
     }
 }
 
+/// So many zeros, on pages that take no memory. The table of the pages takes some.
+pub(crate) fn blank(alloc: Global, len: usize) -> Result<Vec<Page>, OutOfMemory>
+    ensures bytes { IfOk result (λ pages. flat pages.items ≡ replicate len 0) }
+    ensures paged { IfOk result (λ pages. IsPaged pages.items) }
+    ensures taken { IfOk result (λ pages. marks pages.items ≡ replicate (pages_of 0 len) false) }
+{
+    let mut pages = Vec::with_capacity(alloc, end_of(0, len))?;
+    let mut left = len;
+    while left > 0 {
+        let count = reach(0, left);
+        pages.push(Page::blank(count))?;
+        left -= count;
+    }
+    Ok(pages)
+}
+
 /// Appends the `n` bytes from a place on. Out of memory leaves what is appended unspecified.
-pub(crate) fn read(
-    pages: &[Page],
-    at: usize,
-    n: usize,
-    to: &mut Vec<u8>,
-) -> Result<(), OutOfMemory>
+pub(crate) fn read(pages: &[Page], at: usize, n: usize, to: &mut Vec<u8>) -> Result<(), OutOfMemory>
     requires paged { IsPaged pages.now }
     requires inside { at + n ≤ length (flat pages.now) }
     requires small { at + n < 2 ^ 64 }
@@ -58,8 +66,8 @@ pub(crate) fn read(
     Ok(())
 }
 
-/// Writes bytes from a place on, on pages that are taken.
-pub(crate) fn put(pages: &mut [Page], at: usize, bytes: &[u8])
+// Writes bytes from a place on, on pages that are taken.
+fn put(pages: &mut [Page], at: usize, bytes: &[u8])
     requires paged { IsPaged pages.old }
     requires inside { at + length bytes.now ≤ length (flat pages.old) }
     requires small { at + length bytes.now < 2 ^ 64 }
@@ -129,4 +137,56 @@ fn mark(pages: &mut [Page], first: usize, end: usize)
     for k in first..end {
         pages[k].mark();
     }
+}
+
+/// Writes bytes from a place on. Every page that they need is taken before anything changes; out of
+/// memory, the bytes and the pages taken are as they were, and memory that was taken is given back.
+pub(crate) fn write(
+    alloc: Global,
+    pages: &mut [Page],
+    at: usize,
+    bytes: &[u8],
+) -> Result<(), OutOfMemory>
+    requires paged { IsPaged pages.old }
+    requires inside { at + length bytes.now ≤ length (flat pages.old) }
+    requires small { at + length bytes.now < 2 ^ 64 }
+    ensures paged { IsPaged pages.new }
+    ensures len { length (flat pages.new) ≡ length (flat pages.old) }
+    ensures bytes { OnOk result (flat pages.new ≡ written at bytes.now (flat pages.old)) }
+    ensures taken { OnOk result (marks pages.new ≡ touched at (length bytes.now) (marks pages.old)) }
+    ensures err { OnErr result (SameContents pages.old pages.new) }
+{
+    let first = at / PAGE;
+    let end = end_of(at, bytes.len());
+    if let Err(e) = prepare(alloc, pages, first, end) {
+        release(pages, first, end);
+        return Err(e);
+    }
+    mark(pages, first, end);
+    put(pages, at, bytes);
+    Ok(())
+}
+
+/// The SHA-256 of all bytes. It takes no memory.
+pub(crate) fn digest(pages: &[Page]) -> [u8; 32]
+    ensures { result ≡ sha256 (flat pages.now) }
+{
+    let mut hasher = Sha256::new();
+    for page in pages {
+        page.feed(&mut hasher);
+    }
+    hasher.finalize()
+}
+
+/// How many pages are taken.
+pub(crate) fn count(pages: &[Page]) -> u64
+    ensures { result ≡ count_by (λ page. page.taken) pages.now }
+{
+    let mut count = 0;
+    for page in pages {
+        if page.is_taken() {
+            count += 1;
+        }
+    }
+    count
 }

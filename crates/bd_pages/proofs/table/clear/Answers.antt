@@ -1,8 +1,8 @@
-use Rattle.std.proofs.Common.{◌≡◌, ◌+◌, ◌-◌, ◌/◌, ◌%◌, ◌<◌, ◌≤◌, ◌++◌, ℕ, List, length, replicate, ap, sym, ◌∙◌, arith}
+use Rattle.std.proofs.Common.{◌≡◌, ◌+◌, ◌/◌, ℕ, List, length, replicate, ap, ◌∙◌, arith}
 use Rattle.std.proofs.lemmas.List.{length-replicate, replicate-append-replicate}
 use Rattle.bd_pages.specs.Bytes.{written}
 use Rattle.bd_pages.specs.Leaf.{Leaf}
-use Rattle.bd_pages.specs.Table.{flat, marks}
+use Rattle.bd_pages.specs.Table.{flat}
 use Rattle.bd_pages.proofs.Splices.{written_twice}
 use Rattle.bd_pages.proofs.Steps.{map_stays, page_there, page_has, page_put, page_cut}
 use Rattle.bd_pages.proofs.table.clear.Goals as goal

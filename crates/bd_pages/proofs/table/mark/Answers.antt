@@ -1,4 +1,4 @@
-use Rattle.std.proofs.Common.{◌≡◌, ◌∙◌, ◌-◌, ◌<◌, Bool, true, List, length, map, set, replicate, ap, sym, arith}
+use Rattle.std.proofs.Common.{◌∙◌, ◌<◌, Bool, true, List, length, set, ap, arith}
 use Rattle.std.proofs.lemmas.List.{length-map, length-set}
 use Rattle.bd_pages.specs.Leaf.{Leaf}
 use Rattle.bd_pages.specs.Table.{marks}

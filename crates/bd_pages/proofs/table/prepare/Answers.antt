@@ -1,4 +1,4 @@
-use Rattle.std.proofs.Common.{◌∙◌, ap, arith, refl}
+use Rattle.std.proofs.Common.{◌∙◌, ap, arith}
 use Rattle.std.proofs.lemmas.List.{length-set}
 use Rattle.bd_pages.specs.Leaf.{Leaf}
 use Rattle.bd_pages.proofs.Steps.{contents_stay, holds_next}

@@ -1,9 +1,8 @@
-use Rattle.std.proofs.Common.{◌≡◌, ◌+◌, ◌-◌, ◌/◌, ◌%◌, ◌<◌, ◌≤◌, ◌++◌, ℕ, List, length, take, drop, set, length-append, ap, subst, sym, ◌∙◌, arith}
-use Rattle.std.proofs.lemmas.List.{length-take, length-take-le, length-drop, length-map}
+use Rattle.std.proofs.Common.{◌≡◌, ◌+◌, ◌-◌, ◌/◌, ◌++◌, ℕ, List, length, take, drop, ap, sym, ◌∙◌, arith}
+use Rattle.std.proofs.lemmas.List.{length-take, length-take-le, length-drop}
 use Rattle.bd_pages.specs.Bytes.{written}
 use Rattle.bd_pages.specs.Leaf.{Leaf}
-use Rattle.bd_pages.specs.Table.{flat, marks}
-use Rattle.bd_pages.proofs.Cuts.{cut_length}
+use Rattle.bd_pages.specs.Table.{flat}
 use Rattle.bd_pages.proofs.Splices.{take_more, written_twice}
 use Rattle.bd_pages.proofs.Steps.{map_stays, page_there, page_has, page_put, page_cut, page_within, taken_same}
 use Rattle.bd_pages.proofs.table.put.Goals as goal

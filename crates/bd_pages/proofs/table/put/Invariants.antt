@@ -1,6 +1,6 @@
-use Rattle.std.proofs.Common.{◌≡◌, ◌+◌, ◌/◌, ◌-◌, ◌≤◌, ◌++◌, length, take}
+use Rattle.std.proofs.Common.{◌≡◌, ◌-◌, ◌≤◌, length, take}
 use Rattle.bd_pages.specs.Bytes.{written}
-use Rattle.bd_pages.specs.Table.{flat, marks, IsCut, pieces, AreTaken, pages_of}
+use Rattle.bd_pages.specs.Table.{flat, marks, IsCut, pieces}
 use Rattle.bd_pages.proofs.table.put.Given as goal
 
 abbrev pub invariant-loop-done : goal.invariant-loop-done

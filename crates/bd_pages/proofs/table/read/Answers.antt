@@ -1,4 +1,4 @@
-use Rattle.std.proofs.Common.{◌≡◌, ◌+◌, ◌-◌, ◌/◌, ◌%◌, ◌<◌, ◌≤◌, ◌++◌, ℕ, List, length, take, drop, append_assoc, ap, subst, sym, ◌∙◌, arith}
+use Rattle.std.proofs.Common.{◌+◌, ◌%◌, ◌≤◌, ◌++◌, ℕ, List, length, take, drop, append_assoc, ap, subst, sym, ◌∙◌, arith}
 use Rattle.std.proofs.lemmas.List.{drop-drop}
 use Rattle.bd_pages.specs.Leaf.{Leaf}
 use Rattle.bd_pages.specs.Table.{flat}
