@@ -1,5 +1,5 @@
 -- Bytes as blocks.
-use Rattle.std.proofs.Common.{◌≡◌, ℕ, zero, suc, ◌+◌, ◌-◌, ◌*◌, ◌≤◌, List, [], ◌∷◌, ◌++◌, length, take, drop, replicate, refl, sym, ◌∙◌, ap, ap₂, append_assoc, arith}
+use Rattle.std.proofs.Common.{◌≡◌, ℕ, zero, suc, ◌+◌, ◌-◌, ◌*◌, ◌<◌, ◌≤◌, List, [], ◌∷◌, ◌++◌, length, get_or, take, drop, replicate, refl, sym, ◌∙◌, ap, ap₂, append_assoc, arith}
 use Rattle.std.specs.List.{concat}
 use Rattle.std.proofs.Math.Nat.{suc-mul, add-mul, mul-le-mul_right}
 use Rattle.std.proofs.lemmas.List.{length-take-le, length-drop, take-append-le, drop-append-le, drop-drop, take-take, take-replicate, drop-replicate, drop-take}
@@ -105,3 +105,13 @@ zeroed_blocks size (suc n) bytes inside =
     let parts = suc-mul n size in
     let first : length (take size bytes) ≡ size = length-take-le size bytes (omega (arith, inside, parts)) in
     ap₂ (λ (k : ℕ) (bs : List (List ℕ)). let b : List ℕ = replicate k 0 in b ∷ bs) first (zeroed_blocks size n (drop size bytes) (omega (arith, inside, parts, length-drop size bytes)))
+
+-- each block has its size
+pub blocks_even : (size n : ℕ) (bytes : List ℕ) → length bytes ≡ n * size → (k : ℕ) (d : List ℕ) → k < length (blocks_of size n bytes) → length (get_or (blocks_of size n bytes) k d) ≡ size
+blocks_even size zero bytes e k d lt = absurd (omega (arith, lt))
+blocks_even size (suc n) bytes e zero d lt =
+    let parts = suc-mul n size in
+    length-take-le size bytes (omega (arith, e, parts))
+blocks_even size (suc n) bytes e (suc k) d lt =
+    let parts = suc-mul n size in
+    blocks_even size n (drop size bytes) (omega (arith, e, parts, length-drop size bytes)) k d (omega (arith, lt))

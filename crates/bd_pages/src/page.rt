@@ -1,5 +1,5 @@
 //! One page: a part of a device's bytes, which takes memory only once a write needs it.
-ghost use Rattle.std.specs.Prelude.{◌≡◌, ◌+◌, ◌≤◌, ◌++◌, ℕ, List, true, false, length, min, replicate, take, drop, OnOk, OnErr};
+ghost use Rattle.std.specs.Prelude.{◌≡◌, ◌+◌, ◌≤◌, ◌++◌, ℕ, List, true, false, length, min, replicate, take, drop, IfOk, OnOk, OnErr};
 ghost use Rattle.sha2.specs.Hashers.{Holds256};
 ghost use Rattle.bd_pages.specs.Bytes.{written};
 ghost use Rattle.bd_pages.specs.Leaf.{Leaf};
@@ -152,5 +152,20 @@ impl Page {
             Some(memory) => hasher.update(memory.as_slice()),
             None => feed_zeros(hasher, self.len),
         }
+    }
+
+    /// An equal page.
+    pub(crate) fn copy(&self, alloc: Global) -> Result<Page, OutOfMemory>
+        ensures { IfOk result (λ page. page ≡ self.now) }
+    {
+        let memory = match &self.memory {
+            Some(memory) => Some(Vec::from_slice(alloc, memory.as_slice())?),
+            None => None,
+        };
+        Ok(Page {
+            len: self.len,
+            memory,
+            taken: self.taken,
+        })
     }
 }

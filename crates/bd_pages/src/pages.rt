@@ -1,5 +1,5 @@
 //! The blocks of a device over its pages.
-ghost use Rattle.std.specs.Prelude.{◌≡◌, ◌+◌, ◌*◌, ◌≤◌, ◌++◌, false, length, replicate, take, drop, IfOk, OnOk, OnErr, count_by};
+ghost use Rattle.std.specs.Prelude.{◌≡◌, ◌+◌, ◌*◌, ◌≤◌, ◌++◌, false, length, nat_le, replicate, take, drop, All, IfOk, OnOk, OnErr, count_by};
 ghost use Rattle.std.specs.List.{concat};
 ghost use Rattle.sha2.specs.Sha256.{sha256};
 ghost use Rattle.bd_pages.specs.Pages.{Paged, blocks_of, zeroed};
@@ -50,9 +50,10 @@ impl Pages {
         })
     }
 
-    /// The bytes of a block.
+    /// The bytes of a block: every block has so many.
     pub fn size(&self) -> u32
-        ensures { result ≡ self.now.size }
+        ensures value { result ≡ self.now.size }
+        ensures each { All (λ block. length block ≡ result) self.now.blocks }
     {
         self.size
     }
@@ -62,6 +63,14 @@ impl Pages {
         ensures { result ≡ length self.now.blocks }
     {
         self.count as u64
+    }
+
+    /// Whether there are `count` blocks from `lba` on.
+    pub fn has(&self, lba: u64, count: u64) -> bool
+        ensures { result ≡ nat_le (lba + count) (length self.now.blocks) }
+    {
+        let len = self.len();
+        lba <= len && count <= len - lba
     }
 
     /// The bytes of `count` blocks from `lba` on, one block after another.
@@ -125,5 +134,17 @@ impl Pages {
         ensures { result ≡ count_by (λ taken. taken) self.now.taken }
     {
         table::count(self.pages.as_slice())
+    }
+
+    /// Equal blocks, and the same pages are taken.
+    pub fn copy(&self, alloc: Global) -> Result<Pages, OutOfMemory>
+        ensures { IfOk result (λ p. p ≡ self.now) }
+    {
+        let pages = table::copy(alloc, self.pages.as_slice())?;
+        Ok(Pages {
+            pages,
+            count: self.count,
+            size: self.size,
+        })
     }
 }

@@ -190,3 +190,15 @@ pub(crate) fn count(pages: &[Page]) -> u64
     }
     count
 }
+
+/// Equal pages.
+pub(crate) fn copy(alloc: Global, pages: &[Page]) -> Result<Vec<Page>, OutOfMemory>
+    ensures { IfOk result (λ copies. copies.items ≡ pages.now) }
+{
+    let mut copies = Vec::with_capacity(alloc, pages.len())?;
+    for page in pages {
+        let copy = page.copy(alloc)?;
+        copies.push(copy)?;
+    }
+    Ok(copies)
+}
