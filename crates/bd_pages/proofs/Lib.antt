@@ -1,0 +1,5 @@
+pub mod Splices
+pub mod Cuts
+pub mod Steps
+pub mod Chunks
+pub mod Ranges

@@ -1,0 +1,4 @@
+pub mod Bytes
+pub mod Leaf
+pub mod Table
+pub mod Pages

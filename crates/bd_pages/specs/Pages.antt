@@ -1,0 +1,25 @@
+-- The blocks of a device, and the pages that its writes took.
+use Rattle.std.specs.Prelude.{◌≡◌, ℕ, zero, suc, ◌*◌, ◌<◌, ◌^◌, Bool, List, [], ◌∷◌, take, drop, map, length, replicate}
+use Rattle.bd_pages.specs.Leaf.{Leaf}
+use Rattle.bd_pages.specs.Table.{IsPaged, flat}
+
+-- the bytes of a block, its blocks, and for each page whether a write touched it: page n has the device's bytes from 65,536 * n on
+pub record Paged : Type 0 where
+  pub size : ℕ
+  pub blocks : List (List ℕ)
+  pub taken : List Bool
+
+-- bytes as n blocks of that size
+abbrev pub blocks_of : ℕ → ℕ → List ℕ → List (List ℕ)
+blocks_of size zero bytes = []
+blocks_of size (suc n) bytes = take size bytes ∷ blocks_of size n (drop size bytes)
+
+-- blocks as long, of zeros
+abbrev pub zeroed : List (List ℕ) → List (List ℕ)
+zeroed blocks = map (λ b. replicate (length b) 0) blocks
+
+-- the pages have just the bytes of that many blocks
+pub record IsWhole (size count : ℕ) (pages : List Leaf) : Type 0 where
+  pub paged : IsPaged pages
+  pub all : length (flat pages) ≡ count * size
+  pub small : count * size < 2 ^ 64

@@ -1,0 +1,171 @@
+//! One page: a part of a device's bytes, which takes memory only once a write needs it.
+ghost use Rattle.std.specs.Prelude.{◌≡◌, ◌+◌, ◌≤◌, ◌++◌, ℕ, List, true, false, length, min, replicate, take, drop, IfOk, OnOk, OnErr};
+ghost use Rattle.sha2.specs.Hashers.{Holds256};
+ghost use Rattle.bd_pages.specs.Bytes.{written};
+ghost use Rattle.bd_pages.specs.Leaf.{Leaf};
+
+use bd_base::OutOfMemory;
+use sha2::{Digest, Sha256};
+use std::alloc::Global;
+use std::marker::Model;
+
+/// A page, seen as its bytes, whether there is memory for them, and whether a write touched it.
+#[derive(Debug, Drop)]
+pub(crate) struct Page {
+    len: usize,
+    memory: Option<Vec<u8>>,
+    taken: bool,
+}
+
+impl Model for Page {
+    ghost use Rattle.std.specs.Prelude.{is_some, option_map};
+    ghost use Rattle.bd_pages.specs.Leaf.{Leaf, IsPage, bytes_of};
+
+    ghost Value = { Leaf };
+
+    ghost view = { λ p. record { bytes = bytes_of p.len (option_map (λ m. m.items) p.memory); ready = is_some p.memory; taken = p.taken } };
+
+    ghost invariant = { λ p. IsPage p.len (option_map (λ m. m.items) p.memory) p.taken };
+}
+
+// Appends zeros. More bytes than 64 bits count are out of memory.
+fn append_zeros(to: &mut Vec<u8>, n: usize) -> Result<(), OutOfMemory>
+    ensures { OnOk result (to.new.items ≡ to.old.items ++ replicate n 0) }
+{
+    match to.len().checked_add(n) {
+        Some(len) => to.resize(len, 0)?,
+        None => return Err(OutOfMemory),
+    }
+    Ok(())
+}
+
+// How many zeros a hasher is fed at a time.
+const ZEROS: usize = 1_024;
+
+// The lesser of two.
+fn least(n: usize, most: usize) -> usize
+    ensures { result ≡ min n most }
+{
+    if n < most { n } else { most }
+}
+
+// Feeds zeros to a hasher. It takes no memory.
+fn feed_zeros(hasher: &mut Sha256, n: usize)
+    ensures { (m : List ℕ) → Holds256 hasher.old m → Holds256 hasher.new (m ++ replicate n 0) }
+{
+    let zeros = [0; ZEROS];
+    let mut done = 0;
+    while done < n {
+        let count = least(n - done, ZEROS);
+        hasher.update(&zeros[..count]);
+        done += count;
+    }
+}
+
+impl Page {
+    /// Zeros, without memory.
+    pub(crate) fn blank(len: usize) -> Page
+        ensures { result ≡ record { bytes = replicate len 0; ready = false; taken = false } }
+    {
+        Page {
+            len,
+            memory: None,
+            taken: false,
+        }
+    }
+
+    /// Whether a write touched it.
+    pub(crate) fn is_taken(&self) -> bool
+        ensures { result ≡ self.now.taken }
+    {
+        self.taken
+    }
+
+    /// Takes memory, where there is none yet.
+    pub(crate) fn prepare(&mut self, alloc: Global) -> Result<(), OutOfMemory>
+        ensures ok { OnOk result (self.new ≡ record self.old { ready = true }) }
+        ensures err { OnErr result (self.new ≡ self.old) }
+    {
+        if self.memory.is_none() {
+            self.memory = Some(vec![in alloc; 0; self.len]?);
+        }
+        Ok(())
+    }
+
+    /// Gives memory back that no write touched.
+    pub(crate) fn release(&mut self)
+        ensures bytes { self.new.bytes ≡ self.old.bytes }
+        ensures taken { self.new.taken ≡ self.old.taken }
+    {
+        if !self.taken {
+            self.memory = None;
+        }
+    }
+
+    /// From now on a write has touched it.
+    pub(crate) fn mark(&mut self)
+        requires { self.old.ready ≡ true }
+        ensures { self.new ≡ record self.old { taken = true } }
+    {
+        self.taken = true;
+    }
+
+    /// Writes bytes from a place on.
+    pub(crate) fn put(&mut self, at: usize, bytes: &[u8])
+        requires taken { self.old.taken ≡ true }
+        requires inside { at + length bytes.now ≤ length self.old.bytes }
+        ensures { self.new ≡ record self.old { bytes = written at bytes.now self.old.bytes } }
+    {
+        if let Some(memory) = &mut self.memory {
+            memory[at..at + bytes.len()].copy_from_slice(bytes);
+        }
+    }
+
+    /// Makes `n` bytes from a place on 0. It takes no memory.
+    pub(crate) fn clear(&mut self, at: usize, n: usize)
+        requires { at + n ≤ length self.old.bytes }
+        ensures { self.new ≡ record self.old { bytes = written at (replicate n 0) self.old.bytes } }
+    {
+        match &mut self.memory {
+            Some(memory) => memory[at..at + n].fill(0),
+            None => {}
+        }
+    }
+
+    /// Appends `n` bytes from a place on.
+    pub(crate) fn read(&self, at: usize, n: usize, to: &mut Vec<u8>) -> Result<(), OutOfMemory>
+        requires { at + n ≤ length self.now.bytes }
+        ensures { OnOk result (to.new.items ≡ to.old.items ++ take n (drop at self.now.bytes)) }
+    {
+        match &self.memory {
+            Some(memory) => to.extend_from_slice(&memory[at..at + n])?,
+            None => append_zeros(to, n)?,
+        }
+        Ok(())
+    }
+
+    /// Feeds its bytes to a hasher. It takes no memory.
+    pub(crate) fn feed(&self, hasher: &mut Sha256)
+        ensures { (m : List ℕ) → Holds256 hasher.old m → Holds256 hasher.new (m ++ self.now.bytes) }
+    {
+        match &self.memory {
+            Some(memory) => hasher.update(memory.as_slice()),
+            None => feed_zeros(hasher, self.len),
+        }
+    }
+
+    /// An equal page.
+    pub(crate) fn copy(&self, alloc: Global) -> Result<Page, OutOfMemory>
+        ensures { IfOk result (λ page. page ≡ self.now) }
+    {
+        let memory = match &self.memory {
+            Some(memory) => Some(Vec::from_slice(alloc, memory.as_slice())?),
+            None => None,
+        };
+        Ok(Page {
+            len: self.len,
+            memory,
+            taken: self.taken,
+        })
+    }
+}

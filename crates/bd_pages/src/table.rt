@@ -1,0 +1,204 @@
+//! The pages of a device in order: their bytes, read and written over several pages.
+ghost use Rattle.std.specs.Prelude.{◌≡◌, ◌+◌, ◌*◌, ◌/◌, ◌%◌, ◌-◌, ◌^◌, ◌<◌, ◌≤◌, ◌++◌, ℕ, Bool, true, false, min, length, replicate, take, drop, IfOk, OnOk, OnErr, slice_index_or, count_by};
+ghost use Rattle.sha2.specs.Sha256.{sha256};
+ghost use Rattle.bd_pages.specs.Bytes.{written};
+ghost use Rattle.bd_pages.specs.Leaf.{Leaf};
+ghost use Rattle.bd_pages.specs.Table.{AreReady, AreTaken, IsPaged, SameContents, flat, marks, pages_of, pieces, touched};
+
+use crate::page::Page;
+use bd_base::OutOfMemory;
+use sha2::{Digest, Sha256};
+use std::alloc::Global;
+
+/// How many bytes a page has.
+pub(crate) const PAGE: usize = 65_536;
+
+// How many of `n` bytes from a place on are on that place's page.
+fn reach(at: usize, n: usize) -> usize
+    ensures { result ≡ min n (65536 - at % 65536) }
+{
+    let left = PAGE - at % PAGE;
+    if n < left { n } else { left }
+}
+
+// The page behind that of a range's last byte; for no bytes that of its place.
+fn end_of(at: usize, n: usize) -> usize
+    requires { at + n < 2 ^ 64 }
+    ensures { result ≡ at / 65536 + pages_of at n }
+{
+    if n == 0 {
+        at / PAGE
+    } else {
+        (at + n - 1) / PAGE + 1
+    }
+}
+
+/// So many zeros, on pages that take no memory. The table of the pages takes some.
+pub(crate) fn blank(alloc: Global, len: usize) -> Result<Vec<Page>, OutOfMemory>
+    ensures bytes { IfOk result (λ pages. flat pages.items ≡ replicate len 0) }
+    ensures paged { IfOk result (λ pages. IsPaged pages.items) }
+    ensures taken { IfOk result (λ pages. marks pages.items ≡ replicate (pages_of 0 len) false) }
+{
+    let mut pages = Vec::with_capacity(alloc, end_of(0, len))?;
+    let mut left = len;
+    while left > 0 {
+        let count = reach(0, left);
+        pages.push(Page::blank(count))?;
+        left -= count;
+    }
+    Ok(pages)
+}
+
+/// Appends the `n` bytes from a place on. Out of memory leaves what is appended unspecified.
+pub(crate) fn read(pages: &[Page], at: usize, n: usize, to: &mut Vec<u8>) -> Result<(), OutOfMemory>
+    requires paged { IsPaged pages.now }
+    requires inside { at + n ≤ length (flat pages.now) }
+    requires small { at + n < 2 ^ 64 }
+    ensures { OnOk result (to.new.items ≡ to.old.items ++ take n (drop at (flat pages.now))) }
+{
+    let mut done = 0;
+    while done < n {
+        let place = at + done;
+        let count = reach(place, n - done);
+        pages[place / PAGE].read(place % PAGE, count, to)?;
+        done += count;
+    }
+    Ok(())
+}
+
+// Writes bytes from a place on, on pages that are taken.
+fn put(pages: &mut [Page], at: usize, bytes: &[u8])
+    requires paged { IsPaged pages.old }
+    requires inside { at + length bytes.now ≤ length (flat pages.old) }
+    requires small { at + length bytes.now < 2 ^ 64 }
+    requires ready { AreTaken (at / 65536) (at / 65536 + pages_of at (length bytes.now)) pages.old }
+    ensures bytes { flat pages.new ≡ written at bytes.now (flat pages.old) }
+    ensures paged { IsPaged pages.new }
+    ensures taken { marks pages.new ≡ marks pages.old }
+{
+    let mut done = 0;
+    while done < bytes.len() {
+        let place = at + done;
+        let count = reach(place, bytes.len() - done);
+        pages[place / PAGE].put(place % PAGE, &bytes[done..done + count]);
+        done += count;
+    }
+}
+
+/// Makes the `n` bytes from a place on 0.
+pub(crate) fn clear(pages: &mut [Page], at: usize, n: usize)
+    requires paged { IsPaged pages.old }
+    requires inside { at + n ≤ length (flat pages.old) }
+    requires small { at + n < 2 ^ 64 }
+    ensures bytes { flat pages.new ≡ written at (replicate n 0) (flat pages.old) }
+    ensures paged { IsPaged pages.new }
+    ensures taken { marks pages.new ≡ marks pages.old }
+{
+    let mut done = 0;
+    while done < n {
+        let place = at + done;
+        let count = reach(place, n - done);
+        pages[place / PAGE].clear(place % PAGE, count);
+        done += count;
+    }
+}
+
+// Takes memory for the pages from `first` to before `end`.
+fn prepare(alloc: Global, pages: &mut [Page], first: usize, end: usize) -> Result<(), OutOfMemory>
+    requires { end ≤ length pages.old }
+    ensures same { SameContents pages.old pages.new }
+    ensures ready { OnOk result (AreReady first end pages.new) }
+{
+    for k in first..end {
+        pages[k].prepare(alloc)?;
+    }
+    Ok(())
+}
+
+// Gives back the memory of these pages that no write touched.
+fn release(pages: &mut [Page], first: usize, end: usize)
+    requires { end ≤ length pages.old }
+    ensures { SameContents pages.old pages.new }
+{
+    for k in first..end {
+        pages[k].release();
+    }
+}
+
+// From now on writes have touched these pages.
+fn mark(pages: &mut [Page], first: usize, end: usize)
+    requires order { first ≤ end }
+    requires inside { end ≤ length pages.old }
+    requires ready { AreReady first end pages.old }
+    ensures bytes { pieces pages.new ≡ pieces pages.old }
+    ensures marks { marks pages.new ≡ written first (replicate (end - first) true) (marks pages.old) }
+    ensures taken { AreTaken first end pages.new }
+{
+    for k in first..end {
+        pages[k].mark();
+    }
+}
+
+/// Writes bytes from a place on. Every page that they need is taken before anything changes; out of
+/// memory, the bytes and the pages taken are as they were, and memory that was taken is given back.
+pub(crate) fn write(
+    alloc: Global,
+    pages: &mut [Page],
+    at: usize,
+    bytes: &[u8],
+) -> Result<(), OutOfMemory>
+    requires paged { IsPaged pages.old }
+    requires inside { at + length bytes.now ≤ length (flat pages.old) }
+    requires small { at + length bytes.now < 2 ^ 64 }
+    ensures paged { IsPaged pages.new }
+    ensures len { length (flat pages.new) ≡ length (flat pages.old) }
+    ensures bytes { OnOk result (flat pages.new ≡ written at bytes.now (flat pages.old)) }
+    ensures taken { OnOk result (marks pages.new ≡ touched at (length bytes.now) (marks pages.old)) }
+    ensures err { OnErr result (SameContents pages.old pages.new) }
+{
+    let first = at / PAGE;
+    let end = end_of(at, bytes.len());
+    if let Err(e) = prepare(alloc, pages, first, end) {
+        release(pages, first, end);
+        return Err(e);
+    }
+    mark(pages, first, end);
+    put(pages, at, bytes);
+    Ok(())
+}
+
+/// The SHA-256 of all bytes. It takes no memory.
+pub(crate) fn digest(pages: &[Page]) -> [u8; 32]
+    ensures { result ≡ sha256 (flat pages.now) }
+{
+    let mut hasher = Sha256::new();
+    for page in pages {
+        page.feed(&mut hasher);
+    }
+    hasher.finalize()
+}
+
+/// How many pages are taken.
+pub(crate) fn count(pages: &[Page]) -> u64
+    ensures { result ≡ count_by (λ page. page.taken) pages.now }
+{
+    let mut count = 0;
+    for page in pages {
+        if page.is_taken() {
+            count += 1;
+        }
+    }
+    count
+}
+
+/// Equal pages.
+pub(crate) fn copy(alloc: Global, pages: &[Page]) -> Result<Vec<Page>, OutOfMemory>
+    ensures { IfOk result (λ copies. copies.items ≡ pages.now) }
+{
+    let mut copies = Vec::with_capacity(alloc, pages.len())?;
+    for page in pages {
+        let copy = page.copy(alloc)?;
+        copies.push(copy)?;
+    }
+    Ok(copies)
+}
