@@ -15,17 +15,18 @@ use Rattle.bd_machine.specs.declared.state.Kept.{Kept}
 use Rattle.bd_machine.specs.declared.state.OpenPiece.{OpenPiece}
 use Rattle.bd_machine.specs.declared.state.OpenRequest.{OpenRequest}
 use Rattle.bd_machine.specs.Alone.{held_after}
-use Rattle.bd_machine.specs.Completion.{has_end, is_back, is_shown, is_success, may_show, pieces_of}
+use Rattle.bd_machine.specs.Completion.{is_back, is_shown, is_success, may_show, pieces_of}
 use Rattle.bd_machine.specs.Effect.{is_read}
 use Rattle.bd_machine.specs.Kept.{is_at_own, pieces_here, request_here}
 use Rattle.bd_machine.specs.Requests.{is_walking, may_complete, pieces_closed}
 use Rattle.bd_machine.specs.Same.{same_id}
-use Rattle.bd_machine.specs.Statuses.{is_delay_left, is_failed, is_success_due, may_be_status}
+use Rattle.bd_machine.specs.Statuses.{may_be_status}
 use Rattle.bd_machine.specs.View.{View}
 use Rattle.bd_machine.specs.Walks.{reset_of}
 use Rattle.bd_tokens.specs.Tokens.{here_in, Sets}
+use Rattle.bd_flight.specs.Due.{end_due, may_end}
 use Rattle.bd_due.specs.declared.completion.Ending.{Ending}
-use Rattle.bd_due.specs.Completions.{data_read, ending_in, ending_of, ends_as, gone, may_end, read_as, shown_by, shown_of, status_now}
+use Rattle.bd_due.specs.Completions.{data_read, ending_in, ending_of, ends_as, gone, read_as, shown_by, shown_of}
 
 -- ---- what it shows
 
@@ -60,50 +61,6 @@ found_passes is (y ∷ ys) x h = go (is y) refl h (found_passes is ys x)
     go : (b : Bool) → is y ≡ b → cond b (Some y) (find is ys) ≡ Some x → (find is ys ≡ Some x → is x ≡ true) → is x ≡ true
     go true e h rest = subst (λ z. is z ≡ true) (some_of y x h) e
     go false e h rest = rest h
-
--- the first status that may be
-abbrev first_status : (Status → Bool) → Option Status
-first_status may = find may (Failed ∷ Aborted ∷ Success ∷ [])
-
--- whether a status may be, where delays are left, where it failed, was aborted, and where its success is due
-abbrev status_by : Bool → Bool → Bool → Bool → Status → Bool
-status_by left failed aborted due Failed = not left && failed
-status_by left failed aborted due Aborted = not left && (not failed && aborted)
-status_by left failed aborted due Success = not left && (not failed && not aborted && due)
-
--- no other status may be beside it
-only_status : (left failed aborted due : Bool) (s : Status) → status_by left failed aborted due s ≡ true → Some s ≡ first_status (status_by left failed aborted due)
-only_status true failed aborted due Failed h = cc
-only_status true failed aborted due Aborted h = cc
-only_status true failed aborted due Success h = cc
-only_status false true aborted due Failed h = refl
-only_status false true aborted due Aborted h = cc
-only_status false true aborted due Success h = cc
-only_status false false aborted due Failed h = cc
-only_status false false true due Aborted h = refl
-only_status false false false due Aborted h = cc
-only_status false false true due Success h = cc
-only_status false false false true Success h = refl
-only_status false false false false Success h = cc
-
-no_status : (may : Status → Bool) → ((s : Status) → may s ≡ false) → None ≡ first_status may
-no_status may none =
-    sym (ap (λ b. cond b (Some Failed) (find may (Aborted ∷ Success ∷ []))) (none Failed)
-    ∙ ap (λ b. cond b (Some Aborted) (find may (Success ∷ []))) (none Aborted)
-    ∙ ap (λ b. cond b (Some Success) None) (none Success))
-
--- the status that may be is the first that may be
-pub status_is : (setup : Setup) (v : View) (req : ReqId) (r : OpenRequest) (o : Option Status)
-    → IfSome o (λ s. may_be_status setup v req r s ≡ true)
-    → IfNone o ((s : Status) → may_be_status setup v req r s ≡ false)
-    → o ≡ status_now setup v req r
-status_is setup v req r None some none = no_status (may_be_status setup v req r) none
-status_is setup v req r (Some s) some none = go s some
-  where
-    go : (s : Status) → may_be_status setup v req r s ≡ true → Some s ≡ status_now setup v req r
-    go Failed h = only_status (is_delay_left setup r) (is_failed r (pieces_of v req r)) (is_some r.aborted) (is_success_due v req r r.op) Failed h
-    go Aborted h = only_status (is_delay_left setup r) (is_failed r (pieces_of v req r)) (is_some r.aborted) (is_success_due v req r r.op) Aborted h
-    go Success h = only_status (is_delay_left setup r) (is_failed r (pieces_of v req r)) (is_some r.aborted) (is_success_due v req r r.op) Success h
 
 -- it ends with these pieces and this status, and shows what is due
 pub record IsDue (v : View) (req : ReqId) (r : OpenRequest) (n : ℕ) (status : Status) (ending : Ending) : Type 0 where
@@ -147,30 +104,26 @@ all_back me v req r may =
     (and_parts (is_at_own me req r) (list_all is_back (pieces_of v req r)) both.0).1
 
 module _ (setup : Setup) (me : ℕ) (v : View) (req : ReqId) (ending : Ending) where
-  ends_so : (r : OpenRequest) → request_here v req ≡ Some r → may_end me v req r ≡ true
-      → (s : Option Status) → status_now setup v req r ≡ s → ends_as v req r (unwrap_or r.pieces 0) s ≡ Some ending → Ends setup me v req ending
-  ends_so r is may None found h = cc
-  ends_so r is may (Some status) found h =
+  ends_so : (r : OpenRequest) → request_here v req ≡ Some r → (s : Option Status) → end_due setup me v req r ≡ s → ends_as v req r (unwrap_or r.pieces 0) s ≡ Some ending → Ends setup me v req ending
+  ends_so r is None found h = cc
+  ends_so r is (Some status) found h =
       let n = unwrap_or r.pieces 0 in
-      let both = and_parts (is_some r.aborted || list_all has_end (pieces_of v req r)) (may_complete me v req (request_here v req)) may in
+      let may : may_end setup me v req (Some r) status ≡ true = found_passes (may_end setup me v req (Some r)) (Failed ∷ Aborted ∷ Success ∷ []) status found in
+      let both = and_parts (may_complete me v req (Some r)) (may_be_status setup v req r status) may in
       let due : IsDue v req r n status ending = due_by v req r n status (is_read r.op && is_success status) ending refl h in
       record {
         request = r;
         is = is;
         number = due.number;
-        back = subst (λ (m : ℕ). list_all is_back (pieces_here v req m) ≡ true) due.number (all_back me v req r (sym (ap (may_complete me v req) is) ∙ both.1));
-        may = both.1;
-        status = subst (λ (s : Status). may_be_status setup v req r s ≡ true) due.status_is (found_passes (may_be_status setup v req r) (Failed ∷ Aborted ∷ Success ∷ []) status found);
+        back = subst (λ (m : ℕ). list_all is_back (pieces_here v req m) ≡ true) due.number (all_back me v req r both.0);
+        may = ap (may_complete me v req) is ∙ both.0;
+        status = subst (λ (s : Status). may_be_status setup v req r s ≡ true) due.status_is both.1;
         shown = due.shown;
       }
 
   ends_here : (o : Option OpenRequest) → request_here v req ≡ o → ending_in setup me v req o ≡ Some ending → Ends setup me v req ending
   ends_here None is h = cc
-  ends_here (Some r) is h = go (may_end me v req r) refl h
-    where
-      go : (b : Bool) → may_end me v req r ≡ b → cond b (ends_as v req r (unwrap_or r.pieces 0) (status_now setup v req r)) None ≡ Some ending → Ends setup me v req ending
-      go false may h = cc
-      go true may h = ends_so r is may (status_now setup v req r) refl h
+  ends_here (Some r) is h = ends_so r is (end_due setup me v req r) refl h
 
   pub ends_now : ending_of setup me v req ≡ Some ending → Ends setup me v req ending
   ends_now h = ends_here (request_here v req) refl h

@@ -2,3 +2,4 @@ mod Left
 pub mod Completing
 mod Holding
 mod Spent
+mod Refused

@@ -1,30 +1,24 @@
 -- When a request completes, how, and what is here after it.
-use Rattle.std.specs.Prelude.{ℕ, Bool, cond, ◌&&◌, ◌||◌, nat_le, List, [], ◌∷◌, length, find, take, Option, Some, None, is_some, unwrap_or}
-use Rattle.std.specs.List.{list_all, range_with_len}
+use Rattle.std.specs.Prelude.{ℕ, cond, ◌&&◌, nat_le, List, [], ◌∷◌, length, take, Option, Some, None, unwrap_or}
+use Rattle.std.specs.List.{range_with_len}
 use Rattle.sha2.specs.Sha256.{sha256}
 use Rattle.bd_base.specs.declared.id.ReqId.{ReqId}
 use Rattle.bd_base.specs.declared.request.Shown.{Shown}
 use Rattle.bd_base.specs.declared.request.Status.{Status}
-use Rattle.bd_base.specs.declared.request.Status.TheVariants.{Success, Failed, Aborted}
 use Rattle.bd_base.specs.declared.setup.Setup.{Setup}
 use Rattle.bd_machine.specs.declared.state.Id.{Id}
 use Rattle.bd_machine.specs.declared.state.Id.TheVariants as ids
 use Rattle.bd_machine.specs.declared.state.Kept.{Kept}
 use Rattle.bd_machine.specs.declared.state.OpenRequest.{OpenRequest}
-use Rattle.bd_machine.specs.Completion.{data_of, has_end, is_success, pieces_of, turned_if}
+use Rattle.bd_machine.specs.Completion.{data_of, is_success, pieces_of, turned_if}
 use Rattle.bd_machine.specs.Effect.{is_read}
 use Rattle.bd_machine.specs.Kept.{request_here}
-use Rattle.bd_machine.specs.Requests.{may_complete}
 use Rattle.bd_machine.specs.Same.{same_id}
-use Rattle.bd_machine.specs.Statuses.{may_be_status}
 use Rattle.bd_machine.specs.View.{View}
+use Rattle.bd_flight.specs.Due.{end_due}
 use Rattle.bd_due.specs.declared.completion.Ending.{Ending}
 
 -- ---- how it completes
-
--- the first status, by this order, that the rules let the request have
-abbrev pub status_now : Setup → View → ReqId → OpenRequest → Option Status
-status_now setup v req r = find (may_be_status setup v req r) (Failed ∷ Aborted ∷ Success ∷ [])
 
 -- the first 8 bytes and the digest, where there are as many
 abbrev pub shown_by : List ℕ → Option Shown
@@ -48,15 +42,11 @@ ends_as v req r n None = None
 ends_as v req r n (Some status) =
     cond (is_read r.op && is_success status) (read_as n status (shown_of (data_read v req r))) (Some (record { pieces = n; status = status; shown = None }))
 
--- every piece has its end, or the request was aborted; and the rules let it complete, so that none of its pieces is out
-abbrev pub may_end : ℕ → View → ReqId → OpenRequest → Bool
-may_end me v req r = (is_some r.aborted || list_all has_end (pieces_of v req r)) && may_complete me v req (request_here v req)
-
 abbrev pub ending_in : Setup → ℕ → View → ReqId → Option OpenRequest → Option Ending
 ending_in setup me v req None = None
-ending_in setup me v req (Some r) = cond (may_end me v req r) (ends_as v req r (unwrap_or r.pieces 0) (status_now setup v req r)) None
+ending_in setup me v req (Some r) = ends_as v req r (unwrap_or r.pieces 0) (end_due setup me v req r)
 
--- how a request completes that is here, where every piece of it is back with its end, or it was aborted and none is out, and the rules let it complete with a status; a read with success only where it has 8 bytes to show
+-- how a request completes that is here, where the machine's rules let it complete with a status; a read with success only where it has 8 bytes to show
 abbrev pub ending_of : Setup → ℕ → View → ReqId → Option Ending
 ending_of setup me v req = ending_in setup me v req (request_here v req)
 

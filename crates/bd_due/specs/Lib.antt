@@ -7,3 +7,6 @@ pub mod Following
 pub mod Asking
 pub mod Resting
 pub mod Tickets
+pub mod Serving
+pub mod Visiting
+pub mod Answering

@@ -15,6 +15,7 @@ use Rattle.bd_machine.specs.Messages.{brings, news_of, sent}
 use Rattle.bd_machine.specs.Threads.{first_of}
 use Rattle.bd_machine.specs.Walks.{is_at_end}
 use Rattle.bd_turns.specs.declared.queue.Message.{Message}
+use Rattle.bd_links.specs.Queues.{is_full}
 
 -- ---- walks
 
@@ -25,6 +26,11 @@ bound_for walk w = (unwrap_or (first_of w.left) walk.thread, tokens.Walk walk) �
 -- a walk that goes on is to be put; one that ends isn't
 abbrev pub goes_on : ℕ → WalkId → OpenWalk → List (ℕ × Token)
 goes_on me walk w = cond (is_at_end me walk w) [] (bound_for walk w)
+
+-- a walk that begins is to be put to where it goes first
+abbrev pub sent_off : Option (WalkId × OpenWalk) → List (ℕ × Token)
+sent_off None = []
+sent_off (Some walk) = bound_for walk.0 walk.1
 
 -- ---- messages
 
@@ -43,10 +49,10 @@ token_of (news.Channel dev) = tokens.Channel dev
 token_of (news.Device dev) = tokens.Device dev
 token_of (news.Go req threads) = tokens.Go req threads
 
--- the first message that is due, and where it is to go
-abbrev pub first_due : List Due → Option (ℕ × Token)
-first_due [] = None
-first_due (d ∷ ds) = Some (d.receiver, token_of d.news)
+-- the first message that is due, and where it is to go, while the queue there isn't full
+abbrev pub first_due : List (List Message) → List Due → Option (ℕ × Token)
+first_due queues [] = None
+first_due queues (d ∷ ds) = cond (is_full queues d.receiver) None (Some (d.receiver, token_of d.news))
 
 -- the first message, where it brings the token that it names, and that is one that threads take as yet
 abbrev pub first_brought : List Message → Option Message

@@ -1,14 +1,29 @@
--- What an abort stops: pieces of the request that are still to be put.
-use Rattle.std.specs.Prelude.{ℕ, Bool, false, not, ◌&&◌, List, filter, Option}
+-- Which request may be aborted, what an abort stops, and what a completion leaves of it: pieces of the request that are still to be put.
+use Rattle.std.specs.Prelude.{ℕ, Bool, false, cond, not, ◌&&◌, List, filter, Option, None, is_none}
 use Rattle.bd_base.specs.declared.act.Token.{Token}
 use Rattle.bd_base.specs.declared.act.Token.TheVariants as tokens
 use Rattle.bd_base.specs.declared.id.ReqId.{ReqId}
+use Rattle.bd_base.specs.declared.request.AbortCause.{AbortCause}
+use Rattle.bd_base.specs.declared.request.Status.{Status}
+use Rattle.bd_base.specs.declared.setup.Setup.{Setup}
 use Rattle.bd_machine.specs.declared.state.Id.{Id}
 use Rattle.bd_machine.specs.declared.state.Id.TheVariants as ids
 use Rattle.bd_machine.specs.declared.state.Kept.{Kept}
-use Rattle.bd_machine.specs.Completion.{waits_unsent}
-use Rattle.bd_machine.specs.Kept.{as_piece}
+use Rattle.bd_machine.specs.declared.state.OpenRequest.{OpenRequest}
+use Rattle.bd_machine.specs.Aborts.{guards_abort}
+use Rattle.bd_machine.specs.Completion.{is_success, waits_unsent}
+use Rattle.bd_machine.specs.Kept.{as_piece, request_here}
 use Rattle.bd_machine.specs.Same.{same_request}
+use Rattle.bd_machine.specs.Step.{first_failing}
+use Rattle.bd_machine.specs.View.{View}
+
+-- the rules let the thread abort the request for this cause
+abbrev pub may_stop : Setup → ℕ → View → ReqId → AbortCause → Bool
+may_stop setup me v req cause = is_none (first_failing (guards_abort setup me v req cause))
+
+-- the request, where it is here and may be aborted
+abbrev pub abortable : Setup → ℕ → View → ReqId → AbortCause → Option OpenRequest
+abortable setup me v req cause = cond (may_stop setup me v req cause) (request_here v req) None
 
 -- it is a piece of this request that is here, without an end and not out
 abbrev pub is_unsent : ReqId → (Id → Option Kept) → Token → Bool
@@ -18,3 +33,7 @@ is_unsent req here _ = false
 -- what is still to be put, without the request's pieces that wait unsent
 abbrev pub without_unsent : ReqId → (Id → Option Kept) → List (ℕ × Token) → List (ℕ × Token)
 without_unsent req here outbox = filter (λ x. not (is_unsent req here x.1)) outbox
+
+-- what is still to be put once the request completed with this status: where it succeeded none of its pieces waited, else those that did are no longer to be put
+abbrev pub left_by : ReqId → Status → (Id → Option Kept) → List (ℕ × Token) → List (ℕ × Token)
+left_by req status here outbox = cond (is_success status) outbox (without_unsent req here outbox)

@@ -1,12 +1,14 @@
 //! When a request completes, and how.
 ghost use Rattle.std.specs.Prelude.{◌≡◌, IfOk, Some};
 ghost use Rattle.std.specs.List.{range_with_len};
+ghost use Rattle.bd_machine.specs.Kept.{request_here};
 ghost use Rattle.bd_tokens.specs.Tokens.{here_in};
-ghost use Rattle.bd_due.specs.Completions.{ended, ending_in, ending_of, ends_as, gone, may_end, read_as, shown_by, shown_of, status_now};
+ghost use Rattle.bd_due.specs.Completions.{ended, ending_in, ending_of, ends_as, gone, read_as, shown_by, shown_of};
 
 use bd_base::{Bytes, Op, OutOfMemory, ReqId, Setup, Shown, Status, digest_of};
+use bd_flight::end_due;
 use bd_machine::{Id, OpenRequest};
-use bd_rules::{all_ended, data_read, may_complete, request_here, status_due};
+use bd_rules::{data_read, request_here};
 use bd_tokens::Tokens;
 use bd_view::Sees;
 use std::alloc::Global;
@@ -78,22 +80,7 @@ fn ends_as<S: Sees>(
     Ok(read_as(n, status, shown_of(&data)))
 }
 
-// The status that the rules let the request have, if they let it complete.
-fn status_now<S: Sees>(seen: &S, setup: &Setup, req: ReqId, r: OpenRequest) -> Option<Status>
-    ensures { result ≡ status_now setup.now (S.view_of seen.now) req r }
-{
-    status_due(seen, setup, req, r)
-}
-
-// Whether every piece of the request has its end, or it was aborted, and the rules let it complete.
-fn may_end<S: Sees>(seen: &S, me: u32, req: ReqId, r: OpenRequest) -> bool
-    ensures { result ≡ may_end me (S.view_of seen.now) req r }
-{
-    let is_over = r.aborted.is_some() || all_ended(seen, req, r.pieces.unwrap_or(0));
-    is_over && may_complete(seen, me, req)
-}
-
-// How this request completes, where it may end.
+// How this request, which is here, completes.
 fn ending_in<S: Sees>(
     alloc: Global,
     seen: &S,
@@ -102,20 +89,18 @@ fn ending_in<S: Sees>(
     req: ReqId,
     r: OpenRequest,
 ) -> Result<Option<Ending>, OutOfMemory>
+    requires { request_here (S.view_of seen.now) req ≡ Some r }
     ensures { IfOk result (λ e. e ≡ ending_in setup.now me (S.view_of seen.now) req (Some r)) }
 {
-    if !may_end(seen, me, req, r) {
-        return Ok(None);
-    }
-    match status_now(seen, setup, req, r) {
+    match end_due(seen, setup, me, req, r) {
         Some(status) => ends_as(alloc, seen, req, r, r.pieces.unwrap_or(0), status),
         None => Ok(None),
     }
 }
 
-/// How a request completes that is here, where every piece of it is back with its end, or it was aborted
-/// and no piece of it is out, and the rules let it complete with a status. A read that succeeds only where
-/// it has 8 bytes to show.
+/// How a request completes that is here, where the machine's rules let it complete with a status: none of its
+/// pieces is out, and the request failed or was aborted, though pieces of it wait here unsent, or each was
+/// served. A read that succeeds only where it has 8 bytes to show.
 pub fn ending_of<S: Sees>(
     alloc: Global,
     seen: &S,

@@ -1,14 +1,16 @@
 //! What a thread owes, and the event by which it does it: a channel whose count came to zero is dropped,
 //! that of a limited device put, a base handle closed, a device removed that stands on one that is being
-//! removed, and the registry told of a device that was destructed.
+//! removed, and the registry told of a device that was destructed; and what thread 0 removes after Shutdown.
 ghost use Rattle.std.specs.Prelude.{◌≡◌, find, IfOk};
 ghost use Rattle.std.specs.List.{list_any};
 ghost use Rattle.bd_machine.specs.BlockMap.{row_of};
-ghost use Rattle.bd_due.specs.Duties.{duty_owed, event_of, is_duty, removal_of};
+ghost use Rattle.bd_due.specs.Duties.{duty_owed, event_of, is_duty, owes_nothing, removal_after, removal_of};
 
+use bd_answers::is_live;
 use bd_base::{DevId, OutOfMemory, RegEvent, Setup};
 use bd_blocks::row_of;
-use bd_machine::Owed;
+use bd_machine::{Owed, Part};
+use bd_view::Records;
 
 // Whether an event does it: any but the end of a device.
 fn is_duty(owed: &Owed) -> bool
@@ -30,8 +32,15 @@ pub fn has_duty(owed: &[Owed]) -> bool
     owed.iter().any(|o| is_duty(o))
 }
 
-/// The event that removes a device; none where the setup doesn't have it.
-pub fn removal_of(setup: &Setup, dev: DevId) -> Result<Option<RegEvent>, OutOfMemory>
+/// Whether a thread owes nothing, and it took no remove event.
+pub fn owes_nothing(part: &Part) -> bool
+    ensures { result ≡ owes_nothing part.now }
+{
+    part.owed.len() == 0 && part.gone.len() == 0
+}
+
+// The event that removes a device; none where the setup doesn't have it.
+fn removal_of(setup: &Setup, dev: DevId) -> Result<Option<RegEvent>, OutOfMemory>
     ensures { IfOk result (λ event. event ≡ removal_of (row_of setup.now dev)) }
 {
     match row_of(setup, dev) {
@@ -40,6 +49,23 @@ pub fn removal_of(setup: &Setup, dev: DevId) -> Result<Option<RegEvent>, OutOfMe
         })),
         None => Ok(None),
     }
+}
+
+/// The event that removes a device that is left, after Shutdown on thread 0: one that is neither being removed nor
+/// destructed. Before it, on another thread and for another device none.
+pub fn removal_after<R: Records>(
+    setup: &Setup,
+    registry: &R,
+    me: u32,
+    shut: bool,
+    dev: DevId,
+) -> Result<Option<RegEvent>, OutOfMemory>
+    ensures { IfOk result (λ event. event ≡ removal_after setup.now (R.registry_of registry.now) me shut dev) }
+{
+    if !(shut && me == 0 && is_live(registry, dev)) {
+        return Ok(None);
+    }
+    removal_of(setup, dev)
 }
 
 // The event by which a thread does what it owes. None for the end of a device, and for the removal of one

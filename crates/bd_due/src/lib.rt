@@ -1,8 +1,10 @@
-//! What is due on a thread, over what it sees: how a request completes, which pieces are to be put and which
-//! no longer, where a walk goes next, which event does what the thread owes, what has to follow an event, and
-//! what the thread has to ask the registry for.
+//! What is due on a thread, over what it sees: how a request completes and whether it may be aborted, which
+//! pieces are to be put and which no longer, which is served next, whether a walk visits and where it goes next,
+//! which event does what the thread owes, what has to follow an event, what an answer of the registry makes of
+//! the thread, and what the thread has to ask the registry for.
 #![tactic(auto)]
 
+mod answering;
 mod asking;
 mod completion;
 mod duties;
@@ -10,15 +12,20 @@ mod following;
 mod pieces;
 mod resting;
 mod sending;
+mod serving;
 mod stopping;
 mod tickets;
+mod visiting;
 
+pub use answering::{made_by, removal_answered};
 pub use asking::{asks_registry, is_any_live};
 pub use completion::{Ending, drop_request, ending_of};
-pub use duties::{duty_owed, has_duty, removal_of};
+pub use duties::{duty_owed, has_duty, owes_nothing, removal_after};
 pub use following::{close_due, get_due};
 pub use pieces::{hold_pieces, piece_count, send_pieces};
-pub use resting::{are_done_with, is_done_with};
-pub use sending::{copy_of, first_due, leave, may_take, send_off, send_on};
-pub use stopping::{drop_unsent, stop_waiting};
+pub use resting::{are_done_with, are_settled, is_done_with};
+pub use sending::{begin_walk, copy_of, first_due, leave, may_take, send_off, send_on};
+pub use serving::{Next, next_due};
+pub use stopping::{abortable, drop_left, drop_unsent, stop_waiting};
 pub use tickets::{next_ticket, spend};
+pub use visiting::visitor;

@@ -1,12 +1,14 @@
-//! Which devices a thread is done with: those whose home is another thread, and those that were destructed.
+//! Which devices a thread is done with: those whose home is another thread, and those that were destructed; and
+//! whether it closed each handle whose remove event it took.
 ghost use Rattle.std.specs.Prelude.{◌≡◌, ◌-◌};
 ghost use Rattle.std.specs.List.{list_all, list_any, range_with_len};
 ghost use Rattle.bd_machine.specs.Same.{same_dev};
-ghost use Rattle.bd_due.specs.Resting.{is_done_with};
+ghost use Rattle.bd_due.specs.Resting.{is_done_with, is_settled};
 
-use bd_base::{DevId, Setup};
-use bd_blocks::home;
+use bd_base::{DevId, HandleId, Setup};
+use bd_blocks::{home, is_base_handle};
 use bd_rules::has_destructed;
+use bd_view::Sees;
 
 /// Whether another thread is the device's home, or it was destructed.
 pub fn is_done_with(setup: &Setup, me: u32, destructed: &[DevId], n: u32) -> bool
@@ -26,4 +28,22 @@ pub fn are_done_with(setup: &Setup, me: u32, destructed: &[DevId], count: u32) -
         }
     }
     true
+}
+
+// Whether the handle is a base handle, or isn't open on this thread.
+fn is_settled<S: Sees>(seen: &S, setup: &Setup, id: HandleId) -> bool
+    ensures { result ≡ is_settled setup.now (S.view_of seen.now) id }
+{
+    is_base_handle(setup, id) || seen.handle(id).is_none()
+}
+
+/// Whether each handle whose remove event was taken is closed, but for base handles.
+pub fn are_settled<S: Sees>(seen: &S, setup: &Setup) -> bool
+    ensures { result ≡ list_all (is_settled setup.now (S.view_of seen.now)) (S.view_of seen.now).part.gone }
+{
+    seen.part()
+        .gone
+        .as_slice()
+        .iter()
+        .all(|id| is_settled(seen, setup, *id))
 }

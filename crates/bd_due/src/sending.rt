@@ -1,13 +1,15 @@
 //! Where a walk goes next, what leaves a thread with a token, and whether a message may be taken.
 ghost use Rattle.std.specs.Prelude.{◌≡◌, ◌<◌, ◌++◌, true, is_some, length, IfOk, OnOk, Some, None};
+ghost use Rattle.bd_changes.specs.Begun.{begun};
 ghost use Rattle.bd_links.specs.Queues.{queues_of};
+ghost use Rattle.bd_machine.specs.Alone.{held_after};
 ghost use Rattle.bd_tokens.specs.Tokens.{here_in, Sets};
-ghost use Rattle.bd_due.specs.Sending.{bound_for, first_brought, first_due, goes_on, kept_on_way, token_of};
+ghost use Rattle.bd_due.specs.Sending.{bound_for, first_brought, first_due, goes_on, kept_on_way, sent_off, token_of};
 
 use bd_base::{OutOfMemory, Token, WalkId};
 use bd_blocks::first_of;
 use bd_changes::{is_at_end, news_of, sent};
-use bd_links::Queue;
+use bd_links::{Queue, is_full};
 use bd_machine::{Due, Id, Kept, News, OpenWalk};
 use bd_rules::brings;
 use bd_tokens::Tokens;
@@ -43,6 +45,22 @@ pub fn send_on(
         Ok(())
     } else {
         send_off(outbox, id, walk)
+    }
+}
+
+/// A walk that begins is here, and to be put, after all else, to the first thread that it visits.
+pub fn begin_walk(
+    tokens: &mut Tokens,
+    outbox: &mut VecDeque<(u32, Token)>,
+    walk: Option<(WalkId, OpenWalk)>,
+) -> Result<(), OutOfMemory>
+    ensures here { OnOk result (here_in tokens.new.items ≡ held_after (begun walk) (here_in tokens.old.items)) }
+    ensures sent { OnOk result (outbox.new.items ≡ outbox.old.items ++ sent_off walk) }
+{
+    tokens.hold_begun(walk)?;
+    match walk {
+        Some((id, walk)) => send_off(outbox, id, walk),
+        None => Ok(()),
     }
 }
 
@@ -91,12 +109,16 @@ fn token_of(news: &News) -> Result<Token, OutOfMemory>
     }
 }
 
-/// The first message that is due, and its receiver; none where none is due.
-pub fn first_due(due: &[Due]) -> Result<Option<(u32, Token)>, OutOfMemory>
-    ensures { IfOk result (λ first. first ≡ first_due due.now) }
+/// The first message that is due, and its receiver; none where none is due, or the receiver's queue is full.
+/// It takes memory only for a message that it gives.
+pub fn first_due(due: &[Due], queues: &[Queue]) -> Result<Option<(u32, Token)>, OutOfMemory>
+    ensures { IfOk result (λ first. first ≡ first_due queues.now due.now) }
 {
     match due.first() {
         Some(d) => {
+            if is_full(queues, d.receiver) {
+                return Ok(None);
+            }
             let what = token_of(&d.news)?;
             Ok(Some((d.receiver, what)))
         }

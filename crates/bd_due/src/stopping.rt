@@ -1,20 +1,37 @@
-//! What an abort stops: the request waits at no limited device, and its pieces that wait unsent are no longer
-//! to be put.
+//! Which request may be aborted, and what an abort stops: the request waits at no limited device, and its pieces
+//! that wait unsent are no longer to be put; nor are they where a request completes without success.
 ghost use Rattle.std.specs.Prelude.{◌≡◌, option_copied, Some};
 ghost use Rattle.bd_machine.specs.Aborts.{stopped};
 ghost use Rattle.bd_machine.specs.Completion.{waits_unsent};
 ghost use Rattle.bd_machine.specs.Kept.{as_piece};
 ghost use Rattle.bd_tokens.specs.Tokens.{here_in};
-ghost use Rattle.bd_due.specs.Stopping.{is_unsent, without_unsent};
+ghost use Rattle.bd_due.specs.Stopping.{abortable, is_unsent, left_by, without_unsent};
 
-use bd_base::{ReqId, Setup, Token};
-use bd_course::depart;
+use bd_base::{AbortCause, ReqId, Setup, Status, Token};
+use bd_course::{depart, refused_abort};
 use bd_machine::{Id, Kept, OpenRequest, Part, Progress};
-use bd_rules::next_limited;
+use bd_rules::{next_limited, request_here};
 use bd_tokens::Tokens;
-use bd_view::same_request;
+use bd_view::{Sees, same_request};
 use std::alloc::Global;
 use std::collections::VecDeque;
+
+/// The request, where it is here and the rules let it be aborted for this cause.
+pub fn abortable<S: Sees>(
+    seen: &S,
+    setup: &Setup,
+    me: u32,
+    req: ReqId,
+    cause: AbortCause,
+) -> Option<OpenRequest>
+    ensures { result ≡ abortable setup.now me (S.view_of seen.now) req cause }
+{
+    if refused_abort(seen, setup, me, req, cause).is_none() {
+        request_here(seen, req)
+    } else {
+        None
+    }
+}
 
 // Whether it is a piece without an end, and not out.
 fn waits_unsent(kept: Option<&Kept>) -> bool
@@ -43,6 +60,16 @@ pub fn drop_unsent(outbox: &mut VecDeque<(u32, Token)>, held: &Tokens, req: ReqI
     ensures { outbox.new.items ≡ without_unsent req (here_in held.now.items) outbox.old.items }
 {
     outbox.retain(|x| !is_unsent(held, req, &x.1));
+}
+
+/// Where a request completes with this status, but for success, its pieces that wait here unsent are no longer
+/// to be put: they end with it.
+pub fn drop_left(outbox: &mut VecDeque<(u32, Token)>, held: &Tokens, req: ReqId, status: Status)
+    ensures { outbox.new.items ≡ left_by req status (here_in held.now.items) outbox.old.items }
+{
+    if !matches!(status, Status::Success) {
+        drop_unsent(outbox, held, req);
+    }
 }
 
 /// A request that is aborted waits no longer at the home of its next limited device, if it has one.

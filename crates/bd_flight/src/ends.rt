@@ -8,8 +8,9 @@ use bd_machine::{Hold, OpenRequest};
 use bd_rules::{all_back, all_ended, any_faulted, is_at_own, is_delayed, may_complete, status_due};
 use bd_view::Sees;
 
-/// The status with which this request, which is here, completes, where the rules let it.
-pub(crate) fn end_due<S: Sees>(
+/// The status with which this request, which is here, completes, where the rules let it: none of its pieces is
+/// out, and the request failed, was aborted, or each piece was served. None where they let it not.
+pub fn end_due<S: Sees>(
     seen: &S,
     setup: &Setup,
     me: u32,

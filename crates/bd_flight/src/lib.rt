@@ -6,4 +6,5 @@ mod ends;
 mod limits;
 mod next;
 
+pub use ends::end_due;
 pub use next::{Step, next_step};

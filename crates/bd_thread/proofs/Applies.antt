@@ -28,7 +28,7 @@ use Rattle.bd_turns.specs.Local.{Local, carried_local}
 use Rattle.bd_turns.specs.declared.queue.Message.{Message}
 use Rattle.bd_links.specs.Entries.{entry_at}
 use Rattle.bd_thread.specs.Seen.{local_at, untaken}
-use Rattle.bd_thread.specs.Served.{may_hold}
+use Rattle.bd_due.specs.Serving.{may_hold}
 use Rattle.bd_thread.proofs.Going.{Steps, steps, still_shut}
 
 pub at_home : (setup : Setup) (t : ℕ) (dev : DevId) → is_home setup t dev ≡ true → home setup dev ≡ t

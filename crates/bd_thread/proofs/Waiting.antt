@@ -359,13 +359,31 @@ no_queue true false goes false h e = refl
 no_queue true true true room h e = cc
 no_queue true true false room h e = cc
 
-pub due_waits : (t : Thread) (links : Links) (x : ℕ × Token) → first_due t.part.due ≡ Some x → may_put t links x.0 x.1 ≡ false → NothingToPost t links
+-- where no message is due for which there is room, none can be put
+pub full_waits : (t : Thread) (links : Links) → first_due links.queues.items t.part.due ≡ None → NothingToPost t links
+full_waits t links none = go t.part.due none
+  where
+    by_room : (full there travels : Bool) (x : ℕ × Token) → cond full None (Some x) ≡ None → there && not full && travels ≡ false
+    by_room true true travels x e = refl
+    by_room true false travels x e = refl
+    by_room false there travels x e = none_some e
+
+    go : (ds : List Due) → first_due links.queues.items ds ≡ None → may_post links ds ≡ false
+    go [] e = refl
+    go (d ∷ ds) e = by_room (is_full links.queues.items d.receiver) (nat_lt d.receiver (vec_len links.queues)) (is_built_token (token_of d.news)) (d.receiver, token_of d.news) e
+
+pub due_waits : (t : Thread) (links : Links) (x : ℕ × Token) → first_due links.queues.items t.part.due ≡ Some x → may_put t links x.0 x.1 ≡ false → NothingToPost t links
 due_waits t links x first stays = go t.part.due refl first
   where
-    go : (ds : List Due) → t.part.due ≡ ds → first_due ds ≡ Some x → may_post links ds ≡ false
+    is_first : (full : Bool) (y : ℕ × Token) → cond full None (Some y) ≡ Some x → y ≡ x
+    is_first true y e = none_or_some e
+    is_first false y e = some_same e
+
+    go : (ds : List Due) → t.part.due ≡ ds → first_due links.queues.items ds ≡ Some x → may_post links ds ≡ false
     go [] due e = none_or_some e
     go (d ∷ ds) due e =
-        let stays_so : may_put t links d.receiver (token_of d.news) ≡ false = subst (λ (y : ℕ × Token). may_put t links y.0 y.1 ≡ false) (sym (some_same e)) stays in
+        let is : (d.receiver, token_of d.news) ≡ x = is_first (is_full links.queues.items d.receiver) (d.receiver, token_of d.news) e in
+        let stays_so : may_put t links d.receiver (token_of d.news) ≡ false = subst (λ (y : ℕ × Token). may_put t links y.0 y.1 ≡ false) (sym is) stays in
         no_queue (nat_lt d.receiver (vec_len links.queues)) (is_built_token (token_of d.news)) (may_go t.setup.now t.me (local t links).view d.receiver (token_of d.news)) (not (is_full links.queues.items d.receiver))
         stays_so
         (first_goes t.setup.now t.me (local t links).view d ds due)

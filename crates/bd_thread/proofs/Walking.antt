@@ -1,5 +1,5 @@
 -- A visit of a walk, by the local rules.
-use Rattle.std.proofs.Common.{◌≡◌, ℕ, ◌+◌, Bool, true, false, cond, not, List, [], ◌∷◌, length, Option, Some, None, is_none, is_some, refl, sym, ◌∙◌, ap, subst}
+use Rattle.std.proofs.Common.{◌≡◌, ℕ, ◌+◌, Bool, true, false, cond, List, [], ◌∷◌, length, Option, Some, None, is_none, refl, sym, ◌∙◌, ap, subst}
 use Rattle.bd_base.specs.declared.act.Act.{Act}
 use Rattle.bd_base.specs.declared.act.Act.TheVariants as acts
 use Rattle.bd_base.specs.declared.id.DevId.{DevId}
@@ -25,12 +25,13 @@ use Rattle.bd_links.specs.Entries.{longer}
 use Rattle.bd_links.specs.Queues.{queues_of}
 use Rattle.bd_tokens.specs.Tokens.{here_in}
 use Rattle.bd_links.proofs.Longer.{length-longer}
+use Rattle.bd_due.specs.Visiting.{if_visited, may_visit}
 use Rattle.bd_thread.specs.declared.links.Links.{Links}
 use Rattle.bd_thread.specs.declared.thread.Thread.{Thread}
 use Rattle.bd_thread.specs.Acted.{Acted}
 use Rattle.bd_thread.specs.Requests.{KeepsTickets}
 use Rattle.bd_thread.specs.Seen.{local, local_at, untaken, view_of}
-use Rattle.bd_thread.specs.Walking.{if_visited, may_visit, visit_change, visit_due, IsVisited}
+use Rattle.bd_thread.specs.Walking.{visit_change, visit_due, IsVisited}
 use Rattle.bd_thread.proofs.Going.{Hold, Steps, acted_step, local_eq, steps, still_shut}
 use Rattle.bd_thread.proofs.Tickets.{same_tickets}
 
@@ -47,12 +48,6 @@ pub none_is : {X : Type 0} (o : Option X) → is_none o ≡ true → o ≡ None
 none_is None h = refl
 none_is (Some x) h = cc
 
-pub none_by : {X : Type 0} (r : Bool) (o : Option X) → not r ≡ is_some o → r ≡ is_none o
-none_by true None h = refl
-none_by true (Some x) h = cc
-none_by false None h = cc
-none_by false (Some x) h = refl
-
 -- ---- the walk that may visit
 
 -- it is here, and no guard fails
@@ -63,17 +58,17 @@ pub record MayBe (t : Thread) (links : Links) (walk : WalkId) (w : OpenWalk) : T
 pub visit_may : (t : Thread) (links : Links) (walk : WalkId) (w : OpenWalk) → visit_due t links walk ≡ Some w → MayBe t links walk w
 visit_may t links walk w due = go (walk_here (view_of t links) walk) refl due
   where
-    go : (o : Option OpenWalk) → walk_here (view_of t links) walk ≡ o → if_visited t links walk o ≡ Some w → MayBe t links walk w
+    go : (o : Option OpenWalk) → walk_here (view_of t links) walk ≡ o → if_visited t.setup.now t.me (view_of t links) walk o ≡ Some w → MayBe t links walk w
     go None e k = cc
-    go (Some x) e k = may (may_visit t links walk x) refl k
+    go (Some x) e k = may (may_visit t.setup.now t.me (view_of t links) walk x) refl k
       where
-        may : (b : Bool) → may_visit t links walk x ≡ b → cond b (Some x) None ≡ Some w → MayBe t links walk w
+        may : (b : Bool) → may_visit t.setup.now t.me (view_of t links) walk x ≡ b → cond b (Some x) None ≡ Some w → MayBe t links walk w
         may false m k = cc
         may true m k =
             let same : x ≡ w = cc in
             record {
               here = e ∙ ap Some same;
-              passes = none_is _ (subst (λ (y : OpenWalk). may_visit t links walk y ≡ true) same m);
+              passes = none_is _ (subst (λ (y : OpenWalk). may_visit t.setup.now t.me (view_of t links) walk y ≡ true) same m);
             }
 
 -- ---- what the visit changes

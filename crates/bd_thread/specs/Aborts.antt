@@ -1,5 +1,5 @@
 -- When a thread aborts a request, what that leaves, and what a mark stops.
-use Rattle.std.specs.Prelude.{◌≡◌, Bool, true, false, cond, List, [], ◌∷◌, Option, Some, None, is_none}
+use Rattle.std.specs.Prelude.{◌≡◌, Bool, true, false, List, [], ◌∷◌, Option, Some, None}
 use Rattle.bd_base.specs.declared.act.Act.TheVariants as acts
 use Rattle.bd_base.specs.declared.id.ReqId.{ReqId}
 use Rattle.bd_base.specs.declared.request.AbortCause.{AbortCause}
@@ -7,10 +7,8 @@ use Rattle.bd_machine.specs.declared.state.Id.TheVariants as ids
 use Rattle.bd_machine.specs.declared.state.Kept.TheVariants as keeps
 use Rattle.bd_machine.specs.declared.state.Open.{Open}
 use Rattle.bd_machine.specs.declared.state.OpenRequest.{OpenRequest}
-use Rattle.bd_machine.specs.Aborts.{aborted, guards_abort, stopped}
-use Rattle.bd_machine.specs.Kept.{request_here}
-use Rattle.bd_machine.specs.Step.{first_failing}
-use Rattle.bd_due.specs.Stopping.{without_unsent}
+use Rattle.bd_machine.specs.Aborts.{aborted, stopped}
+use Rattle.bd_due.specs.Stopping.{abortable, may_stop, without_unsent}
 use Rattle.bd_links.specs.Entries.{longer}
 use Rattle.bd_tokens.specs.Tokens.{here_in, Sets}
 use Rattle.bd_thread.specs.declared.links.Links.{Links}
@@ -22,11 +20,11 @@ use Rattle.bd_thread.specs.Seen.{untaken, view_of}
 
 -- the rules let the thread abort the request for this cause
 abbrev pub may_abort : Thread → Links → ReqId → AbortCause → Bool
-may_abort t links req cause = is_none (first_failing (guards_abort t.setup.now t.me (view_of t links) req cause))
+may_abort t links req cause = may_stop t.setup.now t.me (view_of t links) req cause
 
 -- the request, where it is here and may be aborted
 abbrev pub abort_due : Thread → Links → ReqId → AbortCause → Option OpenRequest
-abort_due t links req cause = cond (may_abort t links req cause) (request_here (view_of t links) req) None
+abort_due t links req cause = abortable t.setup.now t.me (view_of t links) req cause
 
 -- one Abort: the request is aborted and waits at no limited device, and its pieces that wait unsent are no longer to be put
 pub record IsAborted (req : ReqId) (cause : AbortCause) (r : OpenRequest) (old : Thread) (before : Links) (new : Thread) (after : Links) : Type 0 where

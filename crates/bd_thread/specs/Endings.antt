@@ -1,14 +1,14 @@
 -- What a thread does by itself: after Shutdown thread 0 removes the devices that are left, and each thread closes the handles whose remove event it took, device by device.
-use Rattle.std.specs.Prelude.{Bool, cond, ◌&&◌, ◌==◌, length, filter, find, Option, None}
+use Rattle.std.specs.Prelude.{Bool, ◌&&◌, filter, find, Option}
 use Rattle.bd_base.specs.declared.event.RegEvent.{RegEvent}
 use Rattle.bd_base.specs.declared.id.DevId.{DevId}
 use Rattle.bd_machine.specs.declared.state.Handle.{Handle}
 use Rattle.bd_machine.specs.Admission.{is_gone}
-use Rattle.bd_machine.specs.BlockMap.{row_of}
-use Rattle.bd_machine.specs.Registry.{is_live, is_on}
+use Rattle.bd_machine.specs.Registry.{is_on}
 use Rattle.bd_thread.specs.declared.links.Links.{Links}
 use Rattle.bd_thread.specs.declared.thread.Thread.{Thread}
-use Rattle.bd_due.specs.Duties.{removal_of}
+use Rattle.bd_due.specs.Duties.{owes_nothing as owes_none}
+use Rattle.bd_due.specs.Duties.{removal_after}
 use Rattle.bd_thread.specs.Lines.{if_asked, may_close, AsksBy, ClosesBy}
 use Rattle.bd_thread.specs.Seen.{view_of}
 
@@ -22,13 +22,13 @@ left_on dev t links = find (is_left t links) (filter (is_on dev) (view_of t link
 
 -- the thread owes nothing, and it took no remove event
 abbrev pub owes_nothing : Thread → Bool
-owes_nothing t = (length t.part.owed == 0) && (length t.part.gone == 0)
+owes_nothing t = owes_none t.part
 
 -- ---- after Shutdown
 
 -- the removal of a device that is left, after Shutdown on thread 0
 abbrev pub removal_left : Thread → Links → DevId → Option RegEvent
-removal_left t links dev = cond (links.shut && (t.me == 0) && is_live links.registry.state dev) (removal_of (row_of t.setup.now dev)) None
+removal_left t links dev = removal_after t.setup.now links.registry.state t.me links.shut dev
 
 -- the same, where the thread may ask it
 abbrev pub removal_due : DevId → Thread → Links → Option RegEvent

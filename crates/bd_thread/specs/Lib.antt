@@ -8,7 +8,6 @@ pub mod Walking
 pub mod Lines
 pub mod Duties
 pub mod Served
-pub mod Next
 pub mod Requests
 pub mod Destructs
 pub mod Moves

@@ -22,21 +22,21 @@ use Rattle.bd_machine.specs.Asked.{asks_event, bound_to, next_line, outcome_due,
 use Rattle.bd_machine.specs.Changes.{registry_after}
 use Rattle.bd_machine.specs.Events.{change_reg}
 use Rattle.bd_base.specs.declared.setup.Setup.{Setup}
-use Rattle.bd_machine.specs.BlockMap.{below}
-use Rattle.bd_machine.specs.Registry.{answer_to, handle_of, made}
+use Rattle.bd_machine.specs.Registry.{answer_to, handle_of}
 use Rattle.bd_machine.specs.View.{Change, View}
 use Rattle.bd_machine.specs.Scripts.{change_job}
 use Rattle.bd_changes.specs.Begun.{begun}
 use Rattle.bd_changes.specs.Lone.{lone}
 use Rattle.bd_registry.specs.State.{Registered, event_row}
 use Rattle.bd_view.specs.Came.{came_between, came_shut}
+use Rattle.bd_due.specs.Answering.{made_by as channels_made}
 use Rattle.bd_due.specs.Following.{close_due, get_due}
+use Rattle.bd_due.specs.Sending.{sent_off}
 use Rattle.bd_links.specs.Entries.{longer, next_stamp}
 use Rattle.bd_tokens.specs.Tokens.{here_in}
 use Rattle.bd_thread.specs.declared.links.Links.{Links}
 use Rattle.bd_thread.specs.declared.thread.Thread.{Thread}
 use Rattle.bd_thread.specs.Seen.{untaken, view_of}
-use Rattle.bd_thread.specs.Walking.{sent_off}
 
 -- ---- what a line asks of the registry
 
@@ -112,8 +112,7 @@ close_asked t links = if_closable t links (handle_if_any (view_of t links).handl
 
 -- the channels that a get makes, where the event is one
 abbrev pub made_by : Setup → View → RegEvent → List DevId
-made_by setup v (events.GetChannel dev) = made v.channels (below setup dev)
-made_by setup v _ = []
+made_by setup v event = channels_made setup v.channels event
 
 -- what this answer to an event changes of the thread
 abbrev pub change_by : Thread → Links → RegEvent → Answer → Change

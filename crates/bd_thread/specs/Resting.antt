@@ -1,13 +1,12 @@
 -- When a thread has nothing under way.
-use Rattle.std.specs.Prelude.{Bool, true, ◌&&◌, ◌||◌, ◌==◌, ◌^◌, nat_lt, List, length, is_none}
+use Rattle.std.specs.Prelude.{Bool, true, ◌&&◌, ◌==◌, ◌^◌, nat_lt, List, length, is_none}
 use Rattle.std.specs.List.{list_all, range_with_len}
 use Rattle.bd_base.specs.declared.act.Act.TheVariants as acts
 use Rattle.bd_base.specs.declared.id.HandleId.{HandleId}
 use Rattle.bd_machine.specs.Asked.{is_script_blocked}
-use Rattle.bd_machine.specs.Registry.{handle_of}
-use Rattle.bd_machine.specs.Users.{is_base_handle}
 use Rattle.bd_turns.specs.declared.queue.Message.{Message}
 use Rattle.bd_due.specs.Resting.{is_done_with}
+use Rattle.bd_due.specs.Resting.{is_settled as settles}
 use Rattle.bd_links.specs.Entries.{longer}
 use Rattle.bd_thread.specs.declared.links.Links.{Links}
 use Rattle.bd_thread.specs.declared.thread.Thread.{Thread}
@@ -15,7 +14,7 @@ use Rattle.bd_thread.specs.Seen.{view_of}
 
 -- the handle is a base handle, or isn't open on this thread
 abbrev pub is_settled : Thread → Links → HandleId → Bool
-is_settled t links id = is_base_handle t.setup.now id || is_none (handle_of (view_of t links).handles id)
+is_settled t links id = settles t.setup.now (view_of t links) id
 
 -- no token is on the thread, nothing is still to be put or done, its last entry took no injection, and each handle whose remove event it took is closed, but for base handles
 abbrev pub rests : Thread → Links → Bool

@@ -1,7 +1,6 @@
--- How a thread carries walks on: where each goes next, and what a visit leaves.
-use Rattle.std.specs.Prelude.{◌≡◌, ℕ, Bool, true, false, cond, List, [], ◌++◌, Option, Some, None, is_none}
+-- What a walk's visit of a thread leaves.
+use Rattle.std.specs.Prelude.{◌≡◌, Bool, true, false, ◌++◌, Option, Some, None}
 use Rattle.bd_base.specs.declared.act.Act.TheVariants as acts
-use Rattle.bd_base.specs.declared.act.Token.{Token}
 use Rattle.bd_base.specs.declared.id.DevId.{DevId}
 use Rattle.bd_base.specs.declared.id.WalkId.{WalkId}
 use Rattle.bd_base.specs.declared.request.AbortCause.TheVariants.{Removed}
@@ -9,12 +8,10 @@ use Rattle.bd_base.specs.declared.request.WalkKind.{WalkKind}
 use Rattle.bd_base.specs.declared.request.WalkKind.TheVariants.{Removal}
 use Rattle.bd_machine.specs.declared.state.OpenWalk.{OpenWalk}
 use Rattle.bd_machine.specs.Alone.{held_after}
-use Rattle.bd_machine.specs.Kept.{walk_here}
-use Rattle.bd_machine.specs.Step.{first_failing}
 use Rattle.bd_machine.specs.View.{Change}
-use Rattle.bd_machine.specs.Walks.{change_visit, guards_visit, visited}
-use Rattle.bd_changes.specs.Begun.{begun}
-use Rattle.bd_due.specs.Sending.{bound_for, goes_on}
+use Rattle.bd_machine.specs.Walks.{change_visit, visited}
+use Rattle.bd_due.specs.Sending.{goes_on, sent_off}
+use Rattle.bd_due.specs.Visiting.{visitor}
 use Rattle.bd_links.specs.Entries.{longer}
 use Rattle.bd_tokens.specs.Tokens.{here_in}
 use Rattle.bd_thread.specs.declared.links.Links.{Links}
@@ -22,29 +19,9 @@ use Rattle.bd_thread.specs.declared.thread.Thread.{Thread}
 use Rattle.bd_thread.specs.Aborts.{StopsAll, Then}
 use Rattle.bd_thread.specs.Seen.{untaken, view_of}
 
--- a walk that begins is to be put to where it goes first
-abbrev pub sent_off : Option (WalkId × OpenWalk) → List (ℕ × Token)
-sent_off None = []
-sent_off (Some walk) = bound_for walk.0 walk.1
-
--- a walk that begins is here, and to be put, once, after all else
-pub record Begins (walk : Option (WalkId × OpenWalk)) (old new : Thread) : Type 0 where
-  pub thread : new ≡ record old { held = new.held; outbox = new.outbox }
-  pub held : here_in new.held.items ≡ held_after (begun walk) (here_in old.held.items)
-  pub outbox : new.outbox.items ≡ old.outbox.items ++ sent_off walk
-
--- ---- a visit
-
-abbrev pub may_visit : Thread → Links → WalkId → OpenWalk → Bool
-may_visit t links walk w = is_none (first_failing (guards_visit t.setup.now t.me (view_of t links) walk w.dev w.kind))
-
-abbrev pub if_visited : Thread → Links → WalkId → Option OpenWalk → Option OpenWalk
-if_visited t links walk None = None
-if_visited t links walk (Some w) = cond (may_visit t links walk w) (Some w) None
-
 -- the walk, where it is here and the rules let it visit this thread
 abbrev pub visit_due : Thread → Links → WalkId → Option OpenWalk
-visit_due t links walk = if_visited t links walk (walk_here (view_of t links) walk)
+visit_due t links walk = visitor t.setup.now t.me (view_of t links) walk
 
 -- what a visit changes
 abbrev pub visit_change : Thread → Links → WalkId → OpenWalk → Change

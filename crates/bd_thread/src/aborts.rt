@@ -1,30 +1,17 @@
 //! Aborts: a request of the thread that a mark stops, and all that a mark stops.
-ghost use Rattle.std.specs.Prelude.{◌≡◌, ◌<◌, vec_len, IfOk, OnOk};
-ghost use Rattle.bd_thread.specs.Aborts.{abort_due, Aborts, Stops, StopsAll};
+ghost use Rattle.std.specs.Prelude.{◌<◌, vec_len, IfOk, OnOk};
+ghost use Rattle.bd_thread.specs.Aborts.{Aborts, Stops, StopsAll};
 ghost use Rattle.bd_thread.specs.Acted.{Acted};
 ghost use Rattle.bd_thread.specs.Requests.{KeepsTickets};
 
 use crate::links::Links;
 use crate::thread::Thread;
 use bd_base::{AbortCause, Act, OutOfMemory, ReqId};
-use bd_course::{aborted, refused_abort};
-use bd_due::{drop_unsent, stop_waiting};
-use bd_machine::{Id, Kept, OpenRequest};
-use bd_rules::request_here;
+use bd_course::aborted;
+use bd_due::{abortable, drop_unsent, stop_waiting};
+use bd_machine::{Id, Kept};
 
 impl<'a> Thread<'a> {
-    // The request, where it is here and the rules let it be aborted for this cause.
-    fn abort_due(&self, links: &Links, req: ReqId, cause: AbortCause) -> Option<OpenRequest>
-        ensures { result ≡ abort_due self.now links.now req cause }
-    {
-        let seen = self.seen(links);
-        if refused_abort(&seen, self.setup, self.me, req, cause).is_none() {
-            request_here(&seen, req)
-        } else {
-            None
-        }
-    }
-
     /// Aborts a request that is here, where the rules let it for this cause (it has a range, is neither
     /// aborted nor to fail, and isn't cut, or a piece of it waits here unsent, or it is held): true, and
     /// its pieces that wait unsent are no longer to be put. Else the answer is false, and nothing changed.
@@ -38,7 +25,7 @@ impl<'a> Thread<'a> {
         ensures tickets { OnOk result (KeepsTickets self.old → KeepsTickets self.new) }
         ensures aborts { IfOk result (Aborts req cause self.old links.old self.new links.new) }
     {
-        let Some(r) = self.abort_due(links, req, cause) else {
+        let Some(r) = abortable(&self.seen(links), self.setup, self.me, req, cause) else {
             return Ok(false);
         };
         drop_unsent(&mut self.outbox, &self.held, req);

@@ -2,7 +2,7 @@
 //! handles whose device is being removed, and destructs its devices.
 ghost use Rattle.std.specs.Prelude.{◌≡◌, ◌<◌, vec_len, IfOk, OnOk};
 ghost use Rattle.bd_thread.specs.Acted.{Acted};
-ghost use Rattle.bd_thread.specs.Endings.{is_left, left_on, owes_nothing, removal_left, ClosesLeft, RemovesLeft};
+ghost use Rattle.bd_thread.specs.Endings.{is_left, left_on, ClosesLeft, RemovesLeft};
 ghost use Rattle.bd_thread.specs.Requests.{KeepsTickets};
 ghost use Rattle.bd_thread.specs.Waits.{Idles, NoDestruct, NoHandle, NoHandleOn, NoRemoval, NothingLeft, NothingOwn};
 ghost use Rattle.bd_thread.specs.Work.{AsksNothing};
@@ -10,9 +10,8 @@ ghost use Rattle.bd_registry.specs.State.{rows_of};
 
 use crate::links::Links;
 use crate::thread::Thread;
-use bd_answers::is_live;
-use bd_base::{DevId, OutOfMemory, RegEvent};
-use bd_due::removal_of;
+use bd_base::{DevId, OutOfMemory};
+use bd_due::{owes_nothing, removal_after};
 use bd_machine::Handle;
 use bd_rules::is_gone;
 
@@ -93,7 +92,7 @@ impl<'a> Thread<'a> {
         ensures quiet { OnOk result (Idles NoDestruct self.old links.old self.new links.new) }
         ensures alone { OnOk result (AsksNothing links.old links.new) }
     {
-        if self.owes_nothing() {
+        if owes_nothing(&self.part) {
             return Ok(());
         }
         for place in 0..self.setup.devices.len() {
@@ -105,23 +104,6 @@ impl<'a> Thread<'a> {
         Ok(())
     }
 
-    // Whether the thread owes nothing, and it took no remove event.
-    fn owes_nothing(&self) -> bool
-        ensures { result ≡ owes_nothing self.now }
-    {
-        self.part.owed.len() == 0 && self.part.gone.len() == 0
-    }
-
-    // The removal of a device that is left, after Shutdown on thread 0.
-    fn removal_left(&self, links: &Links, dev: DevId) -> Result<Option<RegEvent>, OutOfMemory>
-        ensures { IfOk result (λ event. event ≡ removal_left self.now links.now dev) }
-    {
-        if !(links.shut && self.me == 0 && is_live(&links.registry, dev)) {
-            return Ok(None);
-        }
-        removal_of(self.setup, dev)
-    }
-
     // Removes a device that is left, where the rules let the thread ask it.
     fn remove_left(&mut self, links: &mut Links, dev: DevId) -> Result<bool, OutOfMemory>
         requires rows { links.old.registry.setup ≡ rows_of self.old.setup.now }
@@ -129,7 +111,8 @@ impl<'a> Thread<'a> {
         ensures tickets { OnOk result (KeepsTickets self.old → KeepsTickets self.new) }
         ensures removes { IfOk result (RemovesLeft self.old links.old self.new links.new dev) }
     {
-        let Some(event) = self.removal_left(links, dev)? else {
+        let registry = &links.registry;
+        let Some(event) = removal_after(self.setup, registry, self.me, links.shut, dev)? else {
             return Ok(false);
         };
         if !self.may_ask(links, &event) {
@@ -167,7 +150,7 @@ impl<'a> Thread<'a> {
         ensures tickets { OnOk result (KeepsTickets self.old → KeepsTickets self.new) }
         ensures quiet { OnOk result (Idles NothingOwn self.old links.old self.new links.new) }
     {
-        if self.owes_nothing() {
+        if owes_nothing(&self.part) {
             return Ok(());
         }
         self.close_all_left(links)?;

@@ -2,9 +2,8 @@
 //! and each line's end.
 ghost use Rattle.std.specs.Prelude.{◌≡◌, ◌<◌, true, vec_len, IfOk, IfSome, OnOk};
 ghost use Rattle.bd_changes.specs.Begun.{with_walk};
-ghost use Rattle.bd_machine.specs.Events.{change_reg, removal_paid, removing};
+ghost use Rattle.bd_machine.specs.Events.{change_reg};
 ghost use Rattle.bd_machine.specs.Guards.{is_built_event};
-ghost use Rattle.bd_machine.specs.Registry.{device_named};
 ghost use Rattle.bd_machine.specs.View.{View};
 ghost use Rattle.bd_registry.specs.State.{rows_of};
 ghost use Rattle.bd_view.specs.Came.{came_shut};
@@ -12,18 +11,15 @@ ghost use Rattle.bd_due.specs.Following.{close_due};
 ghost use Rattle.bd_thread.specs.Acted.{Acted};
 ghost use Rattle.bd_thread.specs.Lines.{close_asked, made_by, may_ask, may_ask_after, may_close, Claims, Closes, EndsLine, Follows, IsAnswered, IsFollowed, Opens, Removes};
 ghost use Rattle.bd_thread.specs.Requests.{KeepsTickets};
-ghost use Rattle.bd_thread.specs.Seen.{view_of};
 ghost use Rattle.bd_base.specs.declared.event.RegEvent.TheVariants as events;
 
 use crate::links::Links;
 use crate::thread::Thread;
-use bd_answers::made;
 use bd_asked::{asks_event, bound_to, next_line, outcome_of, undecided_job};
-use bd_base::{Act, Answer, DevId, DevList, Job, Name, OutOfMemory, RegEvent, Rows, WalkId};
-use bd_blocks::number_named;
+use bd_base::{Act, Answer, DevId, Job, OutOfMemory, RegEvent, WalkId};
 use bd_changes::{closed, decide, line_done};
-use bd_due::{close_due, get_due};
-use bd_events::{dropped, freed, got, put_down, removal_paid};
+use bd_due::{begin_walk, close_due, get_due, made_by, removal_answered};
+use bd_events::{dropped, freed, got, put_down};
 use bd_links::next_stamp;
 use bd_machine::{Between, Handle, OpenWalk};
 use bd_view::{Records, Sees};
@@ -80,34 +76,6 @@ impl<'a> Thread<'a> {
         )
     }
 
-    // The channels that a get makes on the thread; none for another event.
-    fn made_by(&self, links: &Links, event: &RegEvent) -> Result<DevList, OutOfMemory>
-        ensures { IfOk result (λ devs. devs ≡ made_by self.now.setup.now (view_of self.now links.now) event.now) }
-    {
-        match event {
-            RegEvent::GetChannel { dev } => {
-                made(self.alloc, self.setup, &links.registry, self.me, *dev)
-            }
-            _ => Ok(Rows::new(self.alloc)),
-        }
-    }
-
-    // The part is as this answer to a removal leaves it; the walk that begins by it, if one does.
-    fn removing(
-        &mut self,
-        shut: bool,
-        name: &Name,
-        answer: &Answer,
-    ) -> Result<Option<(WalkId, OpenWalk)>, OutOfMemory>
-        ensures thread { OnOk result (self.new ≡ record self.old { part = self.new.part }) }
-        ensures change { IfOk result (λ walk. with_walk self.new.part walk
-            ≡ removing self.old.setup.now self.old.me answer.now (removal_paid (came_shut shut) answer.now (device_named self.old.setup.now name.now) self.old.part)) }
-    {
-        let named = number_named(self.setup, name)?;
-        removal_paid(&mut self.part, shut, answer, named);
-        bd_events::removing(&mut self.part, self.setup, self.me, answer)
-    }
-
     // The part is as this answer to an event leaves it, which makes these channels where it is a get; the
     // walk that begins by it, if one does.
     fn answered(
@@ -148,7 +116,9 @@ impl<'a> Thread<'a> {
                 dropped(&mut self.part, setup, me, *dev, answer)?;
                 Ok(None)
             }
-            RegEvent::BeginRemove { name } => self.removing(shut, name, answer),
+            RegEvent::BeginRemove { name } => {
+                removal_answered(&mut self.part, setup, me, shut, name, answer)
+            }
             RegEvent::Destructed { dev } => {
                 freed(&mut self.part, *dev, answer)?;
                 Ok(None)
@@ -170,10 +140,10 @@ impl<'a> Thread<'a> {
         let Some(stamp) = next_stamp(&links.entries, links.registry.last_stamp()) else {
             return Err(OutOfMemory);
         };
-        let made = self.made_by(links, &event)?;
+        let made = made_by(self.alloc, self.setup, &links.registry, self.me, &event)?;
         let answer = links.registry.event(self.alloc, self.me, stamp, &event)?;
         let walk = self.answered(links.shut, made.as_slice(), &event, &answer)?;
-        self.begin(walk)?;
+        begin_walk(&mut self.held, &mut self.outbox, walk)?;
         self.note(links, Act::Reg { event, answer })?;
         Ok(())
     }

@@ -17,7 +17,9 @@ use bd_asked::{MOST_REQUESTS, next_line};
 use bd_base::{Act, DevId, Errno, HandleId, OutOfMemory, ReqId};
 use bd_blocks::{extents, home};
 use bd_changes::{accepted, completed};
-use bd_due::{Ending, drop_request, ending_of, hold_pieces, piece_count, send_pieces, spend};
+use bd_due::{
+    Ending, drop_left, drop_request, ending_of, hold_pieces, piece_count, send_pieces, spend,
+};
 use bd_machine::{Decided, Id, Kept, Open, OpenRequest};
 use bd_msg::Ticket;
 use bd_rules::{admit, new_request, uncut};
@@ -206,12 +208,12 @@ impl<'a> Thread<'a> {
         Ok(n)
     }
 
-    /// Completes a request that is here, where every piece of it is back with its end, or it was aborted and
-    /// none of its pieces is out, and the rules let it complete: on its own thread, with no walk of its
-    /// reset under way and no delay left. It fails where a piece has a fault or a failure was injected, and
-    /// is aborted where an abort reached it. A read that succeeds shows the first 8 bytes and the digest of
-    /// its data, and completes only where there are as many. Its ticket is spent. Else the answer is false,
-    /// and nothing changed.
+    /// Completes a request that is here, where the rules let it: on its own thread, with none of its pieces
+    /// out, with no walk of its reset under way and no delay left. It fails where a piece has a fault or a
+    /// failure was injected, is aborted where an abort reached it, and succeeds where every piece was served.
+    /// Its pieces that wait unsent, where it doesn't succeed, are no longer to be put. A read that succeeds
+    /// shows the first 8 bytes and the digest of its data, and completes only where there are as many. Its
+    /// ticket is spent. Else the answer is false, and nothing changed.
     pub fn complete(&mut self, links: &mut Links, req: ReqId) -> Result<bool, OutOfMemory>
         requires me { number_of self.old < vec_len links.old.queues }
         ensures acted { OnOk result (Acted self.old links.old self.new links.new) }
@@ -238,6 +240,7 @@ impl<'a> Thread<'a> {
             status,
             shown,
         } = ending;
+        drop_left(&mut self.outbox, &self.held, req, status);
         drop_request(&mut self.held, req, pieces);
         completed(self.alloc, &mut self.part, req);
         spend(&mut self.purse, req, status);

@@ -1,35 +1,13 @@
 //! When a thread has nothing under way.
 ghost use Rattle.std.specs.Prelude.{◌≡◌};
-ghost use Rattle.std.specs.List.{list_all};
-ghost use Rattle.bd_thread.specs.Resting.{has_destructed_all, is_blocked, is_settled, rests};
+ghost use Rattle.bd_thread.specs.Resting.{has_destructed_all, is_blocked, rests};
 
 use crate::links::Links;
 use crate::thread::Thread;
 use bd_asked::is_script_blocked;
-use bd_base::HandleId;
-use bd_blocks::is_base_handle;
-use bd_due::are_done_with;
-use bd_view::Sees;
+use bd_due::{are_done_with, are_settled};
 
 impl<'a> Thread<'a> {
-    // Whether the handle is a base handle, or isn't open on this thread.
-    fn is_settled(&self, links: &Links, id: HandleId) -> bool
-        ensures { result ≡ is_settled self.now links.now id }
-    {
-        is_base_handle(self.setup, id) || self.seen(links).handle(id).is_none()
-    }
-
-    // Whether each handle whose remove event was taken is closed, but for base handles.
-    fn closed_all_gone(&self, links: &Links) -> bool
-        ensures { result ≡ list_all (is_settled self.now links.now) self.now.part.gone }
-    {
-        self.part
-            .gone
-            .as_slice()
-            .iter()
-            .all(|id| self.is_settled(links, *id))
-    }
-
     /// Whether no token is on the thread, nothing is still to be put or done, each handle whose remove
     /// event it took is closed (but for base handles), and its last entry took no injection.
     pub fn rests(&self, links: &Links) -> bool
@@ -39,7 +17,7 @@ impl<'a> Thread<'a> {
             && self.part.due.len() == 0
             && self.part.owed.len() == 0
             && self.part.injection.is_none()
-            && self.closed_all_gone(links)
+            && are_settled(&self.seen(links), self.setup)
     }
 
     /// Whether its script is at its end, or the next line waits for a mark, for a remove event, for its

@@ -285,7 +285,7 @@ impl<'a> Thread<'a> {
     }
 
     // Puts the first message that is due on its way, where it is one that threads put, unless the queue
-    // that it goes to is full.
+    // that it goes to is full; then it takes no memory.
     #[tactic(auto, using(crate::proofs::Alone::alone_none))]
     fn put_due(&mut self, links: &mut Links) -> Result<bool, OutOfMemory>
         requires { self.old.me < vec_len links.old.queues }
@@ -294,12 +294,10 @@ impl<'a> Thread<'a> {
         ensures quiet { OnOk result (Idles NothingToPost self.old links.old self.new links.new) }
         ensures alone { OnOk result (AsksNothing links.old links.new) }
     {
-        let Some((to, what)) = first_due(self.part.due.as_slice())? else {
+        let queues = links.queues.as_slice();
+        let Some((to, what)) = first_due(self.part.due.as_slice(), queues)? else {
             return Ok(false);
         };
-        if is_full(links.queues.as_slice(), to) {
-            return Ok(false);
-        }
         self.put(links, to, what)
     }
 

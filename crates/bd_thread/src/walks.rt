@@ -1,61 +1,19 @@
-//! Walks over the threads: those that begin here, and those that visit this thread.
+//! Walks over the threads, as they visit this one.
 ghost use Rattle.std.specs.Prelude.{◌≡◌, ◌<◌, vec_len, IfOk, OnOk, Some};
 ghost use Rattle.bd_thread.specs.Acted.{Acted};
 ghost use Rattle.bd_thread.specs.Requests.{KeepsTickets};
-ghost use Rattle.bd_thread.specs.Walking.{if_visited, may_visit, visit_due, Begins, IsVisited, StopsFor, Visits};
+ghost use Rattle.bd_thread.specs.Walking.{visit_due, IsVisited, StopsFor, Visits};
 
 use crate::links::Links;
 use crate::thread::Thread;
 use bd_base::{AbortCause, Act, DevId, OutOfMemory, WalkId, WalkKind};
 use bd_changes::walk_on;
-use bd_due::{send_off, send_on};
+use bd_due::{begin_walk, send_on, visitor};
 use bd_machine::OpenWalk;
-use bd_rules::walk_here;
 use bd_view::Sees;
-use bd_walks::{mark, refused_visit, visited};
+use bd_walks::{mark, visited};
 
 impl<'a> Thread<'a> {
-    /// A walk that begins is here, and to be put to the first thread that it visits.
-    pub(crate) fn begin(&mut self, walk: Option<(WalkId, OpenWalk)>) -> Result<(), OutOfMemory>
-        ensures { OnOk result (Begins walk self.old self.new) }
-    {
-        self.held.hold_begun(walk)?;
-        match walk {
-            Some((id, walk)) => send_off(&mut self.outbox, id, walk),
-            None => Ok(()),
-        }
-    }
-
-    // Whether the rules let the walk visit this thread.
-    fn may_visit(&self, links: &Links, id: WalkId, walk: OpenWalk) -> bool
-        ensures { result ≡ may_visit self.now links.now id walk }
-    {
-        let OpenWalk { dev, kind, .. } = walk;
-        refused_visit(&self.seen(links), self.setup, self.me, id, dev, kind).is_none()
-    }
-
-    fn if_visited(&self, links: &Links, id: WalkId, walk: Option<OpenWalk>) -> Option<OpenWalk>
-        ensures { result ≡ if_visited self.now links.now id walk }
-    {
-        match walk {
-            Some(walk) => {
-                if self.may_visit(links, id, walk) {
-                    Some(walk)
-                } else {
-                    None
-                }
-            }
-            None => None,
-        }
-    }
-
-    // The walk, where it is here and the rules let it visit this thread.
-    fn visit_due(&self, links: &Links, id: WalkId) -> Option<OpenWalk>
-        ensures { result ≡ visit_due self.now links.now id }
-    {
-        self.if_visited(links, id, walk_here(&self.seen(links), id))
-    }
-
     // The walk visits this thread: the marks of its device are set or taken, and it ends, or is to be put to
     // where it goes next.
     fn pass(&mut self, links: &mut Links, id: WalkId, walk: OpenWalk) -> Result<(), OutOfMemory>
@@ -70,7 +28,7 @@ impl<'a> Thread<'a> {
         mark(&mut self.part, self.setup, self.me, channel, dev, kind)?;
         let next = walk_on(&mut self.part, self.me, id, after)?;
         self.held.hold_walk(self.me, id, after)?;
-        self.begin(next)?;
+        begin_walk(&mut self.held, &mut self.outbox, next)?;
         send_on(&mut self.outbox, self.me, id, after)?;
         self.note(
             links,
@@ -105,7 +63,7 @@ impl<'a> Thread<'a> {
         ensures tickets { OnOk result (KeepsTickets self.old → KeepsTickets self.new) }
         ensures visits { IfOk result (Visits id self.old links.old self.new links.new) }
     {
-        let Some(walk) = self.visit_due(links, id) else {
+        let Some(walk) = visitor(&self.seen(links), self.setup, self.me, id) else {
             return Ok(false);
         };
         self.pass(links, id, walk)?;

@@ -4,7 +4,8 @@ use Rattle.bd_machine.specs.declared.state.Id.TheVariants as ids
 use Rattle.bd_machine.specs.declared.state.Kept.TheVariants as keeps
 use Rattle.bd_machine.specs.declared.state.OpenRequest.{OpenRequest}
 use Rattle.bd_machine.specs.Aborts.{stopped}
-use Rattle.bd_due.specs.Stopping.{without_unsent}
+use Rattle.bd_machine.specs.View.{View}
+use Rattle.bd_due.specs.Stopping.{abortable, without_unsent}
 use Rattle.bd_links.specs.Entries.{longer}
 use Rattle.bd_tokens.specs.Tokens.{here_in, Sets}
 use Rattle.bd_thread.specs.declared.links.Links.{Links}
@@ -18,14 +19,18 @@ use Rattle.bd_thread.proofs.Going.{carried}
 use Rattle.bd_thread.proofs.thread.Thread.abort.Goals as goal
 
 pub returns-in_default-clause-aborts : goal.returns-in_default-clause-aborts
-returns-in_default-clause-aborts c = stays_open c.args.self.now c.args.links.now c.args.req c.args.cause (sym c.abort_due.ensures ∙ c.in_default.is)
+returns-in_default-clause-aborts c =
+    let old = c.args.self.now in
+    let none = sym (c.abortable.ensures ∙ ap (λ (v : View). abortable old.setup.now old.me v c.args.req c.args.cause) c.seen.ensures) ∙ c.in_default.is in
+    stays_open old c.args.links.now c.args.req c.args.cause none
 
 pub returns : goal.returns
 returns c =
     let old = c.args.self.now in
     let before = c.args.links.now in
     let r = c.in-Some.r in
-    let due : abort_due old before c.args.req c.args.cause ≡ Some r = sym c.abort_due.ensures ∙ c.in-Some.is in
+    let due : abort_due old before c.args.req c.args.cause ≡ Some r =
+    sym (c.abortable.ensures ∙ ap (λ (v : View). abortable old.setup.now old.me v c.args.req c.args.cause) c.seen.ensures) ∙ c.in-Some.is in
     let part = untaken (stopped old.setup.now old.part c.args.req (Some r)) in
     let new : Thread = record old { part = part; held = c.hold.new.self; outbox = c.drop_unsent.new.outbox } in
     let after : Links = record before { entries = longer old.me before.entries (acts.Abort c.args.req c.args.cause) } in

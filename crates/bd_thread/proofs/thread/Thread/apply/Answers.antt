@@ -1,4 +1,4 @@
-use Rattle.std.proofs.Common.{◌≡◌, List, length, refl, sym, ◌∙◌, ap, subst}
+use Rattle.std.proofs.Common.{◌≡◌, ℕ, List, length, refl, sym, ◌∙◌, ap, subst}
 use Rattle.std.specs.List.{find}
 use Rattle.bd_base.specs.declared.act.Act.TheVariants as acts
 use Rattle.bd_base.specs.declared.act.ApplyEnd.TheVariants as ends
@@ -14,7 +14,7 @@ use Rattle.bd_thread.specs.declared.thread.Thread.{Thread}
 use Rattle.bd_thread.specs.Acted.{Acted}
 use Rattle.bd_thread.specs.Requests.{KeepsTickets}
 use Rattle.bd_thread.specs.Seen.{untaken}
-use Rattle.bd_thread.specs.Served.{may_hold}
+use Rattle.bd_due.specs.Serving.{may_hold}
 use Rattle.bd_thread.proofs.Applies.{apply_steps, at_home}
 use Rattle.bd_thread.proofs.Going.{acted_by, carried}
 use Rattle.bd_thread.proofs.Tickets.{same_tickets}
@@ -28,17 +28,19 @@ returns-clause-acted c =
     let n = c.in-Some.next in
     let act = acts.Apply n.req n.k dev ends.Done in
     let size = c.size_of-size.result in
+    let next = c.in-Some.ensures.next in
     let here = here_in t.held.items in
     let new : Thread = record t { part = untaken (record t.part { bases = c.serve.new.bases }); held = c.hold.new.self } in
     let after : Links = record links { entries = longer t.me links.entries act } in
     let bases-are : t.part.bases ≡ c.as_slice-bases.result.now = sym c.as_slice-bases.ensures in
-    let home-is : home t.setup.now dev ≡ t.me = at_home t.setup.now t.me dev (sym c.is_home.ensures ∙ c.if-not-is_home.false) in
-    let holds = ap (λ (bs : List Base). may_hold t.setup.now dev (find (is_base dev) bs)) bases-are ∙ ap (may_hold t.setup.now dev) (sym c.find_base.ensures) ∙ sym c.may_hold.ensures ∙ c.if-not-may_hold.false in
-    let first = ap (λ (bs : List Base). is_first_at n.req n.k (find (is_base dev) bs)) bases-are ∙ c.in-Some.ensures.next.first in
-    let is = c.in-Some.ensures.next.here in
-    let ready = ap (λ (bs : List Base). can_serve size dev (find (is_base dev) bs) n.piece.now) bases-are ∙ c.in-Some.ensures.next.ready in
+    let home-is : home t.setup.now dev ≡ t.me = at_home t.setup.now t.me dev next.home in
+    let holds = ap (λ (bs : List Base). may_hold t.setup.now dev (find (is_base dev) bs)) bases-are ∙ next.holds in
+    let first = ap (λ (bs : List Base). is_first_at n.req n.k (find (is_base dev) bs)) bases-are ∙ next.ready.first in
+    let ready = ap (λ (bs : List Base). can_serve size dev (find (is_base dev) bs) n.piece.now) bases-are
+    ∙ ap (λ (bytes : ℕ). can_serve bytes dev (find (is_base dev) c.as_slice-bases.result.now) n.piece.now) c.size_of-size.ensures
+    ∙ next.ready.serves in
     let stepped = apply_steps t.setup.now t.me t.part here links.registry.state links.shut (length links.entries) (queues_of links.queues.items) n.req n.k dev n.piece.now size c.in_ok-piece.piece c.serve.new.bases (here_in c.hold.new.self.items)
-    home-is c.size_of-size.ensures first is ready holds c.in_ok-piece.ensures.bases c.in_ok-piece.ensures.piece c.in_ok-hold.ensures.ok in
+    home-is c.size_of-size.ensures first next.ready.here ready holds c.in_ok-piece.ensures.bases c.in_ok-piece.ensures.piece c.in_ok-hold.ensures.ok in
     carried (Acted t links) new after _ _ c.in_ok-note.ensures.thread c.in_ok-note.ensures.links (acted_by t links new after act refl refl refl refl refl stepped)
 
 pub returns-clause-tickets : goal.returns-clause-tickets

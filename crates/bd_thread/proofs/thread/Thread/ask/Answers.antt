@@ -7,13 +7,13 @@ use Rattle.bd_machine.specs.Alone.{held_after}
 use Rattle.bd_machine.specs.Registry.{answer_to}
 use Rattle.bd_machine.specs.View.{Change}
 use Rattle.bd_changes.specs.Begun.{begun, with_walk}
+use Rattle.bd_due.specs.Sending.{sent_off}
 use Rattle.bd_registry.specs.State.{Registered, registered}
 use Rattle.bd_registry.proofs.Rows.{answer_of_rows, after_of_rows}
 use Rattle.bd_links.specs.Entries.{longer, next_stamp}
 use Rattle.bd_tokens.specs.Tokens.{here_in}
 use Rattle.bd_thread.specs.Acted.{Acted}
 use Rattle.bd_thread.specs.Lines.{answered, asked_registry, change_by, event_stamp, IsAnswered}
-use Rattle.bd_thread.specs.Walking.{sent_off}
 use Rattle.bd_thread.specs.Requests.{KeepsTickets}
 use Rattle.bd_thread.specs.Seen.{untaken, view_of}
 use Rattle.bd_thread.specs.declared.links.Links.{Links}
@@ -39,12 +39,12 @@ returns c =
     let walk = c.in_ok-walk.walk in
     let changed : with_walk c.answered.new.self.part walk ≡ change_by t links event answer =
     c.in_ok-walk.ensures.change (view_of t links) refl (c.as_slice.ensures ∙ c.in_ok-made.ensures) in
-    let began = c.in_ok-begin.ensures in
+    let began = c.in_ok-begin_walk.ensures in
     let part : untaken c.answered.new.self.part ≡ answered t links event answer = ap (λ (x : Change). untaken x.part) changed in
-    let new : Thread = record t { part = answered t links event answer; held = c.begin.new.self.held; outbox = c.begin.new.self.outbox } in
+    let new : Thread = record t { part = answered t links event answer; held = c.begin_walk.new.tokens; outbox = c.begin_walk.new.outbox } in
     let after : Links = record links { registry = asked_registry t links event answer; entries = longer t.me links.entries (acts.Reg event answer) } in
-    let left : c.begin.new.self ≡ record t { part = c.answered.new.self.part; held = c.begin.new.self.held; outbox = c.begin.new.self.outbox } =
-    began.thread ∙ ap (λ (n : Thread). let m : Thread = record n { held = c.begin.new.self.held; outbox = c.begin.new.self.outbox } in m) c.in_ok-walk.ensures.thread in
+    let walked : Thread → Thread = λ n. record n { held = c.begin_walk.new.tokens; outbox = c.begin_walk.new.outbox } in
+    let left : walked c.answered.new.self ≡ record new { part = c.answered.new.self.part } = ap walked c.in_ok-walk.ensures.thread in
     let thread = c.in_ok-note.ensures.thread
     ∙ ap (λ (n : Thread). let m : Thread = record n { part = untaken n.part } in m) left
     ∙ ap (λ (p : Part). let m : Thread = record new { part = p } in m) part in
@@ -58,8 +58,8 @@ returns c =
       walk = walk;
       begins = sym (ap (λ (x : Change). x.moves) changed);
       thread = refl;
-      held = began.held ∙ ap (λ (n : Thread). held_after (begun walk) (here_in n.held.items)) c.in_ok-walk.ensures.thread;
-      outbox = began.outbox ∙ ap (λ (n : Thread). n.outbox.items ++ sent_off walk) c.in_ok-walk.ensures.thread;
+      held = began.here ∙ ap (λ (n : Thread). held_after (begun walk) (here_in n.held.items)) c.in_ok-walk.ensures.thread;
+      outbox = began.sent ∙ ap (λ (n : Thread). n.outbox.items ++ sent_off walk) c.in_ok-walk.ensures.thread;
       links = refl;
     } in
     record {

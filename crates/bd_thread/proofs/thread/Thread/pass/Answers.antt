@@ -14,8 +14,8 @@ use Rattle.bd_thread.specs.declared.thread.Thread.{Thread}
 use Rattle.bd_thread.specs.Acted.{Acted}
 use Rattle.bd_thread.specs.Requests.{KeepsTickets}
 use Rattle.bd_thread.specs.Seen.{untaken, view_of}
-use Rattle.bd_due.specs.Sending.{goes_on}
-use Rattle.bd_thread.specs.Walking.{sent_off, visit_change, visit_due, IsVisited}
+use Rattle.bd_due.specs.Sending.{goes_on, sent_off}
+use Rattle.bd_thread.specs.Walking.{visit_change, visit_due, IsVisited}
 use Rattle.bd_thread.proofs.Going.{carried}
 use Rattle.bd_thread.proofs.Took.{held_then}
 use Rattle.bd_thread.proofs.Walking.{change_is, marked_as, visit_may, visited_acted, visited_tickets}
@@ -42,25 +42,21 @@ returns c =
     c.in_ok-next.ensures.part ∙ ap (λ (p : Part). (walked me id after p).part) marked ∙ sym (ap (λ (x : Change). x.part) changed) in
     let moves : walk_moved me id after ++ begun c.in_ok-next.next ≡ (visit_change t links id w).moves =
     sym c.in_ok-next.ensures.moves ∙ ap (λ (p : Part). (walked me id after p).moves) marked ∙ sym (ap (λ (x : Change). x.moves) changed) in
-    let began = c.in_ok-begin.ensures in
-    let held : here_in c.begin.new.self.held.items ≡ held_after (visit_change t links id w).moves (here_in t.held.items) =
-    began.held ∙ ap (held_after (begun c.in_ok-next.next)) c.in_ok-hold_walk.ensures.ok
+    let began = c.in_ok-begin_walk.ensures in
+    let held : here_in c.begin_walk.new.tokens.items ≡ held_after (visit_change t links id w).moves (here_in t.held.items) =
+    began.here ∙ ap (held_after (begun c.in_ok-next.next)) c.in_ok-hold_walk.ensures.ok
     ∙ sym (held_then (walk_moved me id after) (begun c.in_ok-next.next) (here_in t.held.items))
     ∙ ap (λ (ms : List Move). held_after ms (here_in t.held.items)) moves in
-    let new : Thread = record t { part = untaken (visit_change t links id w).part; held = c.begin.new.self.held; outbox = c.send_on.new.outbox } in
+    let new : Thread = record t { part = untaken (visit_change t links id w).part; held = c.begin_walk.new.tokens; outbox = c.send_on.new.outbox } in
     let shared : Links = record links { entries = longer me links.entries (acts.Visit id w.dev w.kind) } in
-    let left : c.begin.new.self ≡ record t { part = c.walk_on.new.part; held = c.begin.new.self.held; outbox = c.begin.new.self.outbox } = began.thread in
-    let thread = c.in_ok-note.ensures.thread
-    ∙ ap (λ (n : Thread). let m : Thread = record n { part = untaken n.part; outbox = c.send_on.new.outbox } in m) left
-    ∙ ap (λ (p : Part). let m : Thread = record new { part = untaken p } in m) part in
-    let entries = c.in_ok-note.ensures.links ∙ ap (λ (n : Thread). let l : Links = record links { entries = longer n.me links.entries (acts.Visit id w.dev w.kind) } in l) left in
+    let thread = c.in_ok-note.ensures.thread ∙ ap (λ (p : Part). let m : Thread = record new { part = untaken p } in m) part in
+    let entries = c.in_ok-note.ensures.links in
     let is : IsVisited id w t links new shared = record {
       next = c.in_ok-next.next;
       thread = refl;
       held = held;
       outbox = c.in_ok-send_on.ensures
-          ∙ ap (λ (n : Thread). c.begin.new.self.outbox.items ++ goes_on n.me id after) left
-          ∙ ap (λ xs. xs ++ goes_on me id after) began.outbox
+          ∙ ap (λ xs. xs ++ goes_on me id after) began.sent
           ∙ ap (λ (x : OpenWalk). (t.outbox.items ++ sent_off c.in_ok-next.next) ++ goes_on me id x) c.visited-after.ensures;
       links = refl;
     } in

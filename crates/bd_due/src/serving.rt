@@ -1,0 +1,58 @@
+//! Which piece a home serves next on a device.
+ghost use Rattle.std.specs.Prelude.{◌≡◌, IfSome, find};
+ghost use Rattle.std.specs.Option.{option_map};
+ghost use Rattle.bd_machine.specs.BlockMap.{size_of};
+ghost use Rattle.bd_machine.specs.Homes.{is_base};
+ghost use Rattle.bd_tokens.specs.Tokens.{here_in};
+ghost use Rattle.bd_due.specs.Serving.{id_of, next_in, next_piece, IsNext, IsReady};
+
+use bd_base::{DevId, ReqId, Setup};
+use bd_blocks::{find_base, is_home, size_of};
+use bd_home::{can_serve, first_waiting};
+use bd_machine::{Base, Id, OpenPiece};
+use bd_rules::may_hold;
+use bd_tokens::Tokens;
+use bd_view::as_piece;
+
+/// A piece that is served next, by its name, as it is kept here.
+#[derive(Clone, Copy)]
+pub struct Next<'t> {
+    pub req: ReqId,
+    pub k: u32,
+    pub piece: &'t OpenPiece,
+}
+
+// The piece that waits first at the device, where it is here and the device can serve it.
+fn next_in<'t>(bases: &[Base], tokens: &'t Tokens, setup: &Setup, dev: DevId) -> Option<Next<'t>>
+    ensures ready { IfSome result (IsReady (size_of setup.now dev) dev (find (is_base dev) bases.now) tokens.now.items) }
+    ensures due { option_map id_of result ≡ next_in (size_of setup.now dev) dev (here_in tokens.now.items) (find (is_base dev) bases.now) }
+{
+    let (req, k) = first_waiting(bases, dev)?;
+    let piece = as_piece(tokens.get(Id::Piece(req, k)))?;
+    if can_serve(bases, size_of(setup, dev), dev, piece) {
+        Some(Next { req, k, piece })
+    } else {
+        None
+    }
+}
+
+/// The piece that thread `me` serves next on a device: the one that waits first there, where the thread is
+/// the device's home, the piece is here, and the device can serve it. Whether one waits is looked at first:
+/// mostly none does, and the other questions walk over the setup.
+pub fn next_due<'t>(
+    bases: &[Base],
+    tokens: &'t Tokens,
+    setup: &Setup,
+    me: u32,
+    dev: DevId,
+) -> Option<Next<'t>>
+    ensures next { IfSome result (IsNext setup.now me dev (find (is_base dev) bases.now) tokens.now.items) }
+    ensures due { option_map id_of result ≡ next_piece setup.now me (here_in tokens.now.items) dev (find (is_base dev) bases.now) }
+{
+    let next = next_in(bases, tokens, setup, dev)?;
+    if is_home(setup, me, dev) && may_hold(setup, dev, find_base(bases, dev)) {
+        Some(next)
+    } else {
+        None
+    }
+}
