@@ -10,6 +10,7 @@ pub mod Rounds
 pub mod Telling
 pub mod Waiting
 pub mod Dealing
+pub mod Crews
 pub mod Starts
 pub mod Shut
 pub mod Marks

@@ -154,6 +154,10 @@ pub record IsSitting (w : Wires) (s : Seat) : Type 0 where
   pub p : Phase
   pub sits : Sits setup t p w s
 
+-- it sits, unless it has to halt
+abbrev pub SitsOrHalts : Wires → Seat → Type 0
+SitsOrHalts w s = s.halted ≡ None → IsSitting w s
+
 -- whoever sat there sits there still, further on its course
 pub record Continues (w : Wires) (old new : Seat) : Type 0 where
   pub flag : new.worker.links.shut ≡ old.worker.links.shut

@@ -3,6 +3,7 @@
 #![tactic(auto)]
 
 mod building;
+mod crew;
 mod ending;
 mod history;
 mod node;

@@ -15,7 +15,7 @@ use crate::history::History;
 use crate::schedule::Schedule;
 use crate::seat::Seat;
 use crate::sharing::{Deal, turn_all};
-use crate::turning::Watch;
+use crate::crew::Watch;
 use bd_base::{OutOfMemory, Rows, Setup};
 use bd_log::merge;
 use bd_outside::Gate;
@@ -214,10 +214,11 @@ impl<'a> Node<'a> {
     }
 
     /// A round: this number of reactors (from 1 on; else one) share the threads by turns, of N reactors number r
-    /// has those whose number is r modulo N, and give each up to 256 turns, until one is quiet. No reactor has
-    /// more than (threads / reactors, rounded up): the last may have fewer, and some none. Where there are more
-    /// than one they run beside each other, if the system has threads for them. Each passes the gate before a
-    /// turn.
+    /// has those whose number is r modulo N. No reactor has more than (threads / reactors, rounded up): the last
+    /// may have fewer, and some none. Where there are more than one they run beside each other, if the system has
+    /// threads for them. A reactor goes over its threads, a turn each, and after each that moved one more for the
+    /// first, and passes the gate before each turn, until none of them moved in a pass while no other reactor was
+    /// at work, or until they moved in 256 passes.
     pub fn round<R: Threads + Wait + Sync, G: Gate + Sync>(
         &mut self,
         rt: &R,
@@ -231,16 +232,14 @@ impl<'a> Node<'a> {
         ensures schedule { OnOk result (seed_of self.new ≡ seed_of self.old) }
     {
         self.rounds = self.rounds.saturating_add(1);
-        let watch = Watch {
-            gate,
-            round: self.rounds,
-            deal: Deal::of(self.setup.threads, reactors),
-        };
+        let watch = Watch::new(gate, self.rounds);
+        let deal = Deal::of(self.setup.threads, reactors);
         turn_all(
             rt,
             self.alloc,
             &self.wires,
             &watch,
+            deal,
             self.seats.as_mut_slice(),
         );
         if all_go(self.seats.as_slice()) {

@@ -5,7 +5,7 @@ ghost use Rattle.bd_node.specs.Seats.{AllWentOn, IsSitting, number_in};
 ghost use Rattle.bd_node.specs.Whole.{StaySeated};
 
 use crate::seat::Seat;
-use crate::turning::Watch;
+use crate::crew::{Watch, give_turns};
 use bd_outside::Gate;
 use bd_wires::Wires;
 use std::alloc::Global;
@@ -17,9 +17,9 @@ use std::thread::{self, Threads};
 /// left are dealt to the others by turns.
 #[derive(Clone, Copy, Debug, PartialEq, Eq)]
 pub(crate) struct Deal {
-    /// How many reactors there may be, at least one.
-    pub most: u32,
-    /// How many there are.
+    /// How many threads a reactor has, at least one; the last may have fewer.
+    pub each: u32,
+    /// How many reactors there are.
     reactors: u32,
     /// How many threads the last of them has.
     common: u32,
@@ -27,14 +27,13 @@ pub(crate) struct Deal {
 
 impl Deal {
     pub fn of(threads: u32, reactors: u32) -> Self
-        ensures { 0 < result.most }
+        ensures { 0 < result.each }
     {
-        let most = reactors.min(threads).max(1);
-        let each = threads.div_ceil(most).max(1);
+        let each = threads.div_ceil(reactors.max(1)).max(1);
         let reactors = threads.div_ceil(each).max(1);
         let others = each.saturating_mul(reactors - 1);
         Deal {
-            most,
+            each,
             reactors,
             common: threads.saturating_sub(others),
         }
@@ -68,42 +67,45 @@ fn gather<'a>(seats: &mut [Seat<'a>])
     seats.sort_unstable_by_key(|seat| seat.worker.me);
 }
 
-// Each seat has its turns of a round. A system thread has (seats / threads, rounded up) neighbours, the last the rest.
+// Each reactor gives its seats their turns: each has this number of neighbours, the last the rest.
 fn turn_each<R: Threads + Wait + Sync, G: Gate + Sync>(
     rt: &R,
     alloc: Global,
     wires: &Wires,
     watch: &Watch<G>,
-    threads: usize,
+    each: usize,
     seats: &mut [Seat],
 )
-    requires some { 0 < threads }
+    requires some { 0 < each }
     requires sits { All (IsSitting wires.now) seats.old }
     ensures len { length seats.new ≡ length seats.old }
     ensures each { AllWentOn wires.now seats.old seats.new }
 {
-    thread::for_each_mut(
+    thread::for_each_chunk_mut(
         rt,
         seats,
-        threads,
-        &|_, seat: &mut Seat| { seat.turns(rt, alloc, wires, watch) },
+        each,
+        &|start, crew: &mut [Seat]| {
+            give_turns(rt, alloc, wires, watch, (start / each) as u32, crew)
+        },
     );
 }
 
-/// Each seat has its turns of a round, on as many system threads as there are reactors.
+/// Each seat has its turns of a round, by the reactor to which its thread is dealt.
 pub(crate) fn turn_all<R: Threads + Wait + Sync, G: Gate + Sync>(
     rt: &R,
     alloc: Global,
     wires: &Wires,
     watch: &Watch<G>,
+    deal: Deal,
     seats: &mut [Seat],
 )
-    requires some { 0 < watch.now.deal.most }
+    requires some { 0 < deal.each }
     requires sits { All (IsSitting wires.now) seats.old }
     ensures len { length seats.new ≡ length seats.old }
     ensures seats { StaySeated wires.now seats.old seats.new }
 {
-    deal_out(&watch.deal, seats);
-    turn_each(rt, alloc, wires, watch, watch.deal.most as usize, seats);
+    deal_out(&deal, seats);
+    turn_each(rt, alloc, wires, watch, deal.each as usize, seats);
     gather(seats);
 }

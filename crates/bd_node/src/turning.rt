@@ -1,36 +1,14 @@
 //! A seat's turns.
 ghost use Rattle.std.specs.Prelude.{IfOk, OnOk};
-ghost use Rattle.bd_node.specs.Seats.{made_by, Continues, HasSameEntries, IsSitting, IsWorking, KeepsOn, Tells, TellsIfAny, WentOn};
+ghost use Rattle.bd_node.specs.Seats.{made_by, Continues, HasSameEntries, IsSitting, IsWorking, KeepsOn, SitsOrHalts, Tells, TellsIfAny, WentOn};
 ghost use Rattle.bd_node.specs.Waits.{Idles, IdlesAlone, IdlesIfLent, QuietTurns, Receives, Sends};
 
 use crate::seat::Seat;
-use crate::sharing::Deal;
-use bd_outside::Gate;
 use bd_seat::{SeatNo, fetch, flush_all};
 use bd_thread::Turned;
 use bd_wires::Wires;
 use std::alloc::Global;
 use std::sync::Wait;
-
-/// How many turns a seat has in a round, at most.
-const TURNS: u32 = 256;
-
-/// The gate that reactors pass, in one round, and how the threads were dealt to them.
-#[derive(Drop)]
-pub(crate) struct Watch<'g, G> {
-    pub gate: &'g G,
-    pub round: u64,
-    pub deal: Deal,
-}
-
-impl<'g, G: Gate> Watch<'g, G> {
-    // The reactor of a thread passes before this turn of it, from 0 on.
-    fn pass(&self, thread: u32, turn: u32) {
-        let (reactor, before) = self.deal.place(thread);
-        let turns = before.saturating_mul(TURNS).saturating_add(turn);
-        self.gate.pass(reactor, self.round, turns.saturating_add(1));
-    }
-}
 
 impl<'a> Seat<'a> {
     // Posts of its ring come into its queue.
@@ -133,39 +111,20 @@ impl<'a> Seat<'a> {
         Ok(turned)
     }
 
-    // Up to 256 turns, until one is quiet.
-    fn try_turns<W: Wait, G: Gate>(
-        &mut self,
-        rt: &W,
-        alloc: Global,
-        wires: &Wires,
-        watch: &Watch<G>,
-    ) -> Result<(), SeatNo>
-        requires { IsSitting wires.now self.old }
-        ensures { OnOk result (Continues wires.now self.old self.new) }
-    {
-        for turn in 0..TURNS {
-            watch.pass(self.worker.me, turn);
-            if self.turn(rt, alloc, wires)? == Turned::Quiet {
-                return Ok(());
-            }
-        }
-        Ok(())
-    }
-
-    /// Its turns of a round: up to 256, until one is quiet. What halts it is kept.
-    pub fn turns<W: Wait, G: Gate>(
-        &mut self,
-        rt: &W,
-        alloc: Global,
-        wires: &Wires,
-        watch: &Watch<G>,
-    )
-        requires { IsSitting wires.now self.old }
+    /// A turn in a round, unless the seat has to halt; true where it moved. What halts it is kept.
+    pub fn step<W: Wait>(&mut self, rt: &W, alloc: Global, wires: &Wires) -> bool
+        requires { SitsOrHalts wires.now self.old }
         ensures { WentOn wires.now self.old self.new }
     {
-        if let Err(no) = self.try_turns(rt, alloc, wires, watch) {
-            self.halted = Some(no);
+        if self.halted.is_some() {
+            return false;
+        }
+        match self.turn(rt, alloc, wires) {
+            Ok(turned) => turned != Turned::Quiet,
+            Err(no) => {
+                self.halted = Some(no);
+                false
+            }
         }
     }
 }

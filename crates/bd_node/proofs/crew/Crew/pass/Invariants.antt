@@ -1,0 +1,9 @@
+use Rattle.std.proofs.Common.{◌≡◌, length}
+use Rattle.bd_node.specs.Seats.{AllWentOn}
+use Rattle.bd_node.proofs.crew.Crew.pass.Given as goal
+
+abbrev pub invariant-loop-place : goal.invariant-loop-place
+invariant-loop-place g l = record {
+  len : length l.seats ≡ length l.initial.seats;
+  on : AllWentOn l.wires l.initial.seats l.seats;
+}

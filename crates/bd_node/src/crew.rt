@@ -1,0 +1,145 @@
+//! A reactor's turns in a round: its seats have turns until all reactors are quiet at the same moment.
+ghost use Rattle.std.specs.Prelude.{All};
+ghost use Rattle.bd_node.specs.Seats.{AllWentOn, SitsOrHalts};
+
+use crate::seat::Seat;
+use bd_outside::Gate;
+use bd_wires::Wires;
+use std::alloc::Global;
+use std::sync::Wait;
+use std::sync::atomic::{AtomicU32, Ordering};
+use std::thread;
+
+/// How many passes in which something moved a reactor makes in a round, at most.
+const PASSES: u32 = 256;
+
+/// What the reactors of a round share: the gate that they pass, and how many of them are at work.
+#[derive(Drop)]
+pub(crate) struct Watch<'g, G> {
+    gate: &'g G,
+    round: u64,
+    working: AtomicU32,
+}
+
+impl<'g, G: Gate> Watch<'g, G> {
+    /// Before the reactors of the round begin.
+    pub fn new(gate: &'g G, round: u64) -> Self {
+        Watch {
+            gate,
+            round,
+            working: AtomicU32::new(0),
+        }
+    }
+
+    // Whether no reactor is at work: each that began a round made a quiet pass since it last moved.
+    fn is_quiet(&self) -> bool {
+        self.working.load(Ordering::SeqCst) == 0
+    }
+}
+
+// One reactor in a round.
+#[derive(Drop)]
+struct Crew<'w, 'g, G> {
+    watch: &'w Watch<'g, G>,
+    reactor: u32,
+    // how many turns it gave
+    turns: u32,
+    // whether it is counted among those at work
+    working: bool,
+}
+
+impl<'w, 'g, G: Gate> Crew<'w, 'g, G> {
+    fn begin(&mut self) {
+        if !self.working {
+            self.watch.working.fetch_add(1, Ordering::SeqCst);
+            self.working = true;
+        }
+    }
+
+    fn rest(&mut self) {
+        if self.working {
+            self.watch.working.fetch_sub(1, Ordering::SeqCst);
+            self.working = false;
+        }
+    }
+
+    // A turn of a seat, before which the reactor passes the gate. True where it moved: the reactor is at work
+    // from then on.
+    fn turn<W: Wait>(&mut self, rt: &W, alloc: Global, wires: &Wires, seat: &mut Seat) -> bool
+        requires { SitsOrHalts wires.now seat.old }
+        ensures { WentOn wires.now seat.old seat.new }
+    {
+        self.turns = self.turns.saturating_add(1);
+        let watch = self.watch;
+        watch.gate.pass(self.reactor, watch.round, self.turns);
+        let moved = seat.step(rt, alloc, wires);
+        if moved {
+            self.begin();
+        }
+        moved
+    }
+
+    // A pass: each seat has a turn, and after each that moved the first has one more. A device's home is the thread
+    // of its number, so where a home is among them it is mostly the first, and pieces there don't wait for a pass.
+    fn pass<W: Wait>(&mut self, rt: &W, alloc: Global, wires: &Wires, seats: &mut [Seat]) -> bool
+        requires { All (SitsOrHalts wires.now) seats.old }
+        ensures { AllWentOn wires.now seats.old seats.new }
+    {
+        let mut moved = false;
+        for place in 0..seats.len() {
+            if self.turn(rt, alloc, wires, &mut seats[place]) {
+                self.turn(rt, alloc, wires, &mut seats[0]);
+                moved = true;
+            }
+        }
+        moved
+    }
+
+    // Passes, until no reactor is at work.
+    fn work<W: Wait>(&mut self, rt: &W, alloc: Global, wires: &Wires, seats: &mut [Seat])
+        requires { All (SitsOrHalts wires.now) seats.old }
+        ensures { AllWentOn wires.now seats.old seats.new }
+    {
+        let mut passes = 0;
+        for _ in rt.forever() {
+            if self.pass(rt, alloc, wires, seats) {
+                passes += 1;
+                if passes == PASSES {
+                    return;
+                }
+            } else {
+                self.rest();
+                if self.watch.is_quiet() {
+                    return;
+                }
+                thread::yield_now();
+            }
+        }
+        unreachable!()
+    }
+}
+
+/// The turns that a reactor gives its seats in a round: passes over all of them, until one in which none moved
+/// while no other reactor was at work, or until 256 in which some moved. It gives turns also while it has nothing
+/// to do itself and others have, so that what they send is taken at once.
+pub(crate) fn give_turns<W: Wait, G: Gate>(
+    rt: &W,
+    alloc: Global,
+    wires: &Wires,
+    watch: &Watch<G>,
+    reactor: u32,
+    seats: &mut [Seat],
+)
+    requires { All (SitsOrHalts wires.now) seats.old }
+    ensures { AllWentOn wires.now seats.old seats.new }
+{
+    let mut crew = Crew {
+        watch,
+        reactor,
+        turns: 0,
+        working: false,
+    };
+    crew.begin();
+    crew.work(rt, alloc, wires, seats);
+    crew.rest();
+}
