@@ -8,5 +8,5 @@ mod user;
 
 pub use known::Knows;
 pub use moves::{Move, Why};
-pub use room::{MOST_REQUESTS, has_room};
+pub use room::has_room;
 pub use user::{User, next_move, waits_for};
