@@ -5,9 +5,9 @@ use Rattle.bd_machine.specs.declared.state.Kept.TheVariants as keeps
 use Rattle.bd_machine.specs.declared.state.OpenRequest.{OpenRequest}
 use Rattle.bd_machine.specs.Aborts.{stopped}
 use Rattle.bd_machine.specs.View.{View}
-use Rattle.bd_due.specs.Stopping.{abortable, without_unsent}
+use Rattle.bd_due.specs.Stopping.{abortable}
 use Rattle.bd_links.specs.Entries.{longer}
-use Rattle.bd_tokens.specs.Tokens.{here_in, Sets}
+use Rattle.bd_tokens.specs.Tokens.{Sets}
 use Rattle.bd_thread.specs.declared.links.Links.{Links}
 use Rattle.bd_thread.specs.declared.thread.Thread.{Thread}
 use Rattle.bd_thread.specs.Aborts.{abort_due, Aborts, IsAborted}
