@@ -3,3 +3,4 @@ pub mod Cuts
 pub mod Steps
 pub mod Chunks
 pub mod Ranges
+pub mod Even

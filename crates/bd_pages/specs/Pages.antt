@@ -14,6 +14,11 @@ abbrev pub blocks_of : ℕ → ℕ → List ℕ → List (List ℕ)
 blocks_of size zero bytes = []
 blocks_of size (suc n) bytes = take size bytes ∷ blocks_of size n (drop size bytes)
 
+-- bytes as blocks, as long as these
+abbrev pub cut_as : List (List ℕ) → List ℕ → List (List ℕ)
+cut_as [] bytes = []
+cut_as (b ∷ bs) bytes = take (length b) bytes ∷ cut_as bs (drop (length b) bytes)
+
 -- blocks as long, of zeros
 abbrev pub zeroed : List (List ℕ) → List (List ℕ)
 zeroed blocks = map (λ b. replicate (length b) 0) blocks

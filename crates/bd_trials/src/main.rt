@@ -11,6 +11,7 @@ mod jobs;
 mod log;
 mod msg;
 mod outside;
+mod pages;
 mod poller;
 mod qos;
 mod report;
@@ -36,6 +37,7 @@ fn answer(alloc: Global, subject: &str, case: &str) -> Result<String, OutOfMemor
         "log" => log::answer(alloc, case),
         "msg" => msg::answer(alloc, case),
         "outside" => outside::answer(alloc, case),
+        "pages" => pages::answer(alloc, case),
         "poller" => steps::told(alloc, &mut Pollers::new(alloc), case),
         "qos" => qos::answer(alloc, case),
         "report" => report::answer(alloc, case),
