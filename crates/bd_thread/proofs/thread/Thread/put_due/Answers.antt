@@ -7,12 +7,12 @@ use Rattle.bd_thread.proofs.thread.Thread.put_due.Goals as goal
 
 pub returns-in_default-clause-quiet : goal.returns-in_default-clause-quiet
 returns-in_default-clause-quiet c =
-    let none = sym (c.in_ok-to.ensures ∙ ap₂ first_due c.as_slice-queues.ensures c.as_slice.ensures) ∙ c.in_default.is in
+    let none = sym (c.in_ok-to.ensures ∙ ap₂ first_due c.as_slice-queues.ensures.value c.as_slice.ensures) ∙ c.in_default.is in
     idle_here c.args.self.now c.args.links.now (full_waits c.args.self.now c.args.links.now none)
 
 pub returns-clause-quiet : goal.returns-clause-quiet
 returns-clause-quiet c =
-    let first = sym (c.in_ok-to.ensures ∙ ap₂ first_due c.as_slice-queues.ensures c.as_slice.ensures) ∙ c.in-Some.is in
+    let first = sym (c.in_ok-to.ensures ∙ ap₂ first_due c.as_slice-queues.ensures.value c.as_slice.ensures) ∙ c.in-Some.is in
     both_ok c.put.result (λ acted put puts. puts_idle _ _ _ _ _ _ _ (λ stays. due_waits c.args.self.now c.args.links.now (c.in-Some.to, c.in-Some.what) first stays) puts) c.put.ensures.acted c.put.ensures.puts
 
 pub returns-clause-alone : goal.returns-clause-alone
