@@ -1,10 +1,10 @@
 -- The answer of a call by what came of what it was asked.
-use Rattle.std.proofs.Common.{◌≡◌, ℕ, List, Some, subst, refl, sym}
+use Rattle.std.proofs.Common.{◌≡◌, ◌∙◌, ℕ, List, Some, subst, sym}
 use Rattle.bd_outside.specs.Host.{HostState}
 use Rattle.bd_outside.specs.Sink.{SinkState}
 use Rattle.bd_top.specs.declared.fault.Fault.{Fault}
 use Rattle.bd_top.specs.declared.fault.Fault.TheVariants as faults
-use Rattle.bd_top.specs.Run.{AskedCause, Cause, FileCause}
+use Rattle.bd_top.specs.Run.{AskedCause, Cause, FileCause, NamesNoFile}
 use Rattle.bd_top.specs.Words.{Arguments, Asked, Run, Exercise, Generate, asked_of}
 
 module _ (words : List (List ℕ)) (old new : HostState) (before after : SinkState) where
@@ -30,3 +30,10 @@ module _ (words : List (List ℕ)) (old new : HostState) (before after : SinkSta
   of_asked (Run named) fault is cause = of_files named fault is cause
   of_asked (Exercise numbers playing) fault is cause = of_memory fault cause
   of_asked (Generate numbers threads) fault is cause = of_memory fault cause
+
+-- words ask for one thing: where that names no file, neither does what they are known to ask
+pub names_none : (words : List (List ℕ)) (one other : Asked) → asked_of words ≡ Some one → asked_of words ≡ Some other → NamesNoFile one → NamesNoFile other
+names_none words one other is also none =
+    let both : Some one ≡ Some other = sym is ∙ also in
+    let same : one ≡ other = cc in
+    subst NamesNoFile same none

@@ -136,7 +136,7 @@ fn do_asked<R: AllocGlobal + Threads + Wait + Sync, H: Host, G: Gate + Sync>(
 /// commands as they are read, as they are served and as they are done; the script's file, its grammar,
 /// and commands that aren't carried out; the output. `cause` says when each comes: a file's fault names
 /// the file that was due, and the script is due only once the configuration makes its devices.
-#[tactic(auto, using(crate::proofs::Answers::of_asked, crate::proofs::InForm::only_memory, crate::proofs::Wrong::only_this, crate::proofs::Wrong::not_done))]
+#[tactic(auto, using(crate::proofs::Answers::of_asked, crate::proofs::Answers::names_none, crate::proofs::InForm::only_memory, crate::proofs::Wrong::only_this, crate::proofs::Wrong::not_done))]
 pub fn run<R: AllocGlobal + Threads + Wait + Sync, H: Host, K: Sink, C: Clock, G: Gate + Sync>(
     rt: &R,
     words: &[String],
