@@ -17,14 +17,16 @@ const BUILT_IN: &str =
     "{\"subsystems\":[{\"subsystem\":\"bdev\",\"config\":[{\"method\":\"bdev_malloc_create\",\"params\":{\"name\":\"M\",\"num_blocks\":1024,\"block_size\":512}},{\"method\":\"bdev_passthru_create\",\"params\":{\"base_bdev_name\":\"M\",\"name\":\"P\"}}]}]}";
 
 // The devices of the built-in configuration, for this number of threads.
-#[tactic(auto, using(crate::proofs::BuiltIn::nothing_wrong_with_it))]
+#[tactic(auto, using(crate::proofs::BuiltIn::is_text, crate::proofs::BuiltIn::has_shape, crate::proofs::BuiltIn::has_commands))]
 fn devices(alloc: Global, threads: u32) -> Result<Building, OutOfMemory>
     ensures { IfOk result (Configures threads built_in) }
 {
     match configure(alloc, threads, BUILT_IN.as_bytes()) {
         Ok(devices) => Ok(devices),
         Err(ConfigureNo::OutOfMemory) => Err(OutOfMemory),
-        Err(_) => unreachable!(),
+        Err(ConfigureNo::Text) => unreachable!(),
+        Err(ConfigureNo::Shape(_)) => unreachable!(),
+        Err(ConfigureNo::Method { .. }) => unreachable!(),
     }
 }
 

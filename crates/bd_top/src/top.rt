@@ -35,7 +35,6 @@ struct Done {
 }
 
 // Plays the scripts of a setup as the drive has it, and makes the report.
-#[tactic(auto, using(crate::proofs::Histories::played))]
 fn play_and_report<R: AllocGlobal + Threads + Wait + Sync, G: Gate + Sync>(
     rt: &R,
     setup: &Setup,
@@ -59,9 +58,9 @@ fn run_files<R: AllocGlobal + Threads + Wait + Sync, H: Host, G: Gate + Sync>(
     gate: &G,
 ) -> Result<Done, Fault>
     requires { IsThreadCount arguments.playing.threads }
-    ensures done { IfOk result (λ done. AreFilesPlayed (seen_arguments arguments) (H.state host.old).told done.trace done.text.items) }
+    ensures done { IfOk result (λ done. AreFilesPlayed (seen_arguments arguments.entry) (H.state host.old).told done.trace done.text.items) }
     ensures cause { IfErr result
-        (FileCause (H.state host.old) (H.state host.new) arguments.config.now arguments.jobs.now arguments.playing.threads) }
+        (FileCause (H.state host.old) (H.state host.new) arguments.entry.config.now arguments.entry.jobs.now arguments.entry.playing.threads) }
 {
     let Arguments {
         config,
@@ -111,9 +110,9 @@ fn do_asked<R: AllocGlobal + Threads + Wait + Sync, H: Host, G: Gate + Sync>(
     gate: &G,
 ) -> Result<Done, Fault>
     requires { IsInRange (seen asked) }
-    ensures done { IfOk result (λ done. IsDone (seen asked) (H.state host.old).told done.trace done.text.items) }
-    ensures cause { IfErr result (AskedCause (seen asked) (H.state host.old) (H.state host.new)) }
-    ensures unread { NamesNoFile (seen asked) → H.state host.new ≡ H.state host.old }
+    ensures done { IfOk result (λ done. IsDone (seen asked.entry) (H.state host.old).told done.trace done.text.items) }
+    ensures cause { IfErr result (AskedCause (seen asked.entry) (H.state host.old) (H.state host.new)) }
+    ensures unread { NamesNoFile (seen asked.entry) → H.state host.new ≡ H.state host.old }
 {
     match asked {
         Asked::Run(arguments) => run_files(rt, arguments, host, gate),
@@ -163,7 +162,8 @@ pub fn run<R: AllocGlobal + Threads + Wait + Sync, H: Host, K: Sink, C: Clock, G
     let Some(asked) = parse(words) else {
         return Err(Fault::Usage);
     };
-    let Done { trace, text } = do_asked(rt, asked, host, gate)?;
+    let done = do_asked(rt, asked, host, gate)?;
+    let Done { trace, text } = done;
     match write_all(out, text.as_slice()) {
         Ok(()) => Ok(Ran { status: 0, trace }),
         Err(Failed) => Err(Fault::WriteFault),
