@@ -389,8 +389,13 @@ device_lines trace device (row ∷ rows) = device_line trace device row ++ devic
 abbrev pub end_line : List Entry → List ℕ
 end_line trace = codes "end" ++ tally_words None trace ++ codes "\n"
 
--- commands by line number, removed handles, waiting commands, threads, devices, and the end
-abbrev pub report_of : Setup → List Entry → List ℕ
-report_of setup trace =
-    job_lines setup.scripts trace ++ gone_lines setup.scripts trace ++ flat_map waiting_line setup.waiting ++ thread_lines setup trace ++
+-- what a report says of single commands, where it is full: the commands by line number, then removed handles
+abbrev pub detail_lines : Bool → Setup → List Entry → List ℕ
+detail_lines true setup trace = job_lines setup.scripts trace ++ gone_lines setup.scripts trace
+detail_lines false setup trace = []
+
+-- the commands and removed handles where it is full, then waiting commands, threads, devices, and the end
+abbrev pub report_of : Bool → Setup → List Entry → List ℕ
+report_of full setup trace =
+    detail_lines full setup trace ++ flat_map waiting_line setup.waiting ++ thread_lines setup trace ++
     device_lines trace 0 setup.devices ++ end_line trace

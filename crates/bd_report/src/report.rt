@@ -1,12 +1,12 @@
 //! The report of a run: a line for each command, for each handle of a script whose device was removed
 //! while it was open, for each command that waits for its base, for each thread that has a command and
-//! for each device, and one for the whole run.
+//! for each device, and one for the whole run. One that isn't full leaves out the first two.
 ghost use Rattle.std.specs.Prelude.{◌≡◌, ◌++◌, ◌*◌, ◌-◌, ◌^◌, ◌&&◌, ◌==◌, length, min, flat_map, IfOk, OnOk, codes};
 ghost use Rattle.std.specs.List.{list_any};
 ghost use Rattle.hex.specs.Hex.{encode_lower};
 ghost use Rattle.bd_report.specs.Handles.{line_of_opened};
 ghost use Rattle.bd_report.specs.Order.{command_line};
-ghost use Rattle.bd_report.specs.Report.{report_of, job_lines, job_line, gone_lines, outcome_words, completion_words, shown_words, waiting_line, tally_words, thread_line, thread_line_if, thread_lines, is_busy_script, is_malloc, contents_words, digest_words, device_size_words, moved_words, counts_words, device_line, device_lines, end_line};
+ghost use Rattle.bd_report.specs.Report.{report_of, detail_lines, job_lines, job_line, gone_lines, outcome_words, completion_words, shown_words, waiting_line, tally_words, thread_line, thread_line_if, thread_lines, is_busy_script, is_malloc, contents_words, digest_words, device_size_words, moved_words, counts_words, device_line, device_lines, end_line};
 
 use crate::handles::{OpenedHandle, removed_in_order};
 use crate::index::TraceIndex;
@@ -17,27 +17,54 @@ use bd_base::{
 use std::alloc::Global;
 
 /// The report of a run from its setup and its trace: the entries of all threads in the order of their
-/// stamps. Numbers are decimal, digests lower-case hexadecimal, and each line ends with a line feed.
-/// Bytes are capped at `u64::MAX`. Out of memory is the only error.
-pub fn report(alloc: Global, setup: &Setup, trace: &[Entry]) -> Result<Vec<u8>, OutOfMemory>
-    ensures { IfOk result (λ v. v.items ≡ report_of setup.now trace.now) }
+/// stamps. A full one has a line for each command and each removed handle, another begins with the
+/// commands that wait. Numbers are decimal, digests lower-case hexadecimal, and each line ends with a
+/// line feed. Bytes are capped at `u64::MAX`. Out of memory is the only error.
+pub fn report(
+    alloc: Global,
+    setup: &Setup,
+    trace: &[Entry],
+    full: bool,
+) -> Result<Vec<u8>, OutOfMemory>
+    ensures { IfOk result (λ v. v.items ≡ report_of full setup.now trace.now) }
 {
     let index = TraceIndex::new(alloc, trace)?;
-    write_report(alloc, setup, &index)
+    write_report(alloc, setup, &index, full)
 }
 
 // The report by the index of the trace.
-fn write_report(alloc: Global, setup: &Setup, index: &TraceIndex) -> Result<Vec<u8>, OutOfMemory>
-    ensures { IfOk result (λ v. v.items ≡ report_of setup.now index.now) }
+fn write_report(
+    alloc: Global,
+    setup: &Setup,
+    index: &TraceIndex,
+    full: bool,
+) -> Result<Vec<u8>, OutOfMemory>
+    ensures { IfOk result (λ v. v.items ≡ report_of full setup.now index.now) }
 {
     let mut out = Vec::new(alloc);
-    write_jobs(alloc, &mut out, setup.scripts.as_slice(), index)?;
-    write_removed(alloc, &mut out, setup.scripts.as_slice(), index)?;
+    write_details(alloc, &mut out, setup, index, full)?;
     write_waiting(alloc, &mut out, setup.waiting.as_slice())?;
     write_threads(alloc, &mut out, setup, index)?;
     write_devices(alloc, &mut out, index, setup.devices.as_slice())?;
     write_end(alloc, &mut out, index)?;
     Ok(out)
+}
+
+// Writes the commands and the removed handles, where the report is full.
+fn write_details(
+    alloc: Global,
+    out: &mut Vec<u8>,
+    setup: &Setup,
+    index: &TraceIndex,
+    full: bool,
+) -> Result<(), OutOfMemory>
+    ensures { OnOk result (out.new.items ≡ out.old.items ++ detail_lines full setup.now index.now) }
+{
+    if full {
+        write_jobs(alloc, out, setup.scripts.as_slice(), index)?;
+        write_removed(alloc, out, setup.scripts.as_slice(), index)?;
+    }
+    Ok(())
 }
 
 // ---- commands

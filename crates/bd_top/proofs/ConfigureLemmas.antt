@@ -1,5 +1,5 @@
 -- Why bytes configure no devices, by the step that found it; and that nothing is wrong with those that do.
-use Rattle.std.proofs.Common.{◌≡◌, ℕ, ◌⊎◌, inl, inr, List, Option, None, Some, refl, sym, ◌∙◌, ap, subst}
+use Rattle.std.proofs.Common.{◌≡◌, ℕ, ◌⊎◌, inl, inr, List, Option, None, Some, refl, sym, ◌∙◌, ap}
 use Rattle.std.specs.Prelude.{ℤ, Result, Ok, Err}
 use Rattle.bd_config.specs.Config.{IsConfig}
 use Rattle.bd_config.proofs.Exact.{config_once, config_has_shape, config_has_commands}

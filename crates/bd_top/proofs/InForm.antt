@@ -1,5 +1,5 @@
--- Where both files are in form and nothing fails, a run ends well unless it is out of memory.
-use Rattle.std.proofs.Common.{◌≡◌, ℕ, ◌+◌, ◌≤◌, ◌<◌, Bool, true, false, ◌==◌, not, ◌||◌, ◌⊎◌, inl, inr, List, [], ◌∷◌, ◌++◌, length, take, drop, None, Some, refl, sym, ◌∙◌, ap, subst, arith, string_bytes}
+-- Where what the words name is in form and nothing fails, a call ends well unless it is out of memory.
+use Rattle.std.proofs.Common.{◌≡◌, ℕ, ◌+◌, ◌≤◌, ◌<◌, Bool, true, false, ◌==◌, not, ◌||◌, inl, inr, List, [], ◌∷◌, ◌++◌, length, take, drop, None, Some, refl, sym, ◌∙◌, ap, subst, arith, string_bytes}
 use Rattle.std.specs.Prelude.{ℤ, option_map}
 use Rattle.std.specs.List.{list_all, list_any}
 use Rattle.std.proofs.lemmas.Bool.{and_parts}
@@ -19,8 +19,8 @@ use Rattle.bd_top.specs.Built.{lines_in, AreBuilt, is_built_line, is_not_built_a
 use Rattle.bd_building.specs.Progress.{Progress}
 use Rattle.bd_top.specs.Configure.{Configures, ConfigureCause}
 use Rattle.bd_top.specs.Files.{IsRead, IsTooLong, max_file}
-use Rattle.bd_top.specs.Run.{AreInForm, Cause, FileCause, IsDue, IsNoScript, IsNoText, IsNotSupported, IsOutside, NothingFails}
-use Rattle.bd_top.specs.Words.{Arguments, arguments_of}
+use Rattle.bd_top.specs.Run.{AreInForm, AreFilesInForm, IsAskedInForm, Cause, FileCause, IsDue, IsNoScript, IsNoText, IsNotSupported, IsOutside, NothingFails}
+use Rattle.bd_top.specs.Words.{Arguments, Asked, Run, asked_of}
 use Rattle.bd_top.proofs.ConfigureLemmas.{nothing_wrong}
 
 -- ---- what is read of a file that is told
@@ -94,28 +94,23 @@ script_supported threads t file scripts line e mean built out =
     let first : IsFirstNotBuilt (lines_in scripts) line = subst P one out.first in
     none_at line (lines_in scripts) built first.here
 
-module _ (words : List (List ℕ)) (old new : HostState) (before after : SinkState) (form : AreInForm words old) (quiet : NothingFails old new before after) where
-  same_arguments : (asked : Arguments) → arguments_of words ≡ Some asked → form.arguments ≡ asked
-  same_arguments asked named =
-      let both : Some form.arguments ≡ Some asked = sym form.named ∙ named in
-      cc
-
+module _ (asked : Arguments) (old new : HostState) (before after : SinkState) (form : AreFilesInForm asked old) (quiet : NothingFails old new before after) where
   -- neither of the two files is too long
-  none_too_long : (name : List ℕ) → IsDue old form.arguments.config form.arguments.jobs form.arguments.threads name → IsTooLong (old.told name) → ⊥
+  none_too_long : (name : List ℕ) → IsDue old asked.config asked.jobs asked.playing.threads name → IsTooLong (old.told name) → ⊥
   none_too_long name (inl e) long = not_too_long (old.told name) form.config (ap old.told e ∙ form.config_told) form.config_short long
   none_too_long name (inr due) long = not_too_long (old.told name) form.jobs (ap old.told due.0 ∙ form.jobs_told) form.jobs_short long
 
   -- nothing is wrong with the bytes of the configuration
-  config_gives_none : (why : ConfigureNo) → IsOutside form.arguments.threads (old.told form.arguments.config) why → why ≡ config_nos.OutOfMemory
-  config_gives_none why out = config_inside form.arguments.threads (old.told form.arguments.config) form.config form.devices why form.config_told form.config_means out
+  config_gives_none : (why : ConfigureNo) → IsOutside asked.playing.threads (old.told asked.config) why → why ≡ config_nos.OutOfMemory
+  config_gives_none why out = config_inside asked.playing.threads (old.told asked.config) form.config form.devices why form.config_told form.config_means out
 
   -- nor with those of the script
-  script_gives_none : (line : ℕ) → IsNoScript form.arguments.threads (old.told form.arguments.jobs) line → ⊥
-  script_gives_none line (inl out) = script_inside form.arguments.threads (old.told form.arguments.jobs) form.jobs form.scripts line form.jobs_told form.jobs_mean out
-  script_gives_none line (inr out) = script_supported form.arguments.threads (old.told form.arguments.jobs) form.jobs form.scripts line form.jobs_told form.jobs_mean form.built out
+  script_gives_none : (line : ℕ) → IsNoScript asked.playing.threads (old.told asked.jobs) line → ⊥
+  script_gives_none line (inl out) = script_inside asked.playing.threads (old.told asked.jobs) form.jobs form.scripts line form.jobs_told form.jobs_mean out
+  script_gives_none line (inr out) = script_supported asked.playing.threads (old.told asked.jobs) form.jobs form.scripts line form.jobs_told form.jobs_mean form.built out
 
   -- neither file gives a fault
-  pub file_gives_none : (fault : Fault) → FileCause old new form.arguments.config form.arguments.jobs form.arguments.threads fault → fault ≡ faults.OutOfMemory
+  pub file_gives_none : (fault : Fault) → FileCause old new asked.config asked.jobs asked.playing.threads fault → fault ≡ faults.OutOfMemory
   file_gives_none faults.Usage cause = absurd cause
   file_gives_none (faults.NoFile name) cause = absurd (quiet.files (string_bytes name) cause.2)
   file_gives_none (faults.TooLong name) cause = absurd (none_too_long (string_bytes name) cause.0 cause.1)
@@ -127,16 +122,26 @@ module _ (words : List (List ℕ)) (old new : HostState) (before after : SinkSta
   file_gives_none (faults.JobText line) cause = absurd (script_gives_none line cause.1)
   file_gives_none faults.OutOfMemory cause = refl
 
-  of_files : (asked : Arguments) (fault : Fault) → arguments_of words ≡ Some asked → FileCause old new asked.config asked.jobs asked.threads fault → fault ≡ faults.OutOfMemory
-  of_files asked fault named cause =
-      let P : Arguments → Type 0 = λ a. FileCause old new a.config a.jobs a.threads fault in
-      file_gives_none fault (subst P (sym (same_arguments asked named)) cause)
+-- words that are in the grammar are no usage fault
+pub not_usage : (words : List (List ℕ)) (asked : Asked) → asked_of words ≡ Some asked → asked_of words ≡ None → ⊥
+not_usage words asked named none =
+    let both : Some asked ≡ None = sym named ∙ none in
+    absurd (cc)
+
+module _ (words : List (List ℕ)) (old new : HostState) (before after : SinkState) (form : AreInForm words old) (quiet : NothingFails old new before after) where
+  -- files of which this fault is known are in form
+  in_form : (asked : Asked) (named : Arguments) → Some asked ≡ Some (Run named) → IsAskedInForm asked old → AreFilesInForm named old
+  in_form asked named both files =
+      let same : asked ≡ Run named = cc in
+      subst (λ (a : Asked). IsAskedInForm a old) same files
+
+  of_files : (named : Arguments) (fault : Fault) → asked_of words ≡ Some (Run named) → FileCause old new named.config named.jobs named.playing.threads fault → fault ≡ faults.OutOfMemory
+  of_files named fault is cause =
+      file_gives_none named old new before after (in_form form.asked named (sym form.named ∙ is) form.files) quiet fault cause
 
   -- the cause of a fault is out of memory
   pub only_memory : (fault : Fault) → Cause words old new before after fault → fault ≡ faults.OutOfMemory
-  only_memory faults.Usage cause =
-      let both : Some form.arguments ≡ None = sym form.named ∙ cause in
-      absurd (cc)
+  only_memory faults.Usage cause = absurd (not_usage words form.asked form.named cause)
   only_memory (faults.NoFile name) cause = of_files cause.arguments (faults.NoFile name) cause.named cause.of_file
   only_memory (faults.TooLong name) cause = of_files cause.arguments (faults.TooLong name) cause.named cause.of_file
   only_memory (faults.ReadFault name) cause = of_files cause.arguments (faults.ReadFault name) cause.named cause.of_file

@@ -1,8 +1,9 @@
+pub mod Answers
+pub mod BuiltIn
 pub mod BuiltLemmas
 pub mod ConfigureLemmas
 pub mod FileLemmas
 pub mod Histories
 pub mod InForm
 pub mod OneCause
-pub mod WordLemmas
 pub mod Wrong

@@ -1,20 +1,19 @@
 -- Of the causes of one configuration that is refused there is one, and so of those of one script.
-use Rattle.std.proofs.Common.{◌≡◌, ℕ, ◌+◌, ◌-◌, ◌≤◌, ◌<◌, ◌⊎◌, inl, inr, Bool, true, false, List, [], ◌∷◌, Option, None, Some, refl, sym, ◌∙◌, ap, subst}
+use Rattle.std.proofs.Common.{◌≡◌, ℕ, ◌+◌, ◌⊎◌, inl, inr, Bool, true, false, List, [], ◌∷◌, Option, None, Some, refl, sym, ◌∙◌, ap, subst}
 use Rattle.std.specs.Prelude.{ℤ, ◌&&◌, if◌then◌else◌, Result, Ok, Err}
 use Rattle.std.specs.List.{list_all}
 use Rattle.serde_json.specs.Data.{Data}
 use Rattle.bd_base.specs.Errno.{number_of}
 use Rattle.bd_base.specs.declared.request.Errno.{Errno}
 use Rattle.bd_config.specs.Commands.{minus}
-use Rattle.bd_config.specs.Config.{IsJson, IsConfig, IsShapeNo, IsMethodNo, HasShape, Refuses, first_outside, shape_fault, first_refused, answers_of}
+use Rattle.bd_config.specs.Config.{IsJson, IsShapeNo, IsMethodNo, HasShape, first_outside, shape_fault, first_refused, answers_of}
 use Rattle.bd_config.specs.Shape.{subsystems_of, is_subsystem}
 use Rattle.bd_config.proofs.Exact.{config_once, config_has_shape, config_has_commands}
 use Rattle.bd_config.specs.declared.command.Command.{Command}
-use Rattle.bd_building.specs.Progress.{Progress, configured}
 use Rattle.bd_building.specs.Served.{first_unserved}
 use Rattle.bd_top.specs.declared.configure.ConfigureNo.{ConfigureNo}
 use Rattle.bd_top.specs.declared.configure.ConfigureNo.TheVariants.{OutOfMemory, Text, Shape, Method}
-use Rattle.bd_top.specs.Configure.{Configures, ConfigureCause, IsUnserved, IsRefused, IsUndone}
+use Rattle.bd_top.specs.Configure.{ConfigureCause, IsUnserved, IsRefused, IsUndone}
 
 -- the same index and the same code
 abbrev Same : ℕ → ℤ → ℕ → ℤ → Type 0

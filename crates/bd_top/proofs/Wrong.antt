@@ -23,10 +23,10 @@ use Rattle.bd_top.specs.Built.{lines_in, is_built_line, is_not_built_at, is_buil
 use Rattle.bd_top.specs.Configure.{Configures, ConfigureCause}
 use Rattle.bd_top.specs.Fault.{config_fault}
 use Rattle.bd_top.specs.Files.{IsTooLong}
-use Rattle.bd_top.specs.Run.{Cause, FileCause, IsConfigWrong, IsConfigured, IsDevices, IsDue, IsMeant, IsNoScript, IsNoText, IsNotSupported, IsOutside, IsPlayed, IsScriptWrong, IsWrong, NothingFails}
-use Rattle.bd_top.specs.Words.{Arguments, arguments_of}
+use Rattle.bd_top.specs.Run.{AreFilesPlayed, Cause, FileCause, IsConfigWrong, IsConfigured, IsDevices, IsDone, IsDue, IsMeant, IsNoScript, IsNoText, IsNotSupported, IsOutside, IsScriptWrong, IsWrong, NothingFails}
+use Rattle.bd_top.specs.Words.{Arguments, Asked, Run, asked_of}
 use Rattle.bd_top.proofs.ConfigureLemmas.{nothing_wrong}
-use Rattle.bd_top.proofs.InForm.{read_told, not_too_long, none_outside, script_inside, script_supported, text_is_no_memory, shape_is_no_memory, method_is_no_memory}
+use Rattle.bd_top.proofs.InForm.{not_usage, read_told, not_too_long, none_outside, script_inside, script_supported, text_is_no_memory, shape_is_no_memory, method_is_no_memory}
 use Rattle.bd_top.proofs.OneCause.{one_cause}
 
 -- an error, of which this is known
@@ -128,7 +128,7 @@ devices_bytes threads t config devices e is = subst (λ (bytes : List ℕ). Conf
 
 module _ (words : List (List ℕ)) (host : HostState) (fault : Fault) (wrong : IsWrong words host fault) where
   abbrev threads : ℕ
-  threads = wrong.arguments.threads
+  threads = wrong.arguments.playing.threads
 
   abbrev config_told : Told
   config_told = host.told wrong.arguments.config
@@ -189,19 +189,17 @@ module _ (words : List (List ℕ)) (host : HostState) (fault : Fault) (wrong : I
     of_file faults.WriteFault cause = absurd cause
     of_file faults.OutOfMemory cause = inr refl
 
-    same_arguments : (asked : Arguments) → arguments_of words ≡ Some asked → asked ≡ wrong.arguments
-    same_arguments asked named =
-        let both : Some asked ≡ Some wrong.arguments = sym named ∙ wrong.named in
+    same_arguments : (named : Arguments) → asked_of words ≡ Some (Run named) → named ≡ wrong.arguments
+    same_arguments named is =
+        let both : Some (Run named) ≡ Some (Run wrong.arguments) = sym is ∙ wrong.named in
         cc
 
-    of_files : (asked : Arguments) (given : Fault) → arguments_of words ≡ Some asked → FileCause host new asked.config asked.jobs asked.threads given → (given ≡ fault) ⊎ (given ≡ faults.OutOfMemory)
-    of_files asked given named cause = of_file given (subst (λ (a : Arguments). FileCause host new a.config a.jobs a.threads given) (same_arguments asked named) cause)
+    of_files : (named : Arguments) (given : Fault) → asked_of words ≡ Some (Run named) → FileCause host new named.config named.jobs named.playing.threads given → (given ≡ fault) ⊎ (given ≡ faults.OutOfMemory)
+    of_files named given is cause = of_file given (subst (λ (a : Arguments). FileCause host new a.config a.jobs a.playing.threads given) (same_arguments named is) cause)
 
     -- the cause of the answer is that one thing, or out of memory
     pub only_this : (given : Fault) → Cause words host new before after given → (given ≡ fault) ⊎ (given ≡ faults.OutOfMemory)
-    only_this faults.Usage cause =
-        let both : Some wrong.arguments ≡ None = sym wrong.named ∙ cause in
-        absurd (cc)
+    only_this faults.Usage cause = absurd (not_usage words (Run wrong.arguments) wrong.named cause)
     only_this (faults.NoFile name) cause = of_files cause.arguments (faults.NoFile name) cause.named cause.of_file
     only_this (faults.TooLong name) cause = of_files cause.arguments (faults.TooLong name) cause.named cause.of_file
     only_this (faults.ReadFault name) cause = of_files cause.arguments (faults.ReadFault name) cause.named cause.of_file
@@ -213,11 +211,8 @@ module _ (words : List (List ℕ)) (host : HostState) (fault : Fault) (wrong : I
     only_this faults.OutOfMemory cause = inr refl
 
     -- nor were the two files played
-    pub not_played : (trace : List Entry) (report : List ℕ) → IsPlayed words host.told trace report → ⊥
-    not_played trace report played =
-        let meant : IsMeant threads config_told jobs_told played.setup =
-        subst (λ (a : Arguments). IsMeant a.threads (host.told a.config) (host.told a.jobs) played.setup) (same_arguments played.arguments played.named) played.meant in
-        go meant wrong.wrong
+    not_played : (trace : List Entry) (report : List ℕ) → AreFilesPlayed wrong.arguments host.told trace report → ⊥
+    not_played trace report played = go played.meant wrong.wrong
       where
         of_jobs : (bad : IsScriptWrong threads wrong.config jobs_told fault) (setup : IsMeant threads config_told jobs_told played.setup) → IsNoScript threads jobs_told bad.line → ⊥
         of_jobs bad meant (inl out) = script_inside threads jobs_told bad.bytes meant.scripts bad.line bad.told
@@ -228,3 +223,10 @@ module _ (words : List (List ℕ)) (host : HostState) (fault : Fault) (wrong : I
         go : IsMeant threads config_told jobs_told played.setup → IsConfigWrong threads wrong.config fault ⊎ IsScriptWrong threads wrong.config jobs_told fault → ⊥
         go meant (inl bad) = no_devices meant.devices bad meant.of_config
         go meant (inr bad) = of_jobs bad meant bad.first
+
+    -- so what is asked wasn't done
+    pub not_done : (asked : Asked) (trace : List Entry) (text : List ℕ) → asked_of words ≡ Some asked → IsDone asked host.told trace text → ⊥
+    not_done asked trace text named done =
+        let both : Some asked ≡ Some (Run wrong.arguments) = sym named ∙ wrong.named in
+        let same : asked ≡ Run wrong.arguments = cc in
+        not_played trace text (subst (λ (a : Asked). IsDone a host.told trace text) same done)

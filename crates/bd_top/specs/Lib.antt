@@ -1,5 +1,6 @@
 pub mod Built
 pub mod Configure
+pub mod Exercise
 pub mod Fault
 pub mod Files
 pub mod Run

@@ -1,5 +1,5 @@
--- What a run that ends with Ok is, and why another one ends.
-use Rattle.std.specs.Prelude.{◌≡◌, ℕ, ◌<◌, ◌≤◌, true, List, [], ◌∷◌, ◌++◌, length, None, Some, ◌⊎◌, string_bytes}
+-- What a call that ends with Ok did, and why another one ends.
+use Rattle.std.specs.Prelude.{◌≡◌, ℕ, ◌<◌, ◌≤◌, Bool, true, false, List, [], ◌∷◌, ◌++◌, length, None, Some, ◌⊎◌, string_bytes}
 use Rattle.std.specs.Io.KnownBytes.{Appends}
 use Rattle.bd_base.specs.declared.act.Entry.{Entry}
 use Rattle.bd_base.specs.declared.id.DevId.{DevId}
@@ -12,6 +12,7 @@ use Rattle.bd_machine.specs.Lines.{GoesAsFar}
 use Rattle.bd_machine.specs.Run.{IsCompleteRun}
 use Rattle.bd_machine.specs.Users.{dev_of}
 use Rattle.bd_building.specs.Progress.{Progress}
+use Rattle.bd_jobs.specs.Generated.{generated}
 use Rattle.bd_jobs.specs.ScriptGrammar.{scripts_of, IsFirstOutside}
 use Rattle.bd_outside.specs.File.{Told, IsAbsent, Content}
 use Rattle.bd_outside.specs.Host.{HostState, FailsAt, Misses}
@@ -27,10 +28,11 @@ use Rattle.bd_top.specs.declared.inputs.ScriptNo.{ScriptNo}
 use Rattle.bd_top.specs.declared.inputs.ScriptNo.TheVariants as script_nos
 use Rattle.bd_top.specs.Built.{lines_in, AreBuilt, IsFirstNotBuilt}
 use Rattle.bd_top.specs.Configure.{Configures, ConfigureCause}
+use Rattle.bd_top.specs.Exercise.{IsExercise}
 use Rattle.bd_top.specs.Fault.{config_fault}
 use Rattle.bd_top.specs.Files.{IsRead, IsTooLong, max_file, ReadCause, AppendsPrefix}
 use Rattle.bd_top.specs.Setup.{setup_of}
-use Rattle.bd_top.specs.Words.{Arguments, arguments_of}
+use Rattle.bd_top.specs.Words.{Arguments, Asked, Run, Exercise, Generate, asked_of}
 
 -- ---- a history
 
@@ -89,24 +91,45 @@ pub record IsNotSupported (threads : ℕ) (jobs : Told) (line : ℕ) : Type 0 wh
   pub means : scripts_of threads bytes ≡ Some scripts
   pub first : IsFirstNotBuilt (lines_in scripts) line
 
--- the two files were played: this is the history, and this the report
-pub record IsPlayed (words : List (List ℕ)) (told : List ℕ → Told) (trace : List Entry) (report : List ℕ) : Type 0 where
-  pub arguments : Arguments
-  pub setup : Setup
-  pub named : arguments_of words ≡ Some arguments
-  pub meant : IsMeant arguments.threads (told arguments.config) (told arguments.jobs) setup
+-- this setup was played: this is the history, and this its report, with a line for each command where it is full
+pub record IsPlayed (setup : Setup) (full : Bool) (trace : List Entry) (report : List ℕ) : Type 0 where
   pub complete : IsCompleteRun setup [] trace
   pub scripts : GoAsFar setup trace
   pub once : AreCompletedOnce trace
   pub destructed : AreDestructedOnce setup trace
   pub last_close : AreAfterLastClose setup trace
-  pub says : report ≡ report_of setup trace
+  pub says : report ≡ report_of full setup trace
 
--- the two files were played, and the output gained the report
+-- the two files were played, with a full report
+pub record AreFilesPlayed (arguments : Arguments) (told : List ℕ → Told) (trace : List Entry) (report : List ℕ) : Type 0 where
+  pub setup : Setup
+  pub meant : IsMeant arguments.playing.threads (told arguments.config) (told arguments.jobs) setup
+  pub played : IsPlayed setup true trace report
+
+-- the built-in configuration was played with the generated script, with a report that isn't full
+pub record IsExercised (numbers threads : ℕ) (trace : List Entry) (report : List ℕ) : Type 0 where
+  pub setup : Setup
+  pub meant : IsExercise numbers threads setup
+  pub played : IsPlayed setup false trace report
+
+-- nothing was played, and the text is the generated script
+pub record IsGenerated (numbers threads : ℕ) (trace : List Entry) (text : List ℕ) : Type 0 where
+  pub nothing : trace ≡ []
+  pub says : text ≡ generated numbers threads
+
+-- what is asked was done: this is the history, and this the text to be written
+abbrev pub IsDone : Asked → (List ℕ → Told) → List Entry → List ℕ → Type 0
+IsDone (Run arguments) told trace text = AreFilesPlayed arguments told trace text
+IsDone (Exercise numbers playing) told trace text = IsExercised numbers playing.threads trace text
+IsDone (Generate numbers threads) told trace text = IsGenerated numbers threads trace text
+
+-- what the words ask was done, and the output gained the text
 pub record IsRun (words : List (List ℕ)) (host : HostState) (trace : List Entry) (old new : SinkState) : Type 0 where
-  pub report : List ℕ
-  pub played : IsPlayed words host.told trace report
-  pub output : Appends old.written new.written report
+  pub asked : Asked
+  pub named : asked_of words ≡ Some asked
+  pub text : List ℕ
+  pub done : IsDone asked host.told trace text
+  pub output : Appends old.written new.written text
 
 -- ---- faults
 
@@ -154,23 +177,31 @@ FileCause old new config jobs threads (JobText line) = IsConfigured threads (old
 FileCause old new config jobs threads WriteFault = ⊥
 FileCause old new config jobs threads OutOfMemory = Unit {0}
 
+-- why what is asked isn't done: a fault of the files, where some are named, or out of memory
+abbrev pub AskedCause : Asked → HostState → HostState → Fault → Type 0
+AskedCause (Run arguments) old new fault = FileCause old new arguments.config arguments.jobs arguments.playing.threads fault
+AskedCause (Exercise numbers playing) old new fault = fault ≡ OutOfMemory
+AskedCause (Generate numbers threads) old new fault = fault ≡ OutOfMemory
+
 -- the words name two files, and one of them gives this fault
 pub record IsOfFiles (words : List (List ℕ)) (old new : HostState) (fault : Fault) : Type 0 where
   pub arguments : Arguments
-  pub named : arguments_of words ≡ Some arguments
-  pub of_file : FileCause old new arguments.config arguments.jobs arguments.threads fault
+  pub named : asked_of words ≡ Some (Run arguments)
+  pub of_file : FileCause old new arguments.config arguments.jobs arguments.playing.threads fault
 
--- the output failed, after a prefix of the report of the two files
+-- what the words ask was done, and the output failed, after a prefix of the text
 pub record IsCutOff (words : List (List ℕ)) (host : HostState) (old new : SinkState) : Type 0 where
+  pub asked : Asked
+  pub named : asked_of words ≡ Some asked
   pub trace : List Entry
-  pub report : List ℕ
-  pub played : IsPlayed words host.told trace report
-  pub prefix : AppendsPrefix old.written new.written report
+  pub text : List ℕ
+  pub done : IsDone asked host.told trace text
+  pub prefix : AppendsPrefix old.written new.written text
   pub failed : Fails old new
 
 -- when each fault comes, by the host and the output before and after the call; out of memory is the one free answer
 abbrev pub Cause : List (List ℕ) → HostState → HostState → SinkState → SinkState → Fault → Type 0
-Cause words old new before after Usage = arguments_of words ≡ None
+Cause words old new before after Usage = asked_of words ≡ None
 Cause words old new before after WriteFault = IsCutOff words old before after
 Cause words old new before after OutOfMemory = Unit {0}
 Cause words old new before after (NoFile name) = IsOfFiles words old new (NoFile name)
@@ -181,23 +212,39 @@ Cause words old new before after (ConfigShape place) = IsOfFiles words old new (
 Cause words old new before after (Method index code) = IsOfFiles words old new (Method index code)
 Cause words old new before after (JobText line) = IsOfFiles words old new (JobText line)
 
--- ---- files in form
+-- ---- what is in form
 
--- the words name two files, and the host tells a configuration in the one, and in the other a script that is carried out
-pub record AreInForm (words : List (List ℕ)) (host : HostState) : Type 0 where
-  pub arguments : Arguments
-  pub named : arguments_of words ≡ Some arguments
+-- the host tells a configuration in the one file, and in the other a script that is carried out
+pub record AreFilesInForm (arguments : Arguments) (host : HostState) : Type 0 where
   pub config : List ℕ
   pub config_told : host.told arguments.config ≡ Content config
   pub config_short : length config ≤ max_file
   pub devices : Progress
-  pub config_means : Configures arguments.threads config devices
+  pub config_means : Configures arguments.playing.threads config devices
   pub jobs : List ℕ
   pub jobs_told : host.told arguments.jobs ≡ Content jobs
   pub jobs_short : length jobs ≤ max_file
   pub scripts : List Script
-  pub jobs_mean : scripts_of arguments.threads jobs ≡ Some scripts
+  pub jobs_mean : scripts_of arguments.playing.threads jobs ≡ Some scripts
   pub built : AreBuilt (lines_in scripts)
+
+-- the files that are named are in form
+abbrev pub IsAskedInForm : Asked → HostState → Type 0
+IsAskedInForm (Run arguments) host = AreFilesInForm arguments host
+IsAskedInForm (Exercise numbers playing) host = Unit {0}
+IsAskedInForm (Generate numbers threads) host = Unit {0}
+
+-- the words are in the grammar, and the files that they name in form
+pub record AreInForm (words : List (List ℕ)) (host : HostState) : Type 0 where
+  pub asked : Asked
+  pub named : asked_of words ≡ Some asked
+  pub files : IsAskedInForm asked host
+
+-- no file is named
+abbrev pub NamesNoFile : Asked → Type 0
+NamesNoFile (Run arguments) = ⊥
+NamesNoFile (Exercise numbers playing) = Unit {0}
+NamesNoFile (Generate numbers threads) = Unit {0}
 
 -- ---- files of which one is outside its form
 
@@ -222,11 +269,11 @@ pub record IsScriptWrong (threads : ℕ) (config : List ℕ) (jobs : Told) (faul
 -- the words name two files, the host tells the configuration, and the fault is the first thing that is wrong with what the two say
 pub record IsWrong (words : List (List ℕ)) (host : HostState) (fault : Fault) : Type 0 where
   pub arguments : Arguments
-  pub named : arguments_of words ≡ Some arguments
+  pub named : asked_of words ≡ Some (Run arguments)
   pub config : List ℕ
   pub told : host.told arguments.config ≡ Content config
   pub short : length config ≤ max_file
-  pub wrong : IsConfigWrong arguments.threads config fault ⊎ IsScriptWrong arguments.threads config (host.told arguments.jobs) fault
+  pub wrong : IsConfigWrong arguments.playing.threads config fault ⊎ IsScriptWrong arguments.playing.threads config (host.told arguments.jobs) fault
 
 -- ---- what doesn't fail
 

@@ -2,6 +2,7 @@
 ghost use Rattle.std.specs.Prelude.{◌≡◌};
 ghost use Rattle.bd_top.specs.Fault.{status_of};
 
+use bd_base::OutOfMemory;
 use std::error::Error;
 use std::fmt;
 
@@ -27,9 +28,20 @@ pub enum Fault {
     /// The script's line of this number, from 1, is the first outside the grammar; where each is inside,
     /// the first whose command isn't carried out today.
     JobText(u32),
-    /// The output failed; what was written before is a prefix of the report.
+    /// The output failed; what was written before is a prefix of the report or the generated script.
     WriteFault,
     OutOfMemory,
+}
+
+impl From<OutOfMemory> for Fault {
+    ghost use Rattle.std.specs.Prelude.{◌≡◌};
+    ghost use Rattle.bd_top.specs.declared.fault.Fault.TheVariants as faults;
+
+    ghost from_gives = { λ _ fault. fault ≡ faults.OutOfMemory };
+
+    fn from(_e: OutOfMemory) -> Fault {
+        Fault::OutOfMemory
+    }
 }
 
 impl Fault {

@@ -1,8 +1,9 @@
-//! The top call: two files in, a report out.
+//! The top call: two files in, a report out; or generated work in their place.
 #![tactic(auto)]
 
 mod built;
 mod configure;
+mod exercise;
 mod fault;
 mod files;
 mod inputs;

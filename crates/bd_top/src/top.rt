@@ -1,35 +1,37 @@
 //! The top call.
-ghost use Rattle.std.specs.Prelude.{◌≡◌, ◌<◌, ◌⊎◌, [], map, string_bytes, IfOk, IfErr, MatchResult, None, Err};
-ghost use Rattle.bd_machine.specs.Run.{IsCompleteRun};
+ghost use Rattle.std.specs.Prelude.{◌≡◌, ◌<◌, ◌≤◌, ◌⊎◌, map, string_bytes, IfOk, IfErr, MatchResult, None, Some, Err};
 ghost use Rattle.bd_outside.specs.Sink.{StaysUntold};
-ghost use Rattle.bd_report.specs.Report.{report_of};
 ghost use Rattle.bd_top.specs.declared.fault.Fault.{Fault as Refusal};
-ghost use Rattle.bd_top.specs.Run.{IsRun, Cause, AreInForm, IsWrong, NothingFails, WritesNothing};
-ghost use Rattle.bd_top.specs.Words.{arguments_of};
+ghost use Rattle.bd_top.specs.Run.{IsPlayed, AreFilesPlayed, IsExercised, IsGenerated, IsDone, IsRun, FileCause, AskedCause, Cause, AreInForm, IsWrong, NamesNoFile, NothingFails, WritesNothing};
+ghost use Rattle.bd_top.specs.Words.{Asked as Meant, seen, seen_arguments, asked_of, IsInRange, IsThreadCount};
 
+use crate::exercise::exercise_setup;
 use crate::fault::Fault;
 use crate::files::write_all;
 use crate::inputs::read_setup;
-use crate::words::parse;
+use crate::words::{Arguments, Asked, Playing, parse};
 use bd_base::{OutOfMemory, Setup};
+use bd_jobs::generate;
 use bd_node::{Drive, History, play};
 use bd_outside::{Clock, Failed, Gate, Host, Sink};
 use bd_report::report::report;
+use std::alloc::Global;
 use std::sync::Wait;
 use std::thread::Threads;
 
-/// A run that was made: its status, which is 0, and its history.
+/// A call that did what it was asked: its status, which is 0, and the history of what it played; none
+/// where it played nothing.
 #[derive(Debug, Drop)]
 pub struct Ran {
     pub status: u8,
     pub trace: History,
 }
 
-// A history with its report.
+// What was done: the history, and the text to be written.
 #[derive(Drop)]
-struct Played {
+struct Done {
     trace: History,
-    report: Vec<u8>,
+    text: Vec<u8>,
 }
 
 // Plays the scripts of a setup as the drive has it, and makes the report.
@@ -38,26 +40,102 @@ fn play_and_report<R: AllocGlobal + Threads + Wait + Sync, G: Gate + Sync>(
     setup: &Setup,
     drive: Drive,
     gate: &G,
-) -> Result<Played, OutOfMemory>
+    full: bool,
+) -> Result<Done, OutOfMemory>
     requires { 0 < setup.now.threads }
-    ensures complete { IfOk result (λ p. IsCompleteRun setup.now [] p.trace) }
-    ensures report { IfOk result (λ p. p.report.items ≡ report_of setup.now p.trace) }
+    ensures { IfOk result (λ done. IsPlayed setup.now full done.trace done.text.items) }
 {
     let trace = play(rt, rt.alloc(), setup, drive, gate)?;
-    let report = report(rt.alloc(), setup, trace.entries())?;
-    Ok(Played { trace, report })
+    let text = report(rt.alloc(), setup, trace.entries(), full)?;
+    Ok(Done { trace, text })
 }
 
-/// Reads the configuration and the script that the words `run CONFIG JOBS` name, plays the script on as many
-/// threads as `--threads` says (1 to 16, else 1), and writes the report. The threads are driven by as many
-/// reactors as `--reactors` says (1 to 8, else 1), beside each other, each of which passes the gate before a
-/// turn; or they take turns by the schedule that the number of `--schedule` seeds.
+// Plays two files.
+fn run_files<R: AllocGlobal + Threads + Wait + Sync, H: Host, G: Gate + Sync>(
+    rt: &R,
+    arguments: Arguments<'_>,
+    host: &mut H,
+    gate: &G,
+) -> Result<Done, Fault>
+    requires { IsThreadCount arguments.playing.threads }
+    ensures done { IfOk result (λ done. AreFilesPlayed (seen_arguments arguments.entry) (H.state host.old).told done.trace done.text.items) }
+    ensures cause { IfErr result
+        (FileCause (H.state host.old) (H.state host.new) arguments.entry.config.now arguments.entry.jobs.now arguments.entry.playing.threads) }
+{
+    let Arguments {
+        config,
+        jobs,
+        playing,
+    } = arguments;
+    let setup = read_setup(rt.alloc(), host, config, jobs, playing.threads)?;
+    match play_and_report(rt, &setup, playing.drive, gate, true) {
+        Ok(done) => Ok(done),
+        Err(OutOfMemory) => Err(Fault::OutOfMemory),
+    }
+}
+
+// Plays the built-in configuration with the generated script.
+fn exercise<R: AllocGlobal + Threads + Wait + Sync, G: Gate + Sync>(
+    rt: &R,
+    numbers: u32,
+    playing: Playing,
+    gate: &G,
+) -> Result<Done, OutOfMemory>
+    requires numbers { numbers ≤ 500 }
+    requires threads { IsThreadCount playing.threads }
+    ensures { IfOk result (λ done. IsExercised numbers playing.threads done.trace done.text.items) }
+{
+    let setup = exercise_setup(rt.alloc(), numbers, playing.threads)?;
+    play_and_report(rt, &setup, playing.drive, gate, false)
+}
+
+// Makes the generated script.
+fn generate_only(alloc: Global, numbers: u32, threads: u32) -> Result<Done, OutOfMemory>
+    requires numbers { numbers ≤ 500 }
+    requires threads { IsThreadCount threads }
+    ensures { IfOk result (λ done. IsGenerated numbers threads done.trace done.text.items) }
+{
+    let text = generate(alloc, numbers, threads)?;
+    Ok(Done {
+        trace: History::none(alloc),
+        text,
+    })
+}
+
+// Does what is asked.
+fn do_asked<R: AllocGlobal + Threads + Wait + Sync, H: Host, G: Gate + Sync>(
+    rt: &R,
+    asked: Asked<'_>,
+    host: &mut H,
+    gate: &G,
+) -> Result<Done, Fault>
+    requires { IsInRange (seen asked) }
+    ensures done { IfOk result (λ done. IsDone (seen asked.entry) (H.state host.old).told done.trace done.text.items) }
+    ensures cause { IfErr result (AskedCause (seen asked.entry) (H.state host.old) (H.state host.new)) }
+    ensures unread { NamesNoFile (seen asked.entry) → H.state host.new ≡ H.state host.old }
+{
+    match asked {
+        Asked::Run(arguments) => run_files(rt, arguments, host, gate),
+        Asked::Exercise { numbers, playing } => Ok(exercise(rt, numbers, playing, gate)?),
+        Asked::Generate { numbers, threads } => Ok(generate_only(rt.alloc(), numbers, threads)?),
+    }
+}
+
+/// Does what the words ask, and writes what came of it.
+///
+/// `run CONFIG JOBS` reads the configuration and the script, plays the script, and writes the report.
+/// `exercise N` does the same with the built-in configuration and the generated script, which has N
+/// numbers (1 to 500) for each thread; it reads no file, and its report has no lines for single commands.
+/// Both play on as many threads as `--threads` says (1 to 16, else 1). The threads are driven by as many
+/// reactors as `--reactors` says (1 to 8, else 1), beside each other, each of which passes the gate before
+/// a turn; or they take turns by the schedule that the number of `--schedule` seeds. `generate N` writes
+/// the generated script for as many threads as `--threads` says, and plays nothing.
 ///
 /// Faults are looked for in this order: the words; the configuration's file, its text, its shape, its
 /// commands as they are read, as they are served and as they are done; the script's file, its grammar,
 /// and commands that aren't carried out; the output. `cause` says when each comes: a file's fault names
 /// the file that was due, and the script is due only once the configuration makes its devices.
-#[tactic(auto, using(crate::proofs::Wrong::only_this, crate::proofs::Wrong::not_played))]
+#[tactic(auto, using(crate::proofs::Answers::of_asked, crate::proofs::Answers::names_none, crate::proofs::InForm::only_memory, crate::proofs::Wrong::only_this, crate::proofs::Wrong::not_done))]
 pub fn run<R: AllocGlobal + Threads + Wait + Sync, H: Host, K: Sink, C: Clock, G: Gate + Sync>(
     rt: &R,
     words: &[String],
@@ -68,7 +146,7 @@ pub fn run<R: AllocGlobal + Threads + Wait + Sync, H: Host, K: Sink, C: Clock, G
 ) -> Result<Ran, Fault>
     ensures run { IfOk result (λ r. IsRun (map string_bytes words.now) (H.state host.old) r.trace (K.state out.old) (K.state out.new)) }
     ensures status { IfOk result (λ r. r.status ≡ 0) }
-    ensures usage { arguments_of (map string_bytes words.now) ≡ None → result ≡ Err Fault.Usage }
+    ensures usage { asked_of (map string_bytes words.now) ≡ None → result ≡ Err Fault.Usage }
     ensures cause { IfErr result (Cause (map string_bytes words.now) (H.state host.old) (H.state host.new) (K.state out.old) (K.state out.new)) }
     ensures complete { AreInForm (map string_bytes words.now) (H.state host.old)
         → NothingFails (H.state host.old) (H.state host.new) (K.state out.old) (K.state out.new)
@@ -76,17 +154,17 @@ pub fn run<R: AllocGlobal + Threads + Wait + Sync, H: Host, K: Sink, C: Clock, G
     ensures refused { (fault : Refusal) → IsWrong (map string_bytes words.now) (H.state host.old) fault
         → NothingFails (H.state host.old) (H.state host.new) (K.state out.old) (K.state out.new)
         → MatchResult result (λ _ran. ⊥) (λ given. (given ≡ fault) ⊎ (given ≡ Fault.OutOfMemory)) }
+    ensures unread { (asked : Meant) → asked_of (map string_bytes words.now) ≡ Some asked → NamesNoFile asked
+        → H.state host.new ≡ H.state host.old }
     ensures nothing { IfErr result (WritesNothing (K.state out.old) (K.state out.new)) }
     ensures untold { StaysUntold (K.state out.old) (K.state out.new) }
 {
     let Some(asked) = parse(words) else {
         return Err(Fault::Usage);
     };
-    let setup = read_setup(rt.alloc(), host, asked.config, asked.jobs, asked.threads)?;
-    let Ok(Played { trace, report }) = play_and_report(rt, &setup, asked.drive, gate) else {
-        return Err(Fault::OutOfMemory);
-    };
-    match write_all(out, report.as_slice()) {
+    let done = do_asked(rt, asked, host, gate)?;
+    let Done { trace, text } = done;
+    match write_all(out, text.as_slice()) {
         Ok(()) => Ok(Ran { status: 0, trace }),
         Err(Failed) => Err(Fault::WriteFault),
     }

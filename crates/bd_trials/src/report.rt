@@ -1,5 +1,6 @@
 //! Reports of histories. A case has how many threads there are; the scripts, each with its thread and
 //! its lines with their numbers; and the acts of the history, each with its thread. Bars part the three.
+//! A report of the sums alone leaves out the lines of commands.
 mod history;
 
 use crate::words::{escaped, first_word, op, small};
@@ -7,12 +8,13 @@ use bd_base::{DevRow, Job, Kind, Line, Name, OutOfMemory, Rows, Script, Setup};
 use bd_report::report::report;
 use std::alloc::Global;
 
-pub(crate) fn answer(alloc: Global, case: &str) -> Result<String, OutOfMemory> {
+pub(crate) fn answer(alloc: Global, case: &str, full: bool) -> Result<String, OutOfMemory> {
     let (threads, history) = case.split_once(" | ").unwrap_or((case, ""));
     let (scripts, acts) = history.split_once(" | ").unwrap_or((history, ""));
     let setup = setup(alloc, small(threads), scripts)?;
     let trace = history::entries(alloc, acts)?;
-    escaped(alloc, report(alloc, &setup, trace.as_slice())?.as_slice())
+    let text = report(alloc, &setup, trace.as_slice(), full)?;
+    escaped(alloc, text.as_slice())
 }
 
 // So many threads, these scripts, and one device.

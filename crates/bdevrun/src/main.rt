@@ -1,5 +1,5 @@
 //! Plays a job script over the block devices of a configuration, on one thread or several:
-//! `bdevrun run CONFIG JOBS`.
+//! `bdevrun run CONFIG JOBS`; or generated work over a built-in one: `bdevrun exercise N`.
 #![tactic(auto)]
 
 mod answer;
@@ -23,10 +23,16 @@ bdevrun: plays a job script over block devices and reports what they did
 usage: bdevrun run CONFIG JOBS [--threads N] [--reactors N | --schedule N]
                            reads the configuration CONFIG (JSON) and the
                            script JOBS, and prints the report
+       bdevrun exercise N [--threads N] [--reactors N | --schedule N]
+                           plays generated work, N writes and reads (1 to
+                           500) on each thread, over built-in devices, and
+                           prints a report without a line for each command
+       bdevrun generate N [--threads N]
+                           prints the script of that work
        bdevrun --help      prints this
        bdevrun --version   prints the version
 
-  --threads N    plays on N threads, 1 to 16 (1)
+  --threads N    plays on N threads, 1 to 16 (1), or prints a script for them
   --reactors N   drives them by N reactors beside each other, 1 to 8 (1)
   --schedule N   lets them take turns as the number N says, 0 to 2^64 - 1
 
@@ -55,8 +61,8 @@ fn print<R: Runtime>(rt: &R, text: &str) -> Result<u8, Fault> {
     }
 }
 
-// Plays the script that the words name, with the files, the output and the clock of the system.
-fn play<R: Runtime + AllocGlobal + Threads + Wait + Sync>(
+// Does what the words ask, with the files, the output and the clock of the system.
+fn do_asked<R: Runtime + AllocGlobal + Threads + Wait + Sync>(
     rt: &R,
     words: &[String],
 ) -> Result<u8, Fault> {
@@ -73,7 +79,7 @@ fn serve<R: Runtime + AllocGlobal + Threads + Wait + Sync>(rt: &R) -> Result<u8,
     match words.as_slice() {
         [word] if word.as_str() == "--help" => print(rt, HELP),
         [word] if word.as_str() == "--version" => print(rt, VERSION),
-        words => play(rt, words),
+        words => do_asked(rt, words),
     }
 }
 
