@@ -1,6 +1,6 @@
 //! A reactor's turns in a round: its seats have turns until all reactors are quiet at the same moment.
 ghost use Rattle.std.specs.Prelude.{All};
-ghost use Rattle.bd_node.specs.Seats.{AllWentOn, SitsOrHalts};
+ghost use Rattle.bd_node.specs.Seats.{AllWentOn, SitsOrHalts, WentOn};
 
 use crate::seat::Seat;
 use bd_outside::Gate;
