@@ -1,6 +1,6 @@
 //! A reactor's turns in a round: its seats have turns until all reactors are quiet at the same moment.
-ghost use Rattle.std.specs.Prelude.{All};
-ghost use Rattle.bd_node.specs.Seats.{AllWentOn, SitsOrHalts, WentOn};
+ghost use Rattle.std.specs.Prelude.{◌<◌, All, length};
+ghost use Rattle.bd_node.specs.Seats.{AllWentOn, SitsOrHalts};
 
 use crate::seat::Seat;
 use bd_outside::Gate;
@@ -63,18 +63,46 @@ impl<'w, 'g, G: Gate> Crew<'w, 'g, G> {
         }
     }
 
-    // A turn of a seat, before which the reactor passes the gate. True where it moved: the reactor is at work
-    // from then on.
-    fn turn<W: Wait>(&mut self, rt: &W, alloc: Global, wires: &Wires, seat: &mut Seat) -> bool
-        requires { SitsOrHalts wires.now seat.old }
-        ensures { WentOn wires.now seat.old seat.new }
+    // A turn of the seat at this place, before which the reactor passes the gate. True where it moved: the reactor
+    // is at work from then on.
+    fn turn<W: Wait>(
+        &mut self,
+        rt: &W,
+        alloc: Global,
+        wires: &Wires,
+        seats: &mut [Seat],
+        place: usize,
+    ) -> bool
+        requires within { place < length seats.old }
+        requires sit { All (SitsOrHalts wires.now) seats.old }
+        ensures { AllWentOn wires.now seats.old seats.new }
     {
         self.turns = self.turns.saturating_add(1);
         let watch = self.watch;
         watch.gate.pass(self.reactor, watch.round, self.turns);
-        let moved = seat.step(rt, alloc, wires);
+        let moved = seats[place].step(rt, alloc, wires);
         if moved {
             self.begin();
+        }
+        moved
+    }
+
+    // A turn of the seat at this place, and where it moved one more of the first. True where it moved.
+    fn turn_then_first<W: Wait>(
+        &mut self,
+        rt: &W,
+        alloc: Global,
+        wires: &Wires,
+        seats: &mut [Seat],
+        place: usize,
+    ) -> bool
+        requires within { place < length seats.old }
+        requires sit { All (SitsOrHalts wires.now) seats.old }
+        ensures { AllWentOn wires.now seats.old seats.new }
+    {
+        let moved = self.turn(rt, alloc, wires, seats, place);
+        if moved {
+            self.turn(rt, alloc, wires, seats, 0);
         }
         moved
     }
@@ -87,10 +115,8 @@ impl<'w, 'g, G: Gate> Crew<'w, 'g, G> {
     {
         let mut moved = false;
         for place in 0..seats.len() {
-            if self.turn(rt, alloc, wires, &mut seats[place]) {
-                self.turn(rt, alloc, wires, &mut seats[0]);
-                moved = true;
-            }
+            let turned = self.turn_then_first(rt, alloc, wires, seats, place);
+            moved = moved || turned;
         }
         moved
     }
