@@ -4,10 +4,16 @@ use Rattle.std.proofs.lemmas.Option.{slice_get-get_or}
 use Rattle.bd_node.proofs.Crews.{all_still, one_stepped}
 use Rattle.bd_node.proofs.crew.Crew.turn.Goals as goal
 
-pub returns-clause : goal.returns-clause
-returns-clause g c =
-    let w = c.args.wires.now in
+pub returns-then-moved : goal.returns-then-moved
+returns-then-moved g c =
     let seats = c.args.seats.now in
-    let place = c.args.place in
-    let old = slice_index_or seats place c.index-seats-place.result in
-    one_stepped w seats seats place old c.step.new.self refl (all_still w seats) (slice_get-get_or seats place c.index-seats-place.result c.requires.within) c.step.ensures
+    let old = slice_index_or seats c.args.place c.index-seats-place.result in
+    one_stepped c.args.wires.now seats seats c.args.place old c.step.new.self refl (all_still c.args.wires.now seats)
+    (slice_get-get_or seats c.args.place c.index-seats-place.result c.requires.within) c.step.ensures
+
+pub returns-else-moved : goal.returns-else-moved
+returns-else-moved g c =
+    let seats = c.args.seats.now in
+    let old = slice_index_or seats c.args.place c.index-seats-place.result in
+    one_stepped c.args.wires.now seats seats c.args.place old c.step.new.self refl (all_still c.args.wires.now seats)
+    (slice_get-get_or seats c.args.place c.index-seats-place.result c.requires.within) c.step.ensures
