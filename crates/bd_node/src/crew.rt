@@ -3,6 +3,7 @@ ghost use Rattle.std.specs.Prelude.{◌<◌, All, length};
 ghost use Rattle.bd_node.specs.Seats.{AllWentOn, SitsOrHalts};
 
 use crate::seat::Seat;
+use crate::sharing::Deal;
 use bd_outside::Gate;
 use bd_wires::Wires;
 use std::alloc::Global;
@@ -13,21 +14,32 @@ use std::thread;
 /// How many passes in which something moved a reactor makes in a round, at most.
 const PASSES: u32 = 256;
 
-/// What the reactors of a round share: the gate that they pass, and how many of them are at work.
+/// What the reactors of a round share: the gate that they pass, how threads are dealt to them, and how many of
+/// them are at work.
 #[derive(Drop)]
 pub(crate) struct Watch<'g, G> {
     gate: &'g G,
     round: u64,
+    deal: Deal,
     working: AtomicU32,
 }
 
 impl<'g, G: Gate> Watch<'g, G> {
     /// Before the reactors of the round begin.
-    pub fn new(gate: &'g G, round: u64) -> Self {
+    pub fn new(gate: &'g G, round: u64, deal: Deal) -> Self {
         Watch {
             gate,
             round,
+            deal,
             working: AtomicU32::new(0),
+        }
+    }
+
+    // The reactor to which these seats are dealt.
+    fn reactor_of(&self, seats: &[Seat]) -> u32 {
+        match seats {
+            [] => 0,
+            [first, ..] => self.deal.place(first.worker.me).0,
         }
     }
 
@@ -153,7 +165,6 @@ pub(crate) fn give_turns<W: Wait, G: Gate>(
     alloc: Global,
     wires: &Wires,
     watch: &Watch<G>,
-    reactor: u32,
     seats: &mut [Seat],
 )
     requires { All (SitsOrHalts wires.now) seats.old }
@@ -161,7 +172,7 @@ pub(crate) fn give_turns<W: Wait, G: Gate>(
 {
     let mut crew = Crew {
         watch,
-        reactor,
+        reactor: watch.reactor_of(seats),
         turns: 0,
         working: false,
     };

@@ -10,12 +10,12 @@ ghost use Rattle.bd_node.specs.Waits.{TurnsQuietly};
 ghost use Rattle.bd_node.specs.Whole.{HasSameFlag, HasSameSetup, IsNode, are_all_taken, entries_made, halt_of, has_taken, is_spent, is_at_rest, is_idle, is_over, logs_of, seat_goes, seat_has_destructed, seat_has_stamps, seat_is_blocked, seat_rests, seed_of, setup_in, state_of};
 
 use crate::building::{abandon_all, seats_of};
+use crate::crew::Watch;
 use crate::ending::{greatest, learn_all, take_all_apart};
 use crate::history::History;
 use crate::schedule::Schedule;
 use crate::seat::Seat;
 use crate::sharing::{Deal, turn_all};
-use crate::crew::Watch;
 use bd_base::{OutOfMemory, Rows, Setup};
 use bd_log::merge;
 use bd_outside::Gate;
@@ -232,8 +232,8 @@ impl<'a> Node<'a> {
         ensures schedule { OnOk result (seed_of self.new ≡ seed_of self.old) }
     {
         self.rounds = self.rounds.saturating_add(1);
-        let watch = Watch::new(gate, self.rounds);
         let deal = Deal::of(self.setup.threads, reactors);
+        let watch = Watch::new(gate, self.rounds, deal);
         turn_all(
             rt,
             self.alloc,

@@ -4,8 +4,8 @@ ghost use Rattle.std.specs.List.Sorted.{IsNonDecreasingBy};
 ghost use Rattle.bd_node.specs.Seats.{AllWentOn, IsSitting, number_in};
 ghost use Rattle.bd_node.specs.Whole.{StaySeated};
 
-use crate::seat::Seat;
 use crate::crew::{Watch, give_turns};
+use crate::seat::Seat;
 use bd_outside::Gate;
 use bd_wires::Wires;
 use std::alloc::Global;
@@ -85,9 +85,7 @@ fn turn_each<R: Threads + Wait + Sync, G: Gate + Sync>(
         rt,
         seats,
         each,
-        &|start, crew: &mut [Seat]| {
-            give_turns(rt, alloc, wires, watch, (start / each) as u32, crew)
-        },
+        &|_, crew: &mut [Seat]| { give_turns(rt, alloc, wires, watch, crew) },
     );
 }
 

@@ -2,7 +2,7 @@ use Rattle.std.proofs.Common.{◌≡◌, length}
 use Rattle.bd_node.specs.Seats.{AllWentOn}
 use Rattle.bd_node.proofs.crew.Crew.work.Given as goal
 
-abbrev pub invariant-loop : goal.invariant-loop-item
+abbrev pub invariant-loop : goal.invariant-loop
 invariant-loop g l = record {
   len : length l.seats ≡ length l.initial.seats;
   on : AllWentOn l.wires l.initial.seats l.seats;
