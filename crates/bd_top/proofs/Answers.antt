@@ -1,4 +1,4 @@
--- The answer of a call by what came of what it was asked.
+-- The answer of a call by the cause that doing what it was asked gave.
 use Rattle.std.proofs.Common.{◌≡◌, ◌∙◌, ℕ, List, Some, subst, sym}
 use Rattle.bd_outside.specs.Host.{HostState}
 use Rattle.bd_outside.specs.Sink.{SinkState}

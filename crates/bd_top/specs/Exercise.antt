@@ -12,7 +12,7 @@ use Rattle.bd_top.specs.Setup.{setup_of}
 abbrev pub built_in : List ℕ
 built_in = codes "{\"subsystems\":[{\"subsystem\":\"bdev\",\"config\":[{\"method\":\"bdev_malloc_create\",\"params\":{\"name\":\"M\",\"num_blocks\":1024,\"block_size\":512}},{\"method\":\"bdev_passthru_create\",\"params\":{\"base_bdev_name\":\"M\",\"name\":\"P\"}}]}]}"
 
--- the built-in configuration and the script that is generated, with so many numbers for each thread, mean this setup
+-- the built-in configuration and the script that is generated, with this many numbers for each thread, mean this setup
 pub record IsExercise (numbers threads : ℕ) (setup : Setup) : Type 0 where
   pub devices : Progress
   pub scripts : List Script

@@ -44,7 +44,7 @@ fn scripts(alloc: Global, numbers: u32, threads: u32) -> Result<Rows<Script>, Ou
     }
 }
 
-/// The setup of the built-in configuration with the generated script, so many numbers for each thread.
+/// The setup of the built-in configuration with the generated script of 1 to 500 numbers for each thread.
 pub(crate) fn exercise_setup(
     alloc: Global,
     numbers: u32,

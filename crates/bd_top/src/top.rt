@@ -121,7 +121,7 @@ fn do_asked<R: AllocGlobal + Threads + Wait + Sync, H: Host, G: Gate + Sync>(
     }
 }
 
-/// Does what the words ask, and writes what came of it.
+/// Does what the words ask, and writes the report or the generated script.
 ///
 /// `run CONFIG JOBS` reads the configuration and the script, plays the script, and writes the report.
 /// `exercise N` does the same with the built-in configuration and the generated script, which has N
