@@ -54,8 +54,9 @@ impl<'g, G: Gate> Watch<'g, G> {
 struct Crew<'w, 'g, G> {
     watch: &'w Watch<'g, G>,
     reactor: u32,
-    // how many turns it gave
+    // how many turns it gave, and how many passes in which something moved it made
     turns: u32,
+    passes: u32,
     // whether it is counted among those at work
     working: bool,
 }
@@ -133,24 +134,34 @@ impl<'w, 'g, G: Gate> Crew<'w, 'g, G> {
         moved
     }
 
-    // Passes, until no reactor is at work.
+    // A pass; true where the round goes on for the reactor after it.
+    fn pass_once<W: Wait>(
+        &mut self,
+        rt: &W,
+        alloc: Global,
+        wires: &Wires,
+        seats: &mut [Seat],
+    ) -> bool
+        requires { All (SitsOrHalts wires.now) seats.old }
+        ensures { AllWentOn wires.now seats.old seats.new }
+    {
+        if self.pass(rt, alloc, wires, seats) {
+            self.passes = self.passes.saturating_add(1);
+            return self.passes < PASSES;
+        }
+        self.rest();
+        thread::yield_now();
+        !self.watch.is_quiet()
+    }
+
+    // Passes, as long as the round goes on.
     fn work<W: Wait>(&mut self, rt: &W, alloc: Global, wires: &Wires, seats: &mut [Seat])
         requires { All (SitsOrHalts wires.now) seats.old }
         ensures { AllWentOn wires.now seats.old seats.new }
     {
-        let mut passes = 0;
         for _ in rt.forever() {
-            if self.pass(rt, alloc, wires, seats) {
-                passes += 1;
-                if passes == PASSES {
-                    return;
-                }
-            } else {
-                self.rest();
-                if self.watch.is_quiet() {
-                    return;
-                }
-                thread::yield_now();
+            if !self.pass_once(rt, alloc, wires, seats) {
+                return;
             }
         }
         unreachable!()
@@ -174,6 +185,7 @@ pub(crate) fn give_turns<W: Wait, G: Gate>(
         watch,
         reactor: watch.reactor_of(seats),
         turns: 0,
+        passes: 0,
         working: false,
     };
     crew.begin();
