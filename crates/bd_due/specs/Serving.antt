@@ -1,5 +1,5 @@
 -- Which piece a home serves next on a device.
-use Rattle.std.specs.Prelude.{◌≡◌, ℕ, Bool, true, cond, ◌&&◌, ◌||◌, List, Option, Some, None}
+use Rattle.std.specs.Prelude.{◌≡◌, ℕ, Bool, true, cond, ◌&&◌, List, Option, Some, None}
 use Rattle.bd_base.specs.declared.id.DevId.{DevId}
 use Rattle.bd_base.specs.declared.id.ReqId.{ReqId}
 use Rattle.bd_base.specs.declared.setup.Setup.{Setup}
@@ -10,7 +10,6 @@ use Rattle.bd_machine.specs.declared.state.Id.TheVariants as ids
 use Rattle.bd_machine.specs.declared.state.Kept.{Kept}
 use Rattle.bd_machine.specs.declared.state.Kept.TheVariants as keeps
 use Rattle.bd_machine.specs.declared.state.OpenPiece.{OpenPiece}
-use Rattle.bd_machine.specs.AsYet.{as_yet}
 use Rattle.bd_machine.specs.BlockMap.{depth_of, size_of}
 use Rattle.bd_machine.specs.Homes.{holds_at_most, is_first_at, is_home}
 use Rattle.bd_machine.specs.Kept.{as_piece}
@@ -29,9 +28,9 @@ next_of size dev here base (Some q) = id_if_ready size dev base q (as_piece (her
 abbrev pub next_in : ℕ → DevId → (Id → Option Kept) → Option Base → Option Id
 next_in size dev here base = next_of size dev here base (first_at base)
 
--- the base's queue holds no more than it takes; as yet it takes any number
+-- the base's queue holds no more than it takes
 abbrev pub may_hold : Setup → DevId → Option Base → Bool
-may_hold setup dev base = as_yet || holds_at_most (depth_of setup dev) base
+may_hold setup dev base = holds_at_most (depth_of setup dev) base
 
 -- the piece that thread number `me` serves next on a device, which is this one of its bases
 abbrev pub next_piece : Setup → ℕ → (Id → Option Kept) → DevId → Option Base → Option Id

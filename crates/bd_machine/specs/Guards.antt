@@ -53,6 +53,7 @@ is_built_as_yet (acts.Accept req dev handle op lba count) = has_range op
 is_built_as_yet (acts.Refuse handle op lba count errno) = has_range op
 is_built_as_yet (acts.Cut req pieces) = true
 is_built_as_yet (acts.Apply req k dev end) = true
+is_built_as_yet (acts.NoMem req k dev) = true
 is_built_as_yet (acts.Abort req cause) = true
 is_built_as_yet (acts.Visit walk dev kind) = true
 is_built_as_yet (acts.Complete req status shown) = true

@@ -35,6 +35,7 @@ fn is_built_as_yet(act: &Act) -> bool
         Act::Refuse { op, .. } => has_range(*op),
         Act::Cut { .. } => true,
         Act::Apply { .. } => true,
+        Act::NoMem { .. } => true,
         Act::Abort { .. } => true,
         Act::Visit { .. } => true,
         Act::Complete { .. } => true,

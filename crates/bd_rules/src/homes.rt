@@ -1,10 +1,9 @@
 //! What a home may do: apply a piece, refuse one, and destruct a device.
-ghost use Rattle.std.specs.Prelude.{◌≡◌, ◌==◌, ◌&&◌, ◌||◌, option_copied};
+ghost use Rattle.std.specs.Prelude.{◌≡◌, ◌==◌, ◌&&◌, option_copied};
 ghost use Rattle.std.specs.List.{list_any};
 ghost use Rattle.bd_machine.specs.BlockMap.{depth_of, is_aio};
 ghost use Rattle.bd_machine.specs.Homes.{base_here, holds_at_most, is_digest_due, is_done_or, is_first, is_first_at, is_last, is_on_base, is_told, is_too_many, may_destruct};
 ghost use Rattle.bd_machine.specs.Same.{same_dev, same_request};
-ghost use Rattle.bd_machine.specs.AsYet.{as_yet};
 ghost use Rattle.bd_rules.specs.Homes.{may_apply, may_refuse};
 ghost use Rattle.bd_view.specs.Came.{came_free};
 
@@ -12,7 +11,7 @@ use crate::kept::piece_here;
 use bd_base::{ApplyEnd, DevId, ReqId, Setup};
 use bd_blocks::{depth_of, find_base, home, is_aio, is_home};
 use bd_machine::{Base, OpenPiece, Owed};
-use bd_view::{AS_YET, PieceId, Sees, same_owed, same_request};
+use bd_view::{PieceId, Sees, same_owed, same_request};
 
 /// A base device whose home the thread is.
 pub fn base_here<S: Sees>(seen: &S, dev: DevId) -> Option<&Base>
@@ -63,16 +62,15 @@ fn holds_at_most(depth: u32, base: Option<&Base>) -> bool
     }
 }
 
-/// Whether a base's queue holds no more pieces than it takes, which isn't asked as yet.
+/// Whether a base's queue holds no more pieces than it takes.
 pub fn may_hold(setup: &Setup, dev: DevId, base: Option<&Base>) -> bool
-    ensures { result ≡ (as_yet || holds_at_most (depth_of setup.now dev) (option_copied base.entry)) }
+    ensures { result ≡ holds_at_most (depth_of setup.now dev) (option_copied base.entry) }
 {
-    AS_YET || holds_at_most(depth_of(setup, dev), base)
+    holds_at_most(depth_of(setup, dev), base)
 }
 
 /// Whether the thread may apply a piece to a device: it is the device's home, the piece is the first in
-/// the device's queue, and it is here and on the device; and the queue holds no more than it takes,
-/// which isn't asked as yet.
+/// the device's queue, and it is here and on the device; and the queue holds no more than it takes.
 pub fn may_apply<S: Sees>(seen: &S, setup: &Setup, thread: u32, piece: PieceId, dev: DevId) -> bool
     ensures { result ≡ may_apply setup.now thread (S.view_of seen.now) piece.req piece.k dev }
 {

@@ -4,8 +4,7 @@ ghost use Rattle.bd_machine.specs.Guards.{is_built_event, is_built_token};
 
 use bd_base::{RegEvent, Token};
 
-/// Whether a base's queue takes any number of pieces, and only some acts are built. With false the
-/// rules are those that stand in the end.
+/// Whether only some acts are built. With false every act is.
 pub const AS_YET: bool = true;
 
 /// Whether threads put and take such a token: any but a request that goes to a limited device's home,
