@@ -2,10 +2,9 @@
 use Rattle.std.specs.Prelude.{◌≡◌, ◌==◌, ℕ, Bool, ◌-◌, ◌*◌, ◌/◌, List, ◌∷◌, [], ◌++◌, length, take, Option, Some, if◌then◌else◌}
 use Rattle.std.specs.List.{list_any}
 use Rattle.bd_base.specs.Name.{same_name}
-use Rattle.bd_outside.specs.declared.opening.Closing.{Closing}
 use Rattle.bd_outside.specs.declared.opening.Opening.{Opening}
 use Rattle.bd_outside.specs.Count.{one_more}
-use Rattle.bd_outside.specs.Disk.{overwritten}
+use Rattle.bd_outside.specs.Disk.{DiskState, closing_of, overwritten}
 use Rattle.bd_outside.specs.File.{Told, Untold, NoFile, Content}
 use Rattle.bd_outside.specs.Opening.{open_row, rows_closed}
 
@@ -62,9 +61,16 @@ write_call disk at bytes = record disk { calls = one_more disk.calls; content = 
 abbrev pub flush_call : MemoryDisk → MemoryDisk
 flush_call disk = record disk { calls = one_more disk.calls; flushes = one_more disk.flushes }
 
--- what its host keeps of a disk that is closed
-abbrev pub closing_of_memory : MemoryDisk → Closing
-closing_of_memory disk = record { content = Some disk.content; faults = disk.faults; flushes = disk.flushes }
+-- what a disk in memory tells: all that it has
+abbrev pub memory_state : MemoryDisk → DiskState
+memory_state disk = record {
+  block_size = disk.block_size;
+  blocks = disk.blocks;
+  content = Some disk.content;
+  faults = disk.faults;
+  flushes = disk.flushes;
+  place = disk.place;
+}
 
 -- the failing calls of a disk over the file of a name, by the first row of that name; none without one
 abbrev pub fails_of : List ℕ → List (List ℕ × List ℕ) → List ℕ
@@ -117,4 +123,4 @@ IsDiskOver (Content file) fails size place disk = disk ≡ disk_over file size f
 -- the host after a disk was closed by that name
 abbrev pub close_call : MemoryHost → List ℕ → MemoryDisk → MemoryHost
 close_call host name disk =
-    record host { openings = rows_closed host.openings disk.place name (closing_of_memory disk) }
+    record host { openings = rows_closed host.openings disk.place name (closing_of (memory_state disk)) }

@@ -2,7 +2,7 @@
 ghost use Rattle.std.specs.Prelude.{◌≡◌, ◌<◌, ◌≤◌, ◌*◌, Some, None, false, length, IsTrue, OnOk, OnErr};
 ghost use Rattle.bd_outside.specs.Count.{one_more};
 ghost use Rattle.bd_outside.specs.Disk.{IsInside, Reads, overwritten};
-ghost use Rattle.bd_outside.specs.Memory.{MemoryDisk, disk_over, next_disk_call_fails, disk_call, failed_disk_call, write_call, flush_call};
+ghost use Rattle.bd_outside.specs.Memory.{MemoryDisk, disk_over, next_disk_call_fails, disk_call, failed_disk_call, write_call, flush_call, memory_state};
 
 use crate::disk::Disk;
 use crate::failed::Failed;
@@ -128,14 +128,7 @@ impl MemDisk {
 }
 
 impl Disk for MemDisk {
-    ghost state = { λ d. record {
-      block_size = d.block_size;
-      blocks = d.blocks;
-      content = Some d.content;
-      faults = d.faults;
-      flushes = d.flushes;
-      place = d.place;
-    } };
+    ghost state = { memory_state };
 
     fn blocks(&self) -> u64 {
         self.blocks

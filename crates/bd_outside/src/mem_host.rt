@@ -1,8 +1,9 @@
 //! Files in memory.
 ghost use Rattle.std.specs.Prelude.{◌≡◌, ◌<◌, ◌≤◌, ℕ, List, [], ◌∷◌, ◌++◌, Some, false, length, take, drop, min, IsTrue, IsErr, IfOk, OnOk, OnErr, IsErrOf, MatchOption};
 ghost use Rattle.bd_outside.specs.Count.{one_more};
+ghost use Rattle.bd_outside.specs.Disk.{closing_of};
 ghost use Rattle.bd_outside.specs.File.{file_of, rest_of, NoFile, Content, GivesPiece};
-ghost use Rattle.bd_outside.specs.Memory.{MemoryHost, host_of, next_fails, failed_call, absent_call, read_call, open_call, close_call, IsDiskOver, closing_of_memory, fails_of};
+ghost use Rattle.bd_outside.specs.Memory.{MemoryHost, host_of, next_fails, failed_call, absent_call, read_call, open_call, close_call, IsDiskOver, fails_of, memory_state};
 ghost use Rattle.bd_outside.specs.Opening.{open_row, rows_closed};
 ghost use Rattle.bd_outside.specs.declared.opening.Opening.{Opening};
 
@@ -167,11 +168,7 @@ pub(crate) fn copy_from(file: &[u8], at: u64, to: &mut [u8]) -> usize
 }
 
 // Adds the row of an opening. Out of memory leaves the rows.
-pub(crate) fn add_row(
-    rows: &mut Vec<Opening>,
-    name: &str,
-    blocks: u64,
-) -> Result<(), OutOfMemory>
+pub(crate) fn add_row(rows: &mut Vec<Opening>, name: &str, blocks: u64) -> Result<(), OutOfMemory>
     ensures added { OnOk result (rows.new.items ≡ rows.old.items ++ open_row name.now blocks ∷ []) }
     ensures same { OnErr result (rows.new.items ≡ rows.old.items) }
 {
@@ -187,7 +184,7 @@ pub(crate) fn add_row(
 
 // Fills the row of a disk that is closed by that name, if it has one that stands open.
 pub(crate) fn close_row(rows: &mut Vec<Opening>, name: &str, disk: MemDisk)
-    ensures { rows.new.items ≡ rows_closed rows.old.items disk.place name.now (closing_of_memory disk) }
+    ensures { rows.new.items ≡ rows_closed rows.old.items disk.place name.now (closing_of (memory_state disk)) }
 {
     let (faults, flushes, place) = (disk.faults(), disk.flushes(), disk.place());
     let closing = Closing {
