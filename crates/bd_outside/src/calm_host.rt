@@ -1,6 +1,6 @@
 //! Files in memory that never fail.
 ghost use Rattle.std.specs.Prelude.{◌≡◌, ◌<◌, ◌≤◌, List, [], ◌∷◌, ◌++◌, Some, None, length, min, IfOk, IfErr, IfSome, OnErr, MatchOption};
-ghost use Rattle.bd_outside.specs.Calm.{CalmFiles, calm_host_of, calm_absent_call, calm_beyond_call, calm_close_call, IsKeptOver, OpensCalmly};
+ghost use Rattle.bd_outside.specs.Calm.{CalmFiles, calm_host_of, calm_absent_call, calm_beyond_call, calm_close_call, calm_state, OpensCalmly};
 ghost use Rattle.bd_outside.specs.File.{file_of, rest_of, NoFile, GivesPiece};
 ghost use Rattle.bd_outside.specs.Memory.{disk_over};
 ghost use Rattle.bd_outside.specs.Opening.{open_row};
@@ -138,6 +138,7 @@ impl Host for CalmHost {
     /// for it, the disk is one beyond the rows. It never answers Failed.
     fn open_disk(&mut self, name: &str, block_size: u32) -> Result<CalmDisk, HostNo>
         requires { 0 < block_size }
+        ensures size { IfOk result (λ d. (calm_state d).block_size ≡ block_size) }
         ensures disk { IfOk result (λ d. OpensCalmly (file_of name.now self.old.files) block_size self.old self.new name.now d) }
 
         ensures answer { IfErr result (λ no. no ≡ HostNo.Absent) }
