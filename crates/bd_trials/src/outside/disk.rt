@@ -8,7 +8,12 @@ use std::alloc::Global;
 
 // A disk whose last block isn't whole: its middle block is written, and it and the next are read.
 pub(crate) fn written(alloc: Global) -> Result<String, OutOfMemory> {
-    let mut disk = MemDisk::new(alloc, Bytes::from_slice(alloc, b"aaaabbbbccccdd")?, 4, Vec::new(alloc));
+    let mut disk = MemDisk::new(
+        alloc,
+        Bytes::from_slice(alloc, b"aaaabbbbccccdd")?,
+        4,
+        Vec::new(alloc),
+    );
     let blocks = disk.blocks();
     let written = disk.write(1, b"BBBB").is_ok();
     let content = escaped(alloc, disk.content())?;
