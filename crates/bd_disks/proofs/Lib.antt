@@ -1,0 +1,5 @@
+pub mod Blockwise
+pub mod Changing
+pub mod Ends
+pub mod Held
+pub mod Rewriting

@@ -1,0 +1,23 @@
+-- What a disk holds, in blocks as the machine has them.
+use Rattle.std.specs.Prelude.{◌≡◌, ℕ, List, [], ◌∷◌, length, Option, None, Some}
+use Rattle.std.specs.List.{concat}
+use Rattle.bd_machine.specs.declared.state.Content.{Content}
+use Rattle.bd_machine.specs.declared.state.Content.TheVariants.{Blocks, Zeros, Untold}
+use Rattle.bd_outside.specs.Disk.{DiskState}
+
+-- each block has this many bytes
+abbrev pub AreOfSize : ℕ → List (List ℕ) → Type 0
+AreOfSize size [] = Unit {0}
+AreOfSize size (b ∷ bs) = (length b ≡ size) × AreOfSize size bs
+
+-- these are the blocks of the disk, and it tells their bytes
+pub record HoldsBlocks (disk : DiskState) (blocks : List (List ℕ)) : Type 0 where
+  pub bytes : disk.content ≡ Some (concat blocks)
+  pub number : length blocks ≡ disk.blocks
+  pub sizes : AreOfSize disk.block_size blocks
+
+-- a disk has the content that the machine has of its device, or neither tells it; no disk is zeros for good
+abbrev pub Has : DiskState → Content → Type 0
+Has disk (Blocks blocks) = HoldsBlocks disk blocks
+Has disk Zeros = ⊥
+Has disk Untold = disk.content ≡ None

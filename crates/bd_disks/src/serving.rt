@@ -1,0 +1,167 @@
+//! What a piece asks, done to a disk.
+ghost use Rattle.std.specs.Prelude.{◌≡◌, ◌≤◌, ◌*◌, [], length, IfOk, OnOk, OnErr};
+ghost use Rattle.std.specs.List.{concat};
+ghost use Rattle.bd_base.specs.declared.request.Op.TheVariants as ops;
+ghost use Rattle.bd_base.specs.declared.act.ApplyEnd.TheVariants as ends;
+ghost use Rattle.bd_machine.specs.Effect.{rewritten, zero_blocks};
+ghost use Rattle.bd_outside.specs.Disk.{HasSameShape, IsInside, Reads};
+ghost use Rattle.bd_outside.specs.Count.{Rises};
+ghost use Rattle.bd_disks.specs.Serving.{IsInsideDisk, IsNoPiece, IsServed, IsWriting, IsZeroing};
+
+use crate::image::{written, zeros};
+use bd_base::{ApplyEnd, Bytes, Op, OutOfMemory};
+use bd_machine::OpenPiece;
+use bd_outside::{Disk, Failed};
+use std::alloc::Global;
+
+/// How a piece ended, and the bytes that it read: none after a fault, and none of a piece that
+/// isn't a read.
+#[derive(Debug, Drop)]
+pub struct Served {
+    pub end: ApplyEnd,
+    pub bytes: Bytes,
+}
+
+// A piece that was done.
+fn done(bytes: Bytes) -> Served
+    ensures end { result.end ≡ ends.Done }
+    ensures bytes { result.bytes ≡ bytes }
+{
+    Served {
+        end: ApplyEnd::Done,
+        bytes,
+    }
+}
+
+// A piece at which the disk failed.
+fn fault(alloc: Global) -> Served
+    ensures end { result.end ≡ ends.Fault }
+    ensures bytes { result.bytes ≡ [] }
+{
+    Served {
+        end: ApplyEnd::Fault,
+        bytes: Bytes::new(alloc),
+    }
+}
+
+// Fills a vector from whole blocks inside the disk.
+fn fill<D: Disk>(disk: &mut D, lba: u64, to: &mut Vec<u8>) -> Result<(), Failed>
+    requires inside { IsInside lba (length to.old.items) (D.state disk.old).block_size (D.state disk.old).blocks }
+    ensures given { OnOk result (Reads (D.state disk.old).content (lba * (D.state disk.old).block_size) to.new.items) }
+    ensures len { length to.new.items ≡ length to.old.items }
+    ensures same_content { (D.state disk.new).content ≡ (D.state disk.old).content }
+    ensures fault_count { (D.state disk.old).faults ≤ (D.state disk.new).faults }
+    ensures failed { OnErr result (Rises (D.state disk.old).faults (D.state disk.new).faults) }
+    ensures flush_count { (D.state disk.new).flushes ≡ (D.state disk.old).flushes }
+    ensures same_shape { HasSameShape (D.state disk.old) (D.state disk.new) }
+{
+    disk.read(lba, to.as_mut_slice())
+}
+
+// Reads the blocks of a piece.
+fn read<D: Disk>(
+    alloc: Global,
+    disk: &mut D,
+    size: u32,
+    piece: &OpenPiece,
+) -> Result<Served, OutOfMemory>
+    requires inside { IsInsideDisk (D.state disk.old) size piece.now }
+    requires read { piece.now.op ≡ ops.Read }
+    ensures served { IfOk result (λ s. IsServed size piece.now (D.state disk.old) (D.state disk.new) s.end s.bytes) }
+    ensures same_shape { HasSameShape (D.state disk.old) (D.state disk.new) }
+    ensures fault_count { (D.state disk.old).faults ≤ (D.state disk.new).faults }
+    ensures out_of_memory { OnErr result (disk.new ≡ disk.old) }
+{
+    let mut bytes = zeros(alloc, piece.count, size)?;
+    match fill(disk, piece.lba, &mut bytes) {
+        Ok(()) => Ok(done(Bytes::from_vec(bytes))),
+        Err(Failed) => Ok(fault(alloc)),
+    }
+}
+
+// Writes the bytes of a piece to its blocks.
+fn write<D: Disk>(alloc: Global, disk: &mut D, size: u32, piece: &OpenPiece, from: &[u8]) -> Served
+    requires inside { IsInsideDisk (D.state disk.old) size piece.now }
+    requires writing { IsWriting piece.now.op }
+    requires bytes { from.now ≡ concat (rewritten piece.now.op piece.now.first (zero_blocks size piece.now.count)) }
+    ensures served { IsServed size piece.now (D.state disk.old) (D.state disk.new) result.end result.bytes }
+    ensures same_shape { HasSameShape (D.state disk.old) (D.state disk.new) }
+    ensures fault_count { (D.state disk.old).faults ≤ (D.state disk.new).faults }
+{
+    match disk.write(piece.lba, from) {
+        Ok(()) => done(Bytes::new(alloc)),
+        Err(Failed) => fault(alloc),
+    }
+}
+
+// Puts zeros into the blocks of a piece.
+fn clear<D: Disk>(
+    alloc: Global,
+    disk: &mut D,
+    size: u32,
+    piece: &OpenPiece,
+) -> Result<Served, OutOfMemory>
+    requires inside { IsInsideDisk (D.state disk.old) size piece.now }
+    requires zeroing { IsZeroing piece.now.op }
+    ensures served { IfOk result (λ s. IsServed size piece.now (D.state disk.old) (D.state disk.new) s.end s.bytes) }
+    ensures same_shape { HasSameShape (D.state disk.old) (D.state disk.new) }
+    ensures fault_count { (D.state disk.old).faults ≤ (D.state disk.new).faults }
+    ensures out_of_memory { OnErr result (disk.new ≡ disk.old) }
+{
+    let bytes = zeros(alloc, piece.count, size)?;
+    Ok(write(alloc, disk, size, piece, bytes.as_slice()))
+}
+
+// Ends what is never a piece, without a call of the disk.
+fn pass<D: Disk>(alloc: Global, _disk: &D, _size: u32, _piece: &OpenPiece) -> Served
+    requires inside { IsInsideDisk (D.state _disk.now) _size _piece.now }
+    requires no_piece { IsNoPiece _piece.now.op }
+    ensures { IsServed _size _piece.now (D.state _disk.now) (D.state _disk.now) result.end result.bytes }
+{
+    done(Bytes::new(alloc))
+}
+
+// Flushes the disk.
+fn flush<D: Disk>(alloc: Global, disk: &mut D, size: u32, piece: &OpenPiece) -> Served
+    requires inside { IsInsideDisk (D.state disk.old) size piece.now }
+    requires flush { piece.now.op ≡ ops.Flush }
+    ensures served { IsServed size piece.now (D.state disk.old) (D.state disk.new) result.end result.bytes }
+    ensures same_shape { HasSameShape (D.state disk.old) (D.state disk.new) }
+    ensures fault_count { (D.state disk.old).faults ≤ (D.state disk.new).faults }
+{
+    match disk.flush() {
+        Ok(()) => done(Bytes::new(alloc)),
+        Err(Failed) => fault(alloc),
+    }
+}
+
+/// Does to a disk what a piece asks, by one call of the disk. A read gives the bytes of its blocks;
+/// a write puts the pattern of its seed, counted from the piece's first block in the numbers of the
+/// request's device; zeroes put zeros, and so would an unmap, which no aio device supports; a flush
+/// flushes. A reset or an abort, which is never a piece, ends as Done without a call.
+///
+/// The end is Fault only where the disk failed in this call: then what it tells of its content is as
+/// it was. Out of memory leaves the disk as it was.
+pub fn serve<D: Disk>(
+    alloc: Global,
+    disk: &mut D,
+    size: u32,
+    piece: &OpenPiece,
+) -> Result<Served, OutOfMemory>
+    requires { IsInsideDisk (D.state disk.old) size piece.now }
+    ensures served { IfOk result (λ s. IsServed size piece.now (D.state disk.old) (D.state disk.new) s.end s.bytes) }
+    ensures same_shape { HasSameShape (D.state disk.old) (D.state disk.new) }
+    ensures fault_count { (D.state disk.old).faults ≤ (D.state disk.new).faults }
+    ensures out_of_memory { OnErr result (disk.new ≡ disk.old) }
+{
+    match piece.op {
+        Op::Read => read(alloc, disk, size, piece),
+        Op::Write(fill) => {
+            let bytes = written(alloc, fill, piece.first, piece.count, size)?;
+            Ok(write(alloc, disk, size, piece, bytes.as_slice()))
+        }
+        Op::Zeroes | Op::Unmap => clear(alloc, disk, size, piece),
+        Op::Flush => Ok(flush(alloc, disk, size, piece)),
+        Op::Reset | Op::Abort(_) => Ok(pass(alloc, disk, size, piece)),
+    }
+}
