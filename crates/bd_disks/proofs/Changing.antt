@@ -1,6 +1,7 @@
 -- The row of a device among the disks: found by its place, and changed there.
 use Rattle.std.proofs.Common.{◌≡◌, ℕ, suc, ◌+◌, ◌<◌, ◌≤◌, Bool, true, false, cond, not, List, [], ◌∷◌, length, get_or, set, nat_lt, ltb-true, ltb-false, Option, Some, None, refl, sym, ◌∙◌, ap, subst, arith}
 use Rattle.std.specs.List.{position, position_or_len}
+use Rattle.std.specs.Option.{option_map}
 use Rattle.bd_base.specs.declared.id.DevId.{DevId}
 use Rattle.bd_disks.specs.Rows.{ChangesDisk, ChangesRow, disk_of, is_row}
 
@@ -80,22 +81,31 @@ module _ {D : Type 0} (dev : DevId) where
   pub no_disk : (rows : List (DevId × D)) → position is rows ≡ None → disk_of dev rows ≡ None
   no_disk rows e = nowhere rows (past rows e)
 
+  -- what is said of the disk, by the place that was found
+  pub mapped_at : (f : D → ℕ) (rows : List (DevId × D)) (place : Option ℕ) (i : ℕ) (d : DevId × D) → place ≡ position is rows → place ≡ Some i
+      → Some (f (get_or rows i d).1) ≡ option_map f (disk_of dev rows)
+  mapped_at f rows place i d e s = ap (λ (o : Option D). option_map f o) (sym (disk_at rows i d (sym e ∙ s)))
+
+  pub mapped_nowhere : (f : D → ℕ) (rows : List (DevId × D)) (place : Option ℕ) → place ≡ position is rows → place ≡ None
+      → None ≡ option_map f (disk_of dev rows)
+  mapped_nowhere f rows place e s = ap (λ (o : Option D). option_map f o) (sym (no_disk rows (sym e ∙ s)))
+
   module _ (So : D → D → Type 0) where
+    abbrev here : Bool → DevId × D → List (DevId × D) → List (DevId × D) → Type 0
+    here b row rows [] = ⊥
+    here b row rows (other ∷ new) = ChangesRow b So row other (new ≡ rows) (ChangesDisk dev So rows new)
+
     changed_there : (rows : List (DevId × D)) (d next : DevId × D) → before rows < length rows → next.0 ≡ (get_or rows (before rows) d).0
         → So (get_or rows (before rows) d).1 next.1 → ChangesDisk dev So rows (set rows (before rows) next)
     changed_there [] d next h same so = absurd (omega arith)
     changed_there (row ∷ rows) d next h same so = go (is row) h same so (changed_there rows d next)
       where
-        abbrev here : Bool → List (DevId × D) → Type 0
-        here b [] = ⊥
-        here b (other ∷ new) = ChangesRow b So row other (new ≡ rows) (ChangesDisk dev So rows new)
-
         go : (b : Bool) → cond (not b) (suc (before rows)) 0 < suc (length rows)
             → next.0 ≡ (get_or (row ∷ rows) (cond (not b) (suc (before rows)) 0) d).0
             → So (get_or (row ∷ rows) (cond (not b) (suc (before rows)) 0) d).1 next.1
             → (before rows < length rows → next.0 ≡ (get_or rows (before rows) d).0 → So (get_or rows (before rows) d).1 next.1
-                → ChangesDisk dev So rows (set rows (before rows) next))
-            → here b (set (row ∷ rows) (cond (not b) (suc (before rows)) 0) next)
+            → ChangesDisk dev So rows (set rows (before rows) next))
+            → here b row rows (set (row ∷ rows) (cond (not b) (suc (before rows)) 0) next)
         go true l same so ih = (same, so, refl)
         go false l same so ih = (refl, ih (low (before rows) (length rows) l) same so)
 
@@ -105,4 +115,4 @@ module _ {D : Type 0} (dev : DevId) where
     changed_at rows i d next e same so =
         let p = placed rows i e in
         subst (λ (n : ℕ). ChangesDisk dev So rows (set rows n next)) p.0
-            (changed_there rows d next p.1 (subst (λ (n : ℕ). next.0 ≡ (get_or rows n d).0) (sym p.0) same) (subst (λ (n : ℕ). So (get_or rows n d).1 next.1) (sym p.0) so))
+        (changed_there rows d next p.1 (subst (λ (n : ℕ). next.0 ≡ (get_or rows n d).0) (sym p.0) same) (subst (λ (n : ℕ). So (get_or rows n d).1 next.1) (sym p.0) so))

@@ -101,10 +101,10 @@ module _ (size : ℕ) (p : OpenPiece) (old new : DiskState) (inside : IsInsideDi
   ended h = subst (λ (e : ApplyEnd). IsServed size p old new e bytes) (sym is_done) h
 
   none_told : bytes ≡ [] → is_read p.op ≡ false → (c : Content) → Has old c → AreTold (bytes_read size c p) bytes
-  none_told none no c h = subst (λ (xs : List ℕ). AreTold (bytes_read size c p) xs) (sym none) (told_nothing size p c no)
+  none_told none reads_not c h = subst (λ (xs : List ℕ). AreTold (bytes_read size c p) xs) (sym none) (told_nothing size p c reads_not)
 
   no_amount : bytes ≡ [] → is_read p.op ≡ false → length bytes ≡ cond (is_read p.op) (p.count * size) 0
-  no_amount none no = ap length none ∙ sym (ap (λ (b : Bool). cond b (p.count * size) 0) no)
+  no_amount none reads_not = ap length none ∙ sym (ap (λ (b : Bool). cond b (p.count * size) 0) reads_not)
 
   -- a write was done
   pub done_writing : IsWriting p.op → (from : List ℕ) → from ≡ concat (rewritten p.op p.first (zero_blocks size p.count))

@@ -81,13 +81,40 @@ fn serve_row<D: Disk>(
     serve(alloc, &mut row.1, size, piece)
 }
 
+// How many blocks the disk of a device has.
+fn blocks_of<D: Disk>(rows: &[(DevId, D)], dev: DevId) -> Option<u64>
+    ensures { result ≡ option_map (λ disk. (D.state disk).blocks) (disk_of dev rows.now) }
+{
+    match place(rows, dev) {
+        Some(i) => Some(rows[i].1.blocks()),
+        None => None,
+    }
+}
+
+// Serves a piece from the disk of its device.
+fn serve_in<D: Disk>(
+    alloc: Global,
+    rows: &mut [(DevId, D)],
+    size: u32,
+    piece: &OpenPiece,
+) -> Result<Served, OutOfMemory>
+    requires inside { IsInsideOne (option_map D.state (disk_of piece.now.base rows.old)) size piece.now }
+    ensures does { IfOk result (λ s. ChangesDisk piece.now.base
+        (λ old new. Does size piece.now s.end s.bytes (D.state old) (D.state new)) rows.old rows.new) }
+    ensures out_of_memory { OnErr result (rows.new ≡ rows.old) }
+{
+    let Some(i) = place(rows, piece.base) else {
+        unreachable!()
+    };
+    serve_row(alloc, &mut rows[i], size, piece)
+}
+
 impl<D: Disk> Disks<D> {
     /// How many blocks the disk of a device has; None where the device has none.
     pub fn blocks(&self, dev: DevId) -> Option<u64>
         ensures { result ≡ option_map (λ disk. (D.state disk).blocks) (disk_of dev self.now) }
     {
-        let i = place(self.rows.as_slice(), dev)?;
-        Some(self.rows[i].1.blocks())
+        blocks_of(self.rows.as_slice(), dev)
     }
 
     /// Does to the disk of the piece's device what the piece asks, as `serve` does it to one disk.
@@ -99,9 +126,6 @@ impl<D: Disk> Disks<D> {
         ensures out_of_memory { OnErr result (self.new ≡ self.old) }
     {
         let alloc = *self.rows.allocator();
-        let Some(i) = place(self.rows.as_slice(), piece.base) else {
-            unreachable!()
-        };
-        serve_row(alloc, &mut self.rows[i], size, piece)
+        serve_in(alloc, self.rows.as_mut_slice(), size, piece)
     }
 }

@@ -7,7 +7,8 @@ use Rattle.bd_disks.proofs.serving.read.Goals as goal
 pub fill-requires : goal.fill-requires
 fill-requires g c =
     let p = c.args.piece.now in
-    inside_disk (g.D.Disk.state c.args.disk.now) c.args.size p c.requires.inside _ (ap length c.in_ok-bytes.ensures ∙ length-replicate (p.count * c.args.size) 0)
+    let long : length c.in_ok-bytes.bytes.items ≡ p.count * c.args.size = ap length c.in_ok-bytes.ensures ∙ length-replicate (p.count * c.args.size) 0 in
+    record { inside = inside_disk (g.D.Disk.state c.args.disk.now) c.args.size p c.requires.inside (length c.in_ok-bytes.bytes.items) long }
 
 pub returns-in-Ok-clause-served : goal.returns-in-Ok-clause-served
 returns-in-Ok-clause-served g c =
