@@ -5,6 +5,15 @@ use Rattle.std.specs.Option.{option_map}
 use Rattle.bd_base.specs.declared.id.DevId.{DevId}
 use Rattle.bd_disks.specs.Rows.{ChangesDisk, ChangesRow, disk_of, is_row}
 
+low : (a b : ℕ) → suc a < suc b → a < b
+low a b p = omega arith
+
+low_le : (a b : ℕ) → suc a ≤ suc b → a ≤ b
+low_le a b p = omega arith
+
+none : (a : ℕ) → suc a ≤ 0 → ⊥
+none a p = omega arith
+
 module _ {D : Type 0} (dev : DevId) where
   abbrev is : DevId × D → Bool
   is row = is_row dev row
@@ -24,15 +33,6 @@ module _ {D : Type 0} (dev : DevId) where
       go : (b : Bool) → before rows ≡ position_or_len is rows → cond b (suc (before rows)) 0 ≡ cond b (1 + position_or_len is rows) 0
       go true ih = more (before rows) (position_or_len is rows) ih
       go false ih = refl
-
-  low : (a b : ℕ) → suc a < suc b → a < b
-  low a b p = omega arith
-
-  low_le : (a b : ℕ) → suc a ≤ suc b → a ≤ b
-  low_le a b p = omega arith
-
-  none : (a : ℕ) → suc a ≤ 0 → ⊥
-  none a p = omega arith
 
   placed : (rows : List (DevId × D)) (i : ℕ) → position is rows ≡ Some i → (before rows ≡ i) × (before rows < length rows)
   placed rows i e = go (nat_lt (position_or_len is rows) (length rows)) refl e

@@ -1,0 +1,26 @@
+use Rattle.std.proofs.Common.{◌≡◌, Option, Some, ◌∙◌, sym, subst}
+use Rattle.std.specs.List.{position}
+use Rattle.std.specs.Option.{option_map}
+use Rattle.std.proofs.lemmas.Result.{IfOk-weaker}
+use Rattle.bd_disks.specs.Rows.{Does, IsInsideOne, is_row}
+use Rattle.bd_disks.proofs.Changing.{changed_at, disk_at, no_disk}
+use Rattle.bd_disks.proofs.disks.serve_in.Goals as goal
+
+pub unreachable-requires : goal.unreachable-requires
+unreachable-requires g c =
+    subst (λ (o : Option g.row.D.Denot). IsInsideOne (option_map g.D.Disk.state o) c.args.size c.args.piece.now)
+    (no_disk c.args.piece.now.base c.args.rows.now (sym c.place.ensures ∙ c.in_default.is)) c.requires.inside
+
+pub serve_row-requires : goal.serve_row-requires
+serve_row-requires g c = record {
+  inside = subst (λ (o : Option g.row.D.Denot). IsInsideOne (option_map g.D.Disk.state o) c.args.size c.args.piece.now)
+  (disk_at c.args.piece.now.base c.args.rows.now c.in-Some.i c.index-rows-i.result (sym c.place.ensures ∙ c.in-Some.is)) c.requires.inside;
+}
+
+pub returns-clause-does : goal.returns-clause-does
+returns-clause-does g c =
+    let p = c.args.piece.now in
+    let at : position (is_row p.base) c.args.rows.now ≡ Some c.in-Some.i = sym c.place.ensures ∙ c.in-Some.is in
+    IfOk-weaker c.serve_row.result _ _
+    (λ s does. changed_at p.base (λ old new. Does c.args.size p s.end s.bytes (g.D.Disk.state old) (g.D.Disk.state new)) c.args.rows.now c.in-Some.i c.index-rows-i.result c.serve_row.new.row at c.serve_row.ensures.same_device does)
+    c.serve_row.ensures.does
