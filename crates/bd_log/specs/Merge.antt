@@ -1,5 +1,5 @@
 -- Logs of several threads as one list, by stamp and thread.
-use Rattle.std.specs.Prelude.{◌≡◌, ◌≢◌, ℕ, ◌<◌, Bool, true, false, ◌==◌, ◌&&◌, ◌||◌, nat_lt, ◌⊎◌, List, [], ◌∷◌, ◌++◌, All, AllPairs, Contains, length, map, filter, slice_index_or, slice_set, Option, Some, None}
+use Rattle.std.specs.Prelude.{◌≡◌, ◌≢◌, ℕ, ◌<◌, Bool, true, false, ◌==◌, ◌&&◌, ◌||◌, nat_lt, ◌⊎◌, List, [], ◌∷◌, ◌++◌, All, AllPairs, Contains, length, map, filter, slice_index_or, slice_set}
 use Rattle.std.specs.List.{AllByRecursion}
 use Rattle.bd_base.specs.declared.act.Entry.{Entry}
 
@@ -7,11 +7,6 @@ use Rattle.bd_base.specs.declared.act.Entry.{Entry}
 pub record Part : Type 0 where
   pub thread : ℕ
   pub entries : List Entry
-
--- the stamp of the first entry
-abbrev pub first_stamp : List Entry → Option ℕ
-first_stamp [] = None
-first_stamp (x ∷ xs) = Some x.stamp
 
 abbrev pub threads_of : List Part → List ℕ
 threads_of parts = map (λ p. p.thread) parts
@@ -24,10 +19,6 @@ Rises (x ∷ xs) = AllByRecursion (λ y. x.stamp < y.stamp) xs × Rises xs
 -- its entries are of its thread, and their stamps rise
 abbrev pub IsPart : Part → Type 0
 IsPart p = AllByRecursion (λ x. x.thread ≡ p.thread) p.entries × Rises p.entries
-
--- a part, of which this is the first stamp
-abbrev pub IsKeptPart : Option ℕ → Part → Type 0
-IsKeptPart first p = (first ≡ first_stamp p.entries) × IsPart p
 
 -- the first comes before the second: its stamp is less, or is the same and its thread is less
 abbrev pub IsBefore : Entry → Entry → Type 0
