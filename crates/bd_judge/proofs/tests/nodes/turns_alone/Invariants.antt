@@ -1,5 +1,5 @@
 use Rattle.bd_node.specs.Whole.{IsNode}
-use Rattle.bd_node.proofs.tests.flood.Given as goal
+use Rattle.bd_judge.proofs.tests.nodes.turns_alone.Given as goal
 
 abbrev pub invariant-loop : goal.invariant-loop
 invariant-loop g l = IsNode l.node

@@ -1,5 +1,5 @@
 use Rattle.bd_node.specs.Whole.{IsNode}
-use Rattle.bd_node.proofs.tests.play_by.Given as goal
+use Rattle.bd_judge.proofs.tests.nodes.play_by.Given as goal
 
 abbrev pub invariant-loop : goal.invariant-loop
 invariant-loop g l = IsNode l.node
