@@ -1,6 +1,7 @@
 //! What a log handed out.
 ghost use Rattle.std.specs.Prelude.{◌≡◌, ◌∷◌, [], length, MatchOption};
-ghost use Rattle.bd_log.specs.Merge.{IsPart, first_stamp, head_before};
+ghost use Rattle.bd_log.specs.FirstStamp.{first_stamp};
+ghost use Rattle.bd_log.specs.Merge.{IsPart, head_before};
 
 use bd_base::{Entry, ThreadId};
 use std::collections::VecDeque;
@@ -16,7 +17,8 @@ pub struct LogPart {
 }
 
 impl Model for LogPart {
-    ghost use Rattle.bd_log.specs.Merge.{Part, IsKeptPart};
+    ghost use Rattle.bd_log.specs.FirstStamp.{IsKeptPart};
+    ghost use Rattle.bd_log.specs.Merge.{Part};
 
     ghost Value = { Part };
 
