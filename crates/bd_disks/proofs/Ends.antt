@@ -1,10 +1,10 @@
 -- How a piece ends.
-use Rattle.std.proofs.Common.{◌≡◌, ℕ, ◌+◌, ◌*◌, ◌%◌, ◌<◌, ◌≤◌, Bool, true, false, cond, List, [], length, replicate, refl, sym, ◌∙◌, ap, subst, arith}
+use Rattle.std.proofs.Common.{◌≡◌, ℕ, ◌+◌, ◌*◌, ◌%◌, ◌≤◌, Bool, false, cond, List, [], length, replicate, refl, sym, ◌∙◌, ap, subst, arith}
 use Rattle.std.specs.List.{concat}
 use Rattle.std.proofs.lemmas.List.{length-replicate}
 use Rattle.std.proofs.Math.Nat.{add-mul, mul-le-mul_right, mul-mod_left}
 use Rattle.bd_base.specs.declared.act.ApplyEnd.{ApplyEnd}
-use Rattle.bd_base.specs.declared.act.ApplyEnd.TheVariants.{Done, Fault}
+use Rattle.bd_base.specs.declared.act.ApplyEnd.TheVariants.{Done}
 use Rattle.bd_base.specs.declared.request.Op.{Op}
 use Rattle.bd_base.specs.declared.request.Op.TheVariants as ops
 use Rattle.bd_machine.specs.Effect.{bytes_read, is_read, rewritten, zero_blocks}

@@ -1,5 +1,5 @@
 -- What a disk holds, in blocks as the machine has them.
-use Rattle.std.specs.Prelude.{◌≡◌, ℕ, List, [], ◌∷◌, length, Option, None, Some}
+use Rattle.std.specs.Prelude.{◌≡◌, ℕ, List, [], ◌∷◌, length, None, Some}
 use Rattle.std.specs.List.{concat}
 use Rattle.bd_machine.specs.declared.state.Content.{Content}
 use Rattle.bd_machine.specs.declared.state.Content.TheVariants.{Blocks, Zeros, Untold}

@@ -8,7 +8,7 @@ use Rattle.bd_machine.specs.declared.state.Content.{Content}
 use Rattle.bd_machine.specs.declared.state.OpenPiece.{OpenPiece}
 use Rattle.bd_machine.specs.Effect.{content_after, bytes_read, is_read}
 use Rattle.bd_outside.specs.Count.{Rises, one_more}
-use Rattle.bd_outside.specs.Disk.{DiskState, HasSameShape}
+use Rattle.bd_outside.specs.Disk.{DiskState}
 use Rattle.bd_disks.specs.Holding.{Has}
 
 -- the piece lies inside the disk, whose blocks have this size, and its bytes and the numbers of its blocks have 64 bits

@@ -14,7 +14,7 @@ unreachable-requires g c =
 pub serve_row-requires : goal.serve_row-requires
 serve_row-requires g c = record {
   inside = subst (λ (o : Option g.row.D.Denot). IsInsideOne (option_map g.D.Disk.state o) c.args.size c.args.piece.now)
-  (disk_at c.args.piece.now.base c.args.rows.now c.in-Some.i c.index-rows-i.result (sym c.place.ensures ∙ c.in-Some.is)) c.requires.inside;
+      (disk_at c.args.piece.now.base c.args.rows.now c.in-Some.i c.index-rows-i.result (sym c.place.ensures ∙ c.in-Some.is)) c.requires.inside;
 }
 
 pub returns-clause-does : goal.returns-clause-does
