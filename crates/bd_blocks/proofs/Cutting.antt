@@ -1,12 +1,12 @@
 -- Where a range is cut: its first piece, and the rest.
-use Rattle.std.proofs.Common.{◌≡◌, ℕ, zero, suc, ◌+◌, ◌-◌, ◌<◌, ◌≤◌, inl, inr, min, List, [], ◌∷◌, ◌++◌, length, refl, ap, ap₂, sym, subst, ◌∙◌, arith, Bool, true, false, not, ◌||◌, ◌==◌, cond, filter, Option, Some, None}
+use Rattle.std.proofs.Common.{◌≡◌, ℕ, zero, suc, ◌+◌, ◌-◌, ◌<◌, ◌≤◌, inl, inr, List, [], ◌∷◌, ◌++◌, length, refl, ap, ap₂, sym, ◌∙◌, arith, Bool, true, false, not, ◌||◌, ◌==◌, cond, filter, Option, Some, None}
 use Rattle.std.specs.List.{list_any, range_with_len}
 use Rattle.std.proofs.lemmas.Bool.{and_from, cases_lt, eq-eqb}
 use Rattle.std.proofs.lemmas.List.Elements.{filter-append}
 use Rattle.bd_base.specs.declared.id.DevId.{DevId}
 use Rattle.bd_base.specs.declared.setup.Setup.{Setup}
 use Rattle.bd_machine.specs.declared.state.Extent.{Extent}
-use Rattle.bd_machine.specs.BlockMap.{Block, at, boundary_of, follows, last_of, path, path_within, row_of, shift_of_row, stands_on, under}
+use Rattle.bd_machine.specs.BlockMap.{at, boundary_of, follows, last_of, path, path_within, row_of, shift_of_row, stands_on, under}
 use Rattle.bd_machine.specs.Pieces.{cuts, extents, extents_between, is_boundary, is_cut_at}
 use Rattle.bd_blocks.specs.Cuts.{IsClear, extents_left, is_multiple}
 use Rattle.bd_blocks.proofs.Runs.{both_clear, clear_same}

@@ -2,9 +2,8 @@ pub mod Left
 pub mod Moving
 pub mod Cutting
 pub mod Starting
-pub mod Spliced
-pub mod FirstByte
-pub mod Joined
+pub mod Kept
+pub mod Filled
 pub mod Places
 pub mod Runs
 pub mod Bits

@@ -1,8 +1,7 @@
--- Bases found one after another, and many of the same.
-use Rattle.std.proofs.Common.{◌≡◌, ℕ, suc, ◌+◌, ◌-◌, ◌<◌, Bool, true, false, cond, List, ◌∷◌, ◌++◌, Option, Some, None, filter, map, replicate, refl, sym, ◌∙◌, ap, arith}
+-- Bases found one after another.
+use Rattle.std.proofs.Common.{◌≡◌, ℕ, Bool, true, false, cond, List, ◌∷◌, ◌++◌, Option, Some, None, filter, map, refl, sym, ◌∙◌, ap}
 use Rattle.std.specs.List.{cons_option}
 use Rattle.std.specs.Prelude.{option_to_list}
-use Rattle.bd_base.specs.declared.id.DevId.{DevId}
 use Rattle.bd_base.specs.declared.setup.Setup.{Setup}
 use Rattle.bd_machine.specs.declared.state.Registry.{Registry}
 use Rattle.bd_machine.specs.Limits.{is_limited}
@@ -12,9 +11,6 @@ use Rattle.bd_machine.specs.Users.{dev_of}
 pub next_base : {X : Type 0} (o : Option X) (xs : List X) → cons_option o xs ≡ option_to_list o ++ xs
 next_base None xs = refl
 next_base (Some x) xs = refl
-
-pub zeros_next : {X : Type 0} (i n : ℕ) (x : X) → i < n → replicate (n - i) x ≡ x ∷ replicate (n - (i + 1)) x
-zeros_next i n x h = let e : n - i ≡ suc (n - (i + 1)) = omega arith in ap (λ (k : ℕ). replicate k x) e
 
 -- ---- channels of limited devices
 

@@ -1,34 +1,20 @@
 //! The digest of a device's content, which its end shows.
 ghost use Rattle.std.specs.Prelude.{◌≡◌, find, option_copied, cond, is_none};
-ghost use Rattle.std.specs.List.{concat};
-ghost use Rattle.sha2.specs.Sha256.{sha256};
 ghost use Rattle.bd_machine.specs.BlockMap.{is_malloc};
 ghost use Rattle.bd_machine.specs.Homes.{is_base, is_digest_at, is_digest_of};
 ghost use Rattle.bd_blocks.specs.Digests.{digest_at, digest_due};
 
 use crate::bases::find_base;
-use bd_base::{Bytes, DevId, Setup};
+use bd_base::{DevId, Setup};
 use bd_machine::{Base, Content};
 use bd_stack::is_malloc;
-use sha2::{Digest, Sha256};
-
-/// The SHA-256 of all blocks in order.
-pub fn digest_blocks(rows: &[Bytes]) -> [u8; 32]
-    ensures { result ≡ sha256 (concat rows.now) }
-{
-    let mut hasher = Sha256::new();
-    for block in rows {
-        hasher.update(block.as_slice());
-    }
-    hasher.finalize()
-}
 
 // The digest of a base's blocks.
 fn digest_at(base: Option<&Base>) -> Option<[u8; 32]>
     ensures { result ≡ digest_at (option_copied base.entry) }
 {
     match &base?.content {
-        Content::Blocks(rows) => Some(digest_blocks(rows.as_slice())),
+        Content::Blocks(blocks) => Some(blocks.digest()),
         Content::Zeros | Content::Untold => None,
     }
 }
@@ -56,8 +42,8 @@ fn is_digest_of(content: &Content, digest: &[u8; 32]) -> bool
     ensures { result ≡ is_digest_of content.now digest.now }
 {
     match content {
-        Content::Blocks(rows) => {
-            let found = digest_blocks(rows.as_slice());
+        Content::Blocks(blocks) => {
+            let found = blocks.digest();
             digest.as_slice() == found.as_slice()
         }
         Content::Zeros | Content::Untold => false,

@@ -20,7 +20,7 @@ pub use bd_stack::{
     stands_on, users,
 };
 pub use channels::{get_channel, references, set_count};
-pub use digest::{digest_blocks, digest_due, is_digest_due};
+pub use digest::{digest_due, is_digest_due};
 pub use limits::{bytes_in_slice, counts_way, is_limited, one_quota, rates_of, requests_in_slice};
 pub use pieces::{copy_of_piece, extents, new_piece};
 pub use registry::registry_at_start;

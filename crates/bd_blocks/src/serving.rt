@@ -1,5 +1,5 @@
 //! A base serves its first piece.
-ghost use Rattle.std.specs.Prelude.{◌≡◌, IfOk, OnOk, Some, find};
+ghost use Rattle.std.specs.Prelude.{◌≡◌, IfOk, OnOk, OnErr, Some, find};
 ghost use Rattle.std.specs.Option.{option_map};
 ghost use Rattle.bd_machine.specs.Homes.{applied, is_base, served};
 ghost use Rattle.bd_machine.specs.Table.{change_first};
@@ -37,6 +37,7 @@ fn serve_first(
 ) -> Result<OpenPiece, OutOfMemory>
     ensures base { OnOk result (base.new ≡ applied end p.now base.old) }
     ensures piece { IfOk result (λ q. q ≡ served end size p.now base.old) }
+    ensures err { OnErr result (base.new ≡ base.old) }
 {
     let read = read_by(alloc, end, size, &base.content, p)?;
     change_by(alloc, end, &mut base.content, p)?;
@@ -48,7 +49,7 @@ fn serve_first(
 
 /// The base of the device, with blocks of `size` bytes, serves a piece that ends so: its content is
 /// changed in place, and its queue loses its first. The piece as it is then; none, and nothing
-/// changes, where the device isn't among the bases. Out of memory leaves the base unspecified.
+/// changes, where the device isn't among the bases. Out of memory, all bases are as they were.
 pub fn serve(
     alloc: Global,
     bases: &mut Rows<Base>,
@@ -59,6 +60,7 @@ pub fn serve(
 ) -> Result<Option<OpenPiece>, OutOfMemory>
     ensures bases { OnOk result (bases.new ≡ change_first (is_base dev) (applied end p.now) bases.old) }
     ensures piece { IfOk result (λ q. q ≡ option_map (served end size p.now) (find (is_base dev) bases.old)) }
+    ensures err { OnErr result (bases.new ≡ bases.old) }
 {
     let Some(place) = base_place(bases.as_slice(), dev) else {
         return Ok(None);

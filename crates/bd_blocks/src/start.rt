@@ -2,29 +2,16 @@
 ghost use Rattle.std.specs.Prelude.{◌≡◌, ◌&&◌, ◌==◌, ◌++◌, [], map, option_to_list, IfOk, OnOk};
 ghost use Rattle.bd_machine.specs.BlockMap.{home, is_base_kind, row_of};
 ghost use Rattle.bd_machine.specs.Content.{content_at_start};
-ghost use Rattle.bd_machine.specs.Effect.{zero_blocks};
 ghost use Rattle.bd_machine.specs.Limits.{is_limited};
 ghost use Rattle.bd_machine.specs.Start.{base_if_here, bases_at_start, limited_at_start, limited_devices, part_at_start};
 ghost use Rattle.bd_machine.specs.View.{blank_part};
 
 use crate::limits::{is_limited, one_quota, rates_of};
-use bd_base::{Bytes, DevId, DevRow, Kind, OutOfMemory, Rows, Setup};
+use bd_base::{DevId, DevRow, Kind, OutOfMemory, Rows, Setup};
 use bd_machine::{Base, Content, Limited, Moments, Part};
+use bd_pages::Blocks;
 use bd_stack::{home, row_of};
 use std::alloc::Global;
-
-// N blocks of zeros.
-#[tactic(auto, using(crate::proofs::Starting::zeros_next))]
-fn zero_blocks(alloc: Global, size: u32, n: u64) -> Result<Rows<Bytes>, OutOfMemory>
-    ensures { IfOk result (λ bs. bs ≡ zero_blocks size n) }
-{
-    let mut blocks = Rows::new(alloc);
-    for i in 0..n {
-        let block = Bytes::zeros(alloc, size as usize)?;
-        blocks.push(block)?;
-    }
-    Ok(blocks)
-}
 
 // A malloc device has zeros, a null device always, and of a disk nothing is told.
 fn content_at_start(alloc: Global, dev: DevId, row: &DevRow) -> Result<Content, OutOfMemory>
@@ -32,7 +19,7 @@ fn content_at_start(alloc: Global, dev: DevId, row: &DevRow) -> Result<Content, 
 {
     match row.kind {
         Kind::Malloc => {
-            let blocks = zero_blocks(alloc, row.size, row.blocks)?;
+            let blocks = Blocks::zeros(alloc, row.blocks, row.size)?;
             Ok(Content::Blocks(blocks))
         }
         Kind::Null => Ok(Content::Zeros),

@@ -101,7 +101,7 @@ impl Duplicate for Content {
     fn duplicate(&self, alloc: Global) -> Result<Content, OutOfMemory> {
         match self {
             Content::Blocks(blocks) => {
-                let blocks = duplicate_rows(alloc, blocks)?;
+                let blocks = blocks.copy(alloc)?;
                 Ok(Content::Blocks(blocks))
             }
             Content::Zeros => Ok(Content::Zeros),

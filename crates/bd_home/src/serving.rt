@@ -1,5 +1,5 @@
 //! Which piece waits first at a base device, and its serving; which waits last, and its leaving.
-ghost use Rattle.std.specs.Prelude.{◌≡◌, IfOk, OnOk, Some, find, true};
+ghost use Rattle.std.specs.Prelude.{◌≡◌, IfOk, OnOk, OnErr, Some, find, true};
 ghost use Rattle.std.specs.Option.{option_map};
 ghost use Rattle.bd_base.specs.declared.act.ApplyEnd.TheVariants as ends;
 ghost use Rattle.bd_machine.specs.Homes.{applied, is_base, served, without_last};
@@ -7,9 +7,10 @@ ghost use Rattle.bd_machine.specs.Table.{change_first};
 ghost use Rattle.bd_home.specs.Fitting.{fits, is_inside};
 ghost use Rattle.bd_home.specs.Serving.{can_serve, first_at, first_of, last_at, last_of};
 
-use bd_base::{ApplyEnd, Bytes, DevId, OutOfMemory, ReqId, Rows};
+use bd_base::{ApplyEnd, DevId, OutOfMemory, ReqId, Rows};
 use bd_blocks::{base_place, find_base};
 use bd_machine::{Base, Content, OpenPiece};
+use bd_pages::Blocks;
 use std::alloc::Global;
 use std::mem::replace;
 
@@ -72,11 +73,10 @@ pub fn drop_last(alloc: Global, bases: &mut Rows<Base>, dev: DevId)
 const PAST: u128 = 18_446_744_073_709_551_616;
 
 // Whether the blocks of a piece are among these, and their numbers are numbers of 64 bits.
-fn is_inside(rows: &[Bytes], p: &OpenPiece) -> bool
-    ensures { result ≡ is_inside p.now rows.now }
+fn is_inside(blocks: &Blocks, p: &OpenPiece) -> bool
+    ensures { result ≡ is_inside p.now blocks.now }
 {
-    p.lba as u128 + p.count as u128 <= rows.len() as u128
-        && (p.first as u128 + p.count as u128) < PAST
+    blocks.has(p.lba, p.count) && p.first.checked_add(p.count).is_some()
 }
 
 // Whether the piece can be served from the content.
@@ -84,7 +84,7 @@ fn fits(content: &Content, size: u32, p: &OpenPiece) -> bool
     ensures { result ≡ fits size content.now p.now }
 {
     match content {
-        Content::Blocks(rows) => is_inside(rows.as_slice(), p),
+        Content::Blocks(blocks) => is_inside(blocks, p),
         Content::Zeros => (p.count as u128 * size as u128) < PAST,
         Content::Untold => false,
     }
@@ -104,7 +104,7 @@ pub fn can_serve(bases: &[Base], size: u32, dev: DevId, p: &OpenPiece) -> bool
 
 /// Serves the piece that waits first at the device, and gives the piece as it is then: its content
 /// is changed in place, the piece is out of the queue, and its end is Done with the bytes that it
-/// read. Out of memory, the base is unspecified.
+/// read. Out of memory, all bases are as they were.
 pub fn serve(
     alloc: Global,
     bases: &mut Rows<Base>,
@@ -115,6 +115,7 @@ pub fn serve(
     requires { can_serve size dev (find (is_base dev) bases.old) p.now ≡ true }
     ensures bases { OnOk result (bases.new ≡ change_first (is_base dev) (applied ends.Done p.now) bases.old) }
     ensures piece { IfOk result (λ q. option_map (served ends.Done size p.now) (find (is_base dev) bases.old) ≡ Some q) }
+    ensures err { OnErr result (bases.new ≡ bases.old) }
 {
     let Some(piece) = bd_blocks::serve(alloc, bases, size, dev, ApplyEnd::Done, p)? else {
         unreachable!()

@@ -1,2 +1,3 @@
+pub mod FirstStamp
 pub mod Log
 pub mod Merge

@@ -1,6 +1,7 @@
 //! What a log handed out.
 ghost use Rattle.std.specs.Prelude.{◌≡◌, ◌∷◌, [], length, MatchOption};
-ghost use Rattle.bd_log.specs.Merge.{IsPart, head_before, is_before};
+ghost use Rattle.bd_log.specs.FirstStamp.{first_stamp};
+ghost use Rattle.bd_log.specs.Merge.{IsPart, head_before};
 
 use bd_base::{Entry, ThreadId};
 use std::collections::VecDeque;
@@ -10,17 +11,20 @@ use std::marker::Model;
 #[derive(Debug, Drop)]
 pub struct LogPart {
     thread: u32,
+    // That of the first entry, beside the thread, where the search for the least of all finds it.
+    first_stamp: Option<u128>,
     entries: VecDeque<Entry>,
 }
 
 impl Model for LogPart {
-    ghost use Rattle.bd_log.specs.Merge.{Part, IsPart};
+    ghost use Rattle.bd_log.specs.FirstStamp.{IsKeptPart};
+    ghost use Rattle.bd_log.specs.Merge.{Part};
 
     ghost Value = { Part };
 
     ghost view = { λ p. record { thread = p.thread; entries = p.entries.items } };
 
-    ghost invariant = { λ p. IsPart (record { thread = p.thread; entries = p.entries.items }) };
+    ghost invariant = { λ p. IsKeptPart p.first_stamp (record { thread = p.thread; entries = p.entries.items }) };
 }
 
 impl LogPart {
@@ -29,9 +33,11 @@ impl LogPart {
         requires { IsPart (record { thread = thread; entries = entries.items }) }
         ensures { result ≡ record { thread = thread; entries = entries.items } }
     {
+        let entries = VecDeque::from(entries);
         LogPart {
             thread,
-            entries: VecDeque::from(entries),
+            first_stamp: first_stamp(&entries),
+            entries,
         }
     }
 
@@ -54,10 +60,12 @@ impl LogPart {
         ensures before { result ≡ head_before self.now.entries other.now.entries }
         ensures part { IsPart self.now }
     {
-        match (self.entries.front(), other.entries.front()) {
+        match (self.first_stamp, other.first_stamp) {
             (None, _) => false,
             (Some(_), None) => true,
-            (Some(first), Some(second)) => comes_before(first, second),
+            (Some(first), Some(second)) => {
+                first < second || (first == second && self.thread < other.thread)
+            }
         }
     }
 
@@ -66,13 +74,18 @@ impl LogPart {
         ensures thread { self.new.thread ≡ self.old.thread }
         ensures entry { MatchOption result ((self.old.entries ≡ []) × (self.new ≡ self.old)) (λ x. self.old.entries ≡ x ∷ self.new.entries) }
     {
-        self.entries.pop_front()
+        let entry = self.entries.pop_front();
+        self.first_stamp = first_stamp(&self.entries);
+        entry
     }
 }
 
-// By stamp, and by thread where the stamps are the same.
-fn comes_before(a: &Entry, b: &Entry) -> bool
-    ensures { result ≡ is_before a.now b.now }
+// The stamp of the first entry, if there is one.
+fn first_stamp(entries: &VecDeque<Entry>) -> Option<u128>
+    ensures { result ≡ first_stamp entries.now.items }
 {
-    a.stamp < b.stamp || (a.stamp == b.stamp && a.thread < b.thread)
+    match entries.front() {
+        Some(entry) => Some(entry.stamp),
+        None => None,
+    }
 }

@@ -2,113 +2,267 @@
 use crate::setups::one_device;
 use bd_answers::answer_to;
 use bd_base::{
-    Answer, ClaimKind, DevId, Dropped, Errno, HandleId, Name, OutOfMemory, RegEvent, ReqId, Setup,
+    Answer, ClaimKind, DevId, Dropped, HandleId, Name, OutOfMemory, RegEvent, ReqId, Setup,
 };
 use bd_blocks::registry_at_start;
 use bd_changes::register;
 use bd_machine::Registry;
 use bd_view::handle_of;
 use std::alloc::Global;
+use std::process::Abort;
 use std::test::Fail;
 
 const DEV: DevId = DevId(0);
 
+// What is asked of the registry, of the one device or of a handle.
+#[derive(Clone, Copy, Debug)]
+enum Ask {
+    // Whether for writing.
+    Open(bool),
+    Close(u128),
+    Claim(u128, ClaimKind),
+    Get,
+    Put,
+    Drop,
+    BeginReset,
+    EndReset,
+    FinishReset,
+    Remove,
+    Destructed,
+}
+
+/// What an answer says: of a get whether the channel is new, of a put how many references are left, of a reset's
+/// end whether another begins, of a refusal its number.
+#[derive(Clone, Copy, Debug, PartialEq, Eq)]
+pub(crate) enum Said {
+    Opened,
+    Closed,
+    Claimed,
+    Got(bool),
+    Left(u128),
+    Dropped(Dropped),
+    Removing,
+    Started,
+    Queued,
+    Ended,
+    Finished(bool),
+    Freed,
+    Injected,
+    Refused(u32),
+}
+
+/// What an answer says, in short.
+pub(crate) fn in_short(answer: &Answer) -> Said {
+    match answer {
+        Answer::Opened { .. } => Said::Opened,
+        Answer::Closed { .. } => Said::Closed,
+        Answer::Claimed => Said::Claimed,
+        Answer::Got { fresh, .. } => Said::Got(*fresh),
+        Answer::PutDown { left } => Said::Left(*left),
+        Answer::Dropped { what, .. } => Said::Dropped(*what),
+        Answer::Removing { .. } => Said::Removing,
+        Answer::ResetStarted { .. } => Said::Started,
+        Answer::ResetQueued => Said::Queued,
+        Answer::ResetEnded { .. } => Said::Ended,
+        Answer::ResetFinished { next } => Said::Finished(next.is_some()),
+        Answer::Injected { .. } => Said::Injected,
+        Answer::Freed { .. } => Said::Freed,
+        Answer::Refused(errno) => Said::Refused(errno.number()),
+    }
+}
+
+fn name(alloc: Global) -> Result<Name, OutOfMemory> {
+    Name::from_slice(alloc, b"Malloc0")
+}
+
+fn event(alloc: Global, ask: Ask) -> Result<RegEvent, OutOfMemory> {
+    Ok(match ask {
+        Ask::Open(write) => RegEvent::Open {
+            name: name(alloc)?,
+            write,
+        },
+        Ask::Close(handle) => RegEvent::Close {
+            handle: HandleId(handle),
+        },
+        Ask::Claim(handle, kind) => RegEvent::Claim {
+            handle: HandleId(handle),
+            kind,
+        },
+        Ask::Get => RegEvent::GetChannel { dev: DEV },
+        Ask::Put => RegEvent::PutChannel {
+            dev: DEV,
+            closing: false,
+        },
+        Ask::Drop => RegEvent::DropChannel { dev: DEV },
+        Ask::BeginReset => RegEvent::BeginReset {
+            dev: DEV,
+            req: ReqId { thread: 0, seq: 5 },
+        },
+        Ask::EndReset => RegEvent::EndReset { dev: DEV },
+        Ask::FinishReset => RegEvent::FinishReset { dev: DEV },
+        Ask::Remove => RegEvent::BeginRemove { name: name(alloc)? },
+        Ask::Destructed => RegEvent::Destructed { dev: DEV },
+    })
+}
+
 // The answer to an event of a thread, which the registry then has taken.
-fn ask(
+fn answer(
     alloc: Global,
     setup: &Setup,
     registry: &mut Registry,
     thread: u32,
     event: &RegEvent,
-) -> Result<Answer, OutOfMemory> {
+) -> Result<Said, OutOfMemory> {
     let answer = answer_to(alloc, setup, registry, thread, event)?;
     register(alloc, setup, registry, thread, event, &answer)?;
-    Ok(answer)
+    Ok(in_short(&answer))
 }
 
-fn open(
+fn told_to(
     alloc: Global,
     setup: &Setup,
     registry: &mut Registry,
-    write: bool,
-) -> Result<Answer, OutOfMemory> {
-    let name = Name::from_slice(alloc, b"Malloc0")?;
-    ask(alloc, setup, registry, 0, &RegEvent::Open { name, write })
+    thread: u32,
+    what: Ask,
+) -> Result<Said, OutOfMemory> {
+    let event = event(alloc, what)?;
+    answer(alloc, setup, registry, thread, &event)
 }
 
-fn claim(
+// A thread, what it asks, and what it is told.
+type Row = (u32, Ask, Said);
+
+fn are_told(
+    rt: &impl Abort,
     alloc: Global,
     setup: &Setup,
     registry: &mut Registry,
-    handle: u128,
-    kind: ClaimKind,
-) -> Result<Answer, OutOfMemory> {
-    let handle = HandleId(handle);
-    ask(alloc, setup, registry, 0, &RegEvent::Claim { handle, kind })
+    rows: &[Row],
+) -> Result<(), OutOfMemory> {
+    for row in rows {
+        let (thread, what, expected) = *row;
+        let told = told_to(alloc, setup, registry, thread, what)?;
+        assert!(rt; told == expected, "{thread} {what:?}: {told:?}");
+    }
+    Ok(())
 }
 
-// Handles 0, 1 and 2, where handle 0 is a writing one or not and the others read.
-fn three_handles(alloc: Global, setup: &Setup, write: bool) -> Result<Registry, OutOfMemory> {
+// These are told, from the start of a registry on.
+fn begin_told(
+    rt: &impl Abort,
+    alloc: Global,
+    setup: &Setup,
+    rows: &[Row],
+) -> Result<(), OutOfMemory> {
     let mut registry = registry_at_start(alloc, setup)?;
-    open(alloc, setup, &mut registry, write)?;
-    open(alloc, setup, &mut registry, false)?;
-    open(alloc, setup, &mut registry, false)?;
-    Ok(registry)
+    are_told(rt, alloc, setup, &mut registry, rows)
 }
 
-fn is_refused(answer: &Answer, errno: Errno) -> bool {
-    match answer {
-        Answer::Refused(e) => e.number() == errno.number(),
-        _ => false,
+// ---- claims
+
+// Handles 0, 1 and 2, where handle 0 is a writing one or not and the others read; then handle 1 claims, if at
+// all, and then handle 2: how the second claim is answered.
+fn claimed_after(
+    alloc: Global,
+    setup: &Setup,
+    registry: &mut Registry,
+    (write, first): (bool, Option<ClaimKind>),
+    second: ClaimKind,
+) -> Result<Said, OutOfMemory> {
+    for write in [write, false, false] {
+        told_to(alloc, setup, registry, 0, Ask::Open(write))?;
     }
-}
-
-// Whether the second claim is answered so: claimed, or refused since another forbids it.
-fn is_answered(answer: &Answer, allowed: bool) -> bool {
-    if allowed {
-        matches!(answer, Answer::Claimed)
-    } else {
-        is_refused(answer, Errno::Perm)
+    if let Some(kind) = first {
+        told_to(alloc, setup, registry, 0, Ask::Claim(1, kind))?;
     }
+    told_to(alloc, setup, registry, 0, Ask::Claim(2, second))
 }
 
-// Handle 1 claims, if at all, and then handle 2: how the second claim is answered.
 fn second_claim(
     alloc: Global,
     setup: &Setup,
-    write: bool,
-    first: Option<ClaimKind>,
+    before: (bool, Option<ClaimKind>),
     second: ClaimKind,
-) -> Result<Answer, OutOfMemory> {
-    let mut registry = three_handles(alloc, setup, write)?;
-    if let Some(kind) = first {
-        claim(alloc, setup, &mut registry, 1, kind)?;
-    }
-    claim(alloc, setup, &mut registry, 2, second)
+) -> Result<Said, OutOfMemory> {
+    let mut registry = registry_at_start(alloc, setup)?;
+    claimed_after(alloc, setup, &mut registry, before, second)
 }
 
-// Which second claim is allowed beside the first, as the claim rules say for each pair.
+// The kinds of a second claim.
+const SECONDS: [ClaimKind; 5] = [
+    ClaimKind::Exclusive,
+    ClaimKind::WriteOne,
+    ClaimKind::WriteNone,
+    ClaimKind::Shared(7),
+    ClaimKind::Shared(8),
+];
+
+// Whether handle 0 writes, the first claim, and which second claim is allowed beside it, as the claim rules say for
+// each pair.
+const PAIRS: [(bool, Option<ClaimKind>, [bool; 5]); 8] = [
+    (false, None, [true, true, true, true, true]),
+    (
+        false,
+        Some(ClaimKind::Exclusive),
+        [false, false, false, false, false],
+    ),
+    (
+        false,
+        Some(ClaimKind::WriteOne),
+        [false, false, false, false, false],
+    ),
+    (
+        false,
+        Some(ClaimKind::WriteNone),
+        [false, false, true, false, false],
+    ),
+    (
+        false,
+        Some(ClaimKind::Shared(7)),
+        [false, false, false, true, false],
+    ),
+    (
+        false,
+        Some(ClaimKind::Shared(8)),
+        [false, false, false, false, true],
+    ),
+    (true, None, [true, false, false, false, false]),
+    (
+        true,
+        Some(ClaimKind::Exclusive),
+        [false, false, false, false, false],
+    ),
+];
+
+fn is_paired(
+    rt: &impl Abort,
+    alloc: Global,
+    setup: &Setup,
+    (write, first, allowed): (bool, Option<ClaimKind>, [bool; 5]),
+) -> Result<(), OutOfMemory> {
+    for (second, allowed) in SECONDS.iter().zip(&allowed) {
+        let told = second_claim(alloc, setup, (write, first), *second)?;
+        let expected = if *allowed {
+            Said::Claimed
+        } else {
+            Said::Refused(1)
+        };
+        assert!(rt; told == expected, "{first:?}, {second:?}: {told:?}");
+    }
+    Ok(())
+}
+
+fn are_paired(rt: &impl Abort, alloc: Global, setup: &Setup) -> Result<(), OutOfMemory> {
+    for row in &PAIRS {
+        is_paired(rt, alloc, setup, *row)?;
+    }
+    Ok(())
+}
+
 #[test]
 fn every_pair_of_kinds(rt: HostRuntime) -> Result<(), Fail> {
-    use ClaimKind::{Exclusive, Shared, WriteNone, WriteOne};
-    let setup = one_device(rt.alloc(), 3, None)?;
-    let seconds = [Exclusive, WriteOne, WriteNone, Shared(7), Shared(8)];
-    for row in &[
-        (false, None, [true, true, true, true, true]),
-        (false, Some(Exclusive), [false, false, false, false, false]),
-        (false, Some(WriteOne), [false, false, false, false, false]),
-        (false, Some(WriteNone), [false, false, true, false, false]),
-        (false, Some(Shared(7)), [false, false, false, true, false]),
-        (false, Some(Shared(8)), [false, false, false, false, true]),
-        (true, None, [true, false, false, false, false]),
-        (true, Some(Exclusive), [false, false, false, false, false]),
-    ] {
-        let (write, first, allowed) = *row;
-        for (i, second) in seconds.iter().enumerate() {
-            let answer = second_claim(rt.alloc(), &setup, write, first, *second)?;
-            assert!(rt; is_answered(&answer, allowed[i]), "{first:?}, {second:?}");
-        }
-    }
+    let setup = one_device(rt.alloc(), 3, &[])?;
+    are_paired(&rt, rt.alloc(), &setup)?;
     Ok(())
 }
 
@@ -120,190 +274,116 @@ fn writes(registry: &Registry, handle: u128) -> bool {
     }
 }
 
-// Whether handle 1's claim makes it a writing one, or leaves it so; an open for writing and a second
-// claim are refused then, and after its close the open is allowed.
-fn is_held(
+// Handle 1's claim makes it a writing one, or leaves it so; an open for writing and a second claim are refused
+// then, and after its close the open is allowed.
+fn holds(
+    rt: &impl Abort,
     alloc: Global,
     setup: &Setup,
-    kind: ClaimKind,
-    writing: bool,
-) -> Result<bool, OutOfMemory> {
-    let mut registry = three_handles(alloc, setup, false)?;
-    claim(alloc, setup, &mut registry, 1, kind)?;
-    let made = writes(&registry, 1) == writing;
-    let write = open(alloc, setup, &mut registry, true)?;
-    let second = claim(alloc, setup, &mut registry, 1, kind)?;
-    let without_key = claim(alloc, setup, &mut registry, 1, ClaimKind::Shared(0))?;
-    let handle = HandleId(1);
-    ask(alloc, setup, &mut registry, 0, &RegEvent::Close { handle })?;
-    let freed = open(alloc, setup, &mut registry, true)?;
-    let refused = is_refused(&write, Errno::Perm)
-        && is_refused(&second, Errno::Perm)
-        && is_refused(&without_key, Errno::Inval);
-    Ok(made && refused && matches!(freed, Answer::Opened { .. }))
+    registry: &mut Registry,
+    (kind, writing): (ClaimKind, bool),
+) -> Result<(), OutOfMemory> {
+    let before = [
+        (0, Ask::Open(false), Said::Opened),
+        (0, Ask::Open(false), Said::Opened),
+        (0, Ask::Open(false), Said::Opened),
+        (0, Ask::Claim(1, kind), Said::Claimed),
+    ];
+    are_told(rt, alloc, setup, registry, &before)?;
+    assert!(rt; writes(registry, 1) == writing, "{kind:?}");
+    let after = [
+        (0, Ask::Open(true), Said::Refused(1)),
+        (0, Ask::Claim(1, kind), Said::Refused(1)),
+        (0, Ask::Claim(1, ClaimKind::Shared(0)), Said::Refused(22)),
+        (0, Ask::Close(1), Said::Closed),
+        (0, Ask::Open(true), Said::Opened),
+    ];
+    are_told(rt, alloc, setup, registry, &after)
 }
 
-#[test]
-fn what_a_claim_does_and_a_close_frees(rt: HostRuntime) -> Result<(), Fail> {
-    let setup = one_device(rt.alloc(), 3, None)?;
+fn is_held(
+    rt: &impl Abort,
+    alloc: Global,
+    setup: &Setup,
+    row: (ClaimKind, bool),
+) -> Result<(), OutOfMemory> {
+    let mut registry = registry_at_start(alloc, setup)?;
+    holds(rt, alloc, setup, &mut registry, row)
+}
+
+fn are_held(rt: &impl Abort, alloc: Global, setup: &Setup) -> Result<(), OutOfMemory> {
     for row in &[
         (ClaimKind::Exclusive, true),
         (ClaimKind::WriteOne, true),
         (ClaimKind::WriteNone, false),
         (ClaimKind::Shared(9), true),
     ] {
-        let (kind, writing) = *row;
-        let held = is_held(rt.alloc(), &setup, kind, writing)?;
-        assert!(rt; held, "{kind:?}");
+        is_held(rt, alloc, setup, *row)?;
     }
     Ok(())
 }
 
-// What an answer about a channel says: got anew or again, the references left, or what a drop did.
-#[derive(Clone, Copy, Debug, PartialEq, Eq)]
-pub(crate) enum Said {
-    Got(bool),
-    Left(u128),
-    Dropped(Dropped),
-    Other,
+#[test]
+fn what_a_claim_does_and_a_close_frees(rt: HostRuntime) -> Result<(), Fail> {
+    let setup = one_device(rt.alloc(), 3, &[])?;
+    are_held(&rt, rt.alloc(), &setup)?;
+    Ok(())
 }
 
-pub(crate) fn words_of(answer: &Answer) -> Said {
-    match answer {
-        Answer::Got { fresh, .. } => Said::Got(*fresh),
-        Answer::PutDown { left } => Said::Left(*left),
-        Answer::Dropped { what, .. } => Said::Dropped(*what),
-        _ => Said::Other,
-    }
-}
+// ---- channels, resets and removals
 
-// A get (+), a put (-) or a drop of the device's channel.
-fn event_of(sign: u8) -> RegEvent {
-    match sign {
-        b'+' => RegEvent::GetChannel { dev: DEV },
-        b'-' => RegEvent::PutChannel {
-            dev: DEV,
-            closing: false,
-        },
-        _ => RegEvent::DropChannel { dev: DEV },
-    }
-}
-
-fn said_to(
-    alloc: Global,
-    setup: &Setup,
-    registry: &mut Registry,
-    thread: u32,
-    sign: u8,
-) -> Result<Said, OutOfMemory> {
-    let answer = ask(alloc, setup, registry, thread, &event_of(sign))?;
-    Ok(words_of(&answer))
-}
+const CHANNELS: [Row; 13] = [
+    (2, Ask::Get, Said::Got(true)),
+    (2, Ask::Get, Said::Got(false)),
+    (2, Ask::Put, Said::Left(1)),
+    (2, Ask::Put, Said::Left(0)),
+    (2, Ask::Get, Said::Got(false)),
+    (2, Ask::Drop, Said::Dropped(Dropped::Kept)),
+    (2, Ask::Put, Said::Left(0)),
+    (0, Ask::Get, Said::Got(true)),
+    (2, Ask::Drop, Said::Dropped(Dropped::Gone)),
+    (2, Ask::Drop, Said::Dropped(Dropped::Kept)),
+    (2, Ask::Put, Said::Refused(19)),
+    (0, Ask::Put, Said::Left(0)),
+    (0, Ask::Drop, Said::Dropped(Dropped::Last)),
+];
 
 #[test]
 fn a_channel_lasts_until_it_is_dropped(rt: HostRuntime) -> Result<(), Fail> {
-    let setup = one_device(rt.alloc(), 3, None)?;
-    let mut registry = registry_at_start(rt.alloc(), &setup)?;
-    for row in &[
-        (2, b'+', Said::Got(true)),
-        (2, b'+', Said::Got(false)),
-        (2, b'-', Said::Left(1)),
-        (2, b'-', Said::Left(0)),
-        (2, b'+', Said::Got(false)),
-        (2, b'd', Said::Dropped(Dropped::Kept)),
-        (2, b'-', Said::Left(0)),
-        (0, b'+', Said::Got(true)),
-        (2, b'd', Said::Dropped(Dropped::Gone)),
-        (2, b'd', Said::Dropped(Dropped::Kept)),
-        (2, b'-', Said::Other),
-        (0, b'-', Said::Left(0)),
-        (0, b'd', Said::Dropped(Dropped::Last)),
-    ] {
-        let (thread, sign, expected) = *row;
-        let said = said_to(rt.alloc(), &setup, &mut registry, thread, sign)?;
-        assert!(rt; said == expected, "{thread}");
-    }
+    let setup = one_device(rt.alloc(), 3, &[])?;
+    begin_told(&rt, rt.alloc(), &setup, &CHANNELS)?;
     Ok(())
 }
 
-// An answer about a device, by a letter: started, queued, ended, finished with a next one or none,
-// being removed, destructed, or refused by its number.
-fn letter_of(answer: &Answer) -> (u8, u32) {
-    match answer {
-        Answer::ResetStarted { .. } => (b's', 0),
-        Answer::ResetQueued => (b'q', 0),
-        Answer::ResetEnded { .. } => (b'e', 0),
-        Answer::ResetFinished { next } => { if next.is_some() { (b'n', 0) } else { (b'f', 0) } }
-        Answer::Removing { .. } => (b'r', 0),
-        Answer::Freed { .. } => (b'd', 0),
-        Answer::Refused(errno) => (b'x', errno.number()),
-        _ => (b'?', 0),
-    }
-}
-
-// The beginning, end or finish of a reset, a removal, a get, or the report of a destruction.
-fn event_at(alloc: Global, sign: u8) -> Result<RegEvent, OutOfMemory> {
-    Ok(match sign {
-        b'b' => RegEvent::BeginReset {
-            dev: DEV,
-            req: ReqId { thread: 0, seq: 5 },
-        },
-        b'e' => RegEvent::EndReset { dev: DEV },
-        b'f' => RegEvent::FinishReset { dev: DEV },
-        b'r' => RegEvent::BeginRemove {
-            name: Name::from_slice(alloc, b"Malloc0")?,
-        },
-        b'+' => RegEvent::GetChannel { dev: DEV },
-        _ => RegEvent::Destructed { dev: DEV },
-    })
-}
-
-fn letter_at(
-    alloc: Global,
-    setup: &Setup,
-    registry: &mut Registry,
-    sign: u8,
-) -> Result<(u8, u32), OutOfMemory> {
-    let event = event_at(alloc, sign)?;
-    let answer = ask(alloc, setup, registry, 0, &event)?;
-    Ok(letter_of(&answer))
-}
+const RESETS: [Row; 7] = [
+    (0, Ask::BeginReset, Said::Started),
+    (0, Ask::BeginReset, Said::Queued),
+    (0, Ask::FinishReset, Said::Refused(22)),
+    (0, Ask::EndReset, Said::Ended),
+    (0, Ask::FinishReset, Said::Finished(true)),
+    (0, Ask::EndReset, Said::Ended),
+    (0, Ask::FinishReset, Said::Finished(false)),
+];
 
 #[test]
 fn resets_wait_for_each_other(rt: HostRuntime) -> Result<(), Fail> {
-    let setup = one_device(rt.alloc(), 3, None)?;
-    let mut registry = registry_at_start(rt.alloc(), &setup)?;
-    for row in &[
-        (b'b', (b's', 0)),
-        (b'b', (b'q', 0)),
-        (b'f', (b'x', 22)),
-        (b'e', (b'e', 0)),
-        (b'f', (b'n', 0)),
-        (b'e', (b'e', 0)),
-        (b'f', (b'f', 0)),
-    ] {
-        let (sign, expected) = *row;
-        let letter = letter_at(rt.alloc(), &setup, &mut registry, sign)?;
-        assert!(rt; letter == expected, "{sign}");
-    }
+    let setup = one_device(rt.alloc(), 3, &[])?;
+    begin_told(&rt, rt.alloc(), &setup, &RESETS)?;
     Ok(())
 }
 
+const REMOVED: [Row; 6] = [
+    (0, Ask::Remove, Said::Removing),
+    (0, Ask::Remove, Said::Refused(16)),
+    (0, Ask::Get, Said::Refused(19)),
+    (0, Ask::Destructed, Said::Freed),
+    (0, Ask::Destructed, Said::Refused(22)),
+    (0, Ask::Get, Said::Refused(19)),
+];
+
 #[test]
 fn a_removed_device_is_out_of_reach(rt: HostRuntime) -> Result<(), Fail> {
-    let setup = one_device(rt.alloc(), 3, None)?;
-    let mut registry = registry_at_start(rt.alloc(), &setup)?;
-    for row in &[
-        (b'r', (b'r', 0)),
-        (b'r', (b'x', 16)),
-        (b'+', (b'x', 19)),
-        (b'd', (b'd', 0)),
-        (b'd', (b'x', 22)),
-        (b'+', (b'x', 19)),
-    ] {
-        let (sign, expected) = *row;
-        let letter = letter_at(rt.alloc(), &setup, &mut registry, sign)?;
-        assert!(rt; letter == expected, "{sign}");
-    }
+    let setup = one_device(rt.alloc(), 3, &[])?;
+    begin_told(&rt, rt.alloc(), &setup, &REMOVED)?;
     Ok(())
 }

@@ -1,4 +1,5 @@
 //! A malloc device of four blocks of 8 bytes, by hand. Bytes and digests are by python.
+use crate::setups::{rates_of as limits_of, setup_of};
 use bd_base::{
     ApplyEnd, Decision, DevId, DevRow, Fill, HandleId, Kind, Name, Op, OutOfMemory, Rates, Rows,
     Setup, ThreadSet, Way,
@@ -10,9 +11,11 @@ use bd_blocks::{
     registry_at_start, serve, set_count, size_of, with_thread, without,
 };
 use bd_machine::{
-    Base, Extent, Hold, Injected, Left, OpenPiece, OpenRequest, Progress, Standing, Trip,
+    Base, Extent, Hold, Injected, Left, Limited, OpenPiece, OpenRequest, Progress, Registry,
+    Standing, Trip,
 };
 use std::alloc::Global;
+use std::process::Abort;
 use std::test::Fail;
 
 const NULL: DevId = DevId(0);
@@ -32,11 +35,11 @@ const DIGEST: [u8; 32] = [
     3, 190, 35, 15, 253, 175, 105, 65, 90, 69, 36, 44,
 ];
 
-fn row(alloc: Global, name: &[u8], kind: Kind) -> Result<DevRow, OutOfMemory> {
+fn row(alloc: Global, name: &[u8], kind: Kind, base: Option<DevId>) -> Result<DevRow, OutOfMemory> {
     Ok(DevRow {
         name: Name::from_slice(alloc, name)?,
         kind,
-        base: None,
+        base,
         blocks: 4,
         size: SIZE,
         boundary: 2,
@@ -46,19 +49,17 @@ fn row(alloc: Global, name: &[u8], kind: Kind) -> Result<DevRow, OutOfMemory> {
     })
 }
 
+fn two_rows(alloc: Global) -> Result<Rows<DevRow>, OutOfMemory> {
+    let mut devices = Rows::new(alloc);
+    devices.push(row(alloc, b"Null0", Kind::Null, None)?)?;
+    devices.push(row(alloc, b"Malloc0", Kind::Malloc, None)?)?;
+    Ok(devices)
+}
+
 // Device 0 is null, device 1 malloc; their homes are threads 0 and 1 of two.
 fn setup(alloc: Global) -> Result<Setup, OutOfMemory> {
-    let mut devices = Rows::new(alloc);
-    devices.push(row(alloc, b"Null0", Kind::Null)?)?;
-    devices.push(row(alloc, b"Malloc0", Kind::Malloc)?)?;
-    Ok(Setup {
-        threads: 2,
-        devices,
-        rates: Rows::new(alloc),
-        injections: Rows::new(alloc),
-        waiting: Rows::new(alloc),
-        scripts: Rows::new(alloc),
-    })
+    let devices = two_rows(alloc)?;
+    Ok(setup_of(alloc, 2, devices, Rows::new(alloc)))
 }
 
 fn request(op: Op) -> OpenRequest {
@@ -83,41 +84,63 @@ fn request(op: Op) -> OpenRequest {
     }
 }
 
+fn place_of(alloc: Global, setup: &Setup, text: &[u8]) -> Result<Option<usize>, OutOfMemory> {
+    let name = Name::from_slice(alloc, text)?;
+    Ok(device_named(setup, &name))
+}
+
+fn have_rows_and_homes(rt: &impl Abort, setup: &Setup) {
+    assert_eq!(rt; blocks_of(setup, MALLOC), 4);
+    assert_eq!(rt; size_of(setup, DevId(2)), 0);
+    assert_eq!(rt; boundary_of(setup, NULL), 2);
+    assert_eq!(rt; home(setup, MALLOC), 1);
+    assert!(rt; is_home(setup, 1, MALLOC) && !is_home(setup, 0, DevId(2)));
+    assert!(rt; is_malloc(setup, MALLOC) && !is_malloc(setup, NULL) && !is_aio(setup, NULL));
+}
+
 #[test]
 fn devices_have_rows_and_homes(rt: HostRuntime) -> Result<(), Fail> {
     let setup = setup(rt.alloc())?;
-    let name = Name::from_slice(rt.alloc(), b"Malloc0")?;
-    assert!(rt; device_named(&setup, &name) == Some(1));
-    assert_eq!(rt; blocks_of(&setup, MALLOC), 4);
-    assert_eq!(rt; size_of(&setup, DevId(2)), 0);
-    assert_eq!(rt; boundary_of(&setup, NULL), 2);
-    assert_eq!(rt; home(&setup, MALLOC), 1);
-    assert!(rt; is_home(&setup, 1, MALLOC) && !is_home(&setup, 0, DevId(2)));
-    assert!(rt; is_malloc(&setup, MALLOC) && !is_malloc(&setup, NULL) && !is_aio(&setup, NULL));
+    let place = place_of(rt.alloc(), &setup, b"Malloc0");
+    assert!(rt; place == Ok(Some(1)));
+    have_rows_and_homes(&rt, &setup);
     Ok(())
 }
+
+const CUT: [Extent; 2] = [Extent { first: 1, count: 1 }, Extent { first: 2, count: 2 }];
+
+fn is_cut(alloc: Global, setup: &Setup) -> Result<bool, OutOfMemory> {
+    let found = extents(alloc, setup, MALLOC, 1, 3)?;
+    Ok(found.as_slice() == CUT.as_slice())
+}
+
+fn is_without_turn(op: &Op) -> bool {
+    matches!(
+        op,
+        Op::Write(Fill {
+            seed: 5,
+            flip: false
+        })
+    )
+}
+
+// Whether the second piece of a write is turned no more, and lies where it is cut.
+fn is_second_piece(setup: &Setup) -> Result<bool, OutOfMemory> {
+    let piece = new_piece(setup, request(Op::Write(TURNED)), 1, CUT[1])?;
+    Ok(is_without_turn(&piece.op) && copy_of_piece(&piece)?.lba == 2)
+}
+
+// The pattern of seed 5, with the first byte turned.
+const TURNED: Fill = Fill {
+    seed: 5,
+    flip: true,
+};
 
 #[test]
 fn a_request_is_cut_at_the_boundary(rt: HostRuntime) -> Result<(), Fail> {
     let setup = setup(rt.alloc())?;
-    let found = extents(rt.alloc(), &setup, MALLOC, 1, 3)?;
-    let wanted = [Extent { first: 1, count: 1 }, Extent { first: 2, count: 2 }];
-    assert!(rt; found.as_slice() == wanted.as_slice());
-    let fill = Fill {
-        seed: 5,
-        flip: true,
-    };
-    let piece = new_piece(&setup, request(Op::Write(fill)), 1, wanted[1])?;
-    assert!(rt;
-        matches!(
-            piece.op,
-            Op::Write(Fill {
-                seed: 5,
-                flip: false
-            })
-        )
-    );
-    assert!(rt; copy_of_piece(&piece)?.lba == 2);
+    assert!(rt; is_cut(rt.alloc(), &setup) == Ok(true));
+    assert!(rt; is_second_piece(&setup) == Ok(true));
     Ok(())
 }
 
@@ -147,78 +170,141 @@ fn has_read(piece: &Option<OpenPiece>, bytes: &[u8]) -> bool {
     }
 }
 
-#[test]
-fn a_write_is_read_back(rt: HostRuntime) -> Result<(), Fail> {
-    let alloc = rt.alloc();
-    let setup = setup(alloc)?;
-    let mut bases = part_at_start(alloc, &setup, 1)?.bases;
-    assert!(rt; base_place(bases.as_slice(), MALLOC) == Some(0));
-    assert!(rt; find_base(bases.as_slice(), NULL).is_none());
-    let fill = Fill {
-        seed: 5,
-        flip: true,
-    };
+// Whether a piece of these blocks is served and reads this.
+fn reads(
+    alloc: Global,
+    bases: &mut Rows<Base>,
+    setup: &Setup,
+    (op, extent): (Op, Extent),
+    bytes: &[u8],
+) -> Result<bool, OutOfMemory> {
+    let piece = bytes_of(alloc, bases, setup, op, extent)?;
+    Ok(has_read(&piece, bytes))
+}
+
+fn are_placed(rt: &impl Abort, bases: &[Base]) {
+    assert!(rt; base_place(bases, MALLOC) == Some(0));
+    assert!(rt; find_base(bases, NULL).is_none());
+}
+
+fn have_digests(rt: &impl Abort, setup: &Setup, bases: &[Base]) {
+    assert!(rt; digest_due(setup, bases, MALLOC) == Some(Some(DIGEST)));
+    assert!(rt; is_digest_due(setup, bases, MALLOC, &Some(DIGEST)));
+    assert!(rt; is_digest_due(setup, bases, NULL, &None));
+}
+
+fn are_written_and_read(
+    rt: &impl Abort,
+    alloc: Global,
+    setup: &Setup,
+    bases: &mut Rows<Base>,
+) -> Result<(), OutOfMemory> {
+    are_placed(rt, bases.as_slice());
     let middle = Extent { first: 1, count: 2 };
     let all = Extent { first: 0, count: 9 };
-    let written = bytes_of(alloc, &mut bases, &setup, Op::Write(fill), middle)?;
-    assert!(rt; has_read(&written, &[]));
-    let read = bytes_of(alloc, &mut bases, &setup, Op::Read, all)?;
-    assert!(rt; has_read(&read, &WRITTEN));
-    assert!(rt; digest_due(&setup, bases.as_slice(), MALLOC) == Some(Some(DIGEST)));
-    assert!(rt; is_digest_due(&setup, bases.as_slice(), MALLOC, &Some(DIGEST)));
-    assert!(rt; is_digest_due(&setup, bases.as_slice(), NULL, &None));
+    let written = reads(alloc, bases, setup, (Op::Write(TURNED), middle), &[])?;
+    assert!(rt; written);
+    let read = reads(alloc, bases, setup, (Op::Read, all), &WRITTEN)?;
+    assert!(rt; read);
+    have_digests(rt, setup, bases.as_slice());
     Ok(())
 }
+
+fn bases_are_written(rt: &impl Abort, alloc: Global, setup: &Setup) -> Result<(), OutOfMemory> {
+    let mut part = part_at_start(alloc, setup, 1)?;
+    are_written_and_read(rt, alloc, setup, &mut part.bases)
+}
+
+#[test]
+fn a_write_is_read_back(rt: HostRuntime) -> Result<(), Fail> {
+    let setup = setup(rt.alloc())?;
+    bases_are_written(&rt, rt.alloc(), &setup)?;
+    Ok(())
+}
+
+fn three_rows(alloc: Global) -> Result<Rows<DevRow>, OutOfMemory> {
+    let mut devices = two_rows(alloc)?;
+    devices.push(row(alloc, b"Through0", Kind::Passthru, Some(MALLOC))?)?;
+    Ok(devices)
+}
+
+const LIMIT: Rates = Rates {
+    rw_ios_per_sec: 0,
+    rw_mbytes_per_sec: 0,
+    r_mbytes_per_sec: 3,
+    w_mbytes_per_sec: 0,
+};
+
+// The limits of the three devices.
+const LIMITS: [Rates; 3] = [
+    LIMIT,
+    Rates {
+        rw_ios_per_sec: 4000,
+        ..LIMIT
+    },
+    Rates {
+        rw_ios_per_sec: 1,
+        ..LIMIT
+    },
+];
 
 // A malloc device, limited to 4,000 requests a second, and one that passes through to it; their home
 // is thread 1 of two, since device 1 is the base.
 fn limited_setup(alloc: Global) -> Result<Setup, OutOfMemory> {
-    let mut setup = setup(alloc)?;
-    let mut through = row(alloc, b"Through0", Kind::Passthru)?;
-    through.base = Some(MALLOC);
-    setup.devices.push(through)?;
-    for rw_ios_per_sec in [0, 4000, 1] {
-        setup.rates.push(Rates {
-            rw_ios_per_sec,
-            rw_mbytes_per_sec: 0,
-            r_mbytes_per_sec: 3,
-            w_mbytes_per_sec: 0,
-        })?;
-    }
-    Ok(setup)
+    let rates = limits_of(alloc, &LIMITS)?;
+    let devices = three_rows(alloc)?;
+    Ok(setup_of(alloc, 2, devices, rates))
 }
 
-#[test]
-fn limited_devices_begin_with_a_quota(rt: HostRuntime) -> Result<(), Fail> {
-    let alloc = rt.alloc();
-    let setup = limited_setup(alloc)?;
-    assert!(rt; is_limited(&setup, NULL) && !is_limited(&setup, DevId(3)));
-    let rates = rates_of(&setup, NULL);
+fn are_limited(rt: &impl Abort, setup: &Setup) {
+    assert!(rt; is_limited(setup, NULL) && !is_limited(setup, DevId(3)));
+    let rates = rates_of(setup, NULL);
     assert!(rt; counts_way(Way::Read, rates) && !counts_way(Way::Write, rates));
-    let part = part_at_start(alloc, &setup, 1)?;
-    let limited = part.limited.as_slice();
-    assert!(rt; limited.len() == 2 && limited[0].dev == MALLOC && limited[1].dev == DevId(2));
-    // 4,000 a second are 4 in a millisecond; 3,145,728 bytes a second are 3,145
-    let left = Left {
-        rw_requests: 4,
-        rw_bytes: 0,
-        r_bytes: 3145,
-        w_bytes: 0,
-    };
-    assert!(rt; limited[0].left == left && limited[1].left.rw_requests == 1);
+}
+
+// 4,000 a second are 4 in a millisecond; 3,145,728 bytes a second are 3,145
+const QUOTA: Left = Left {
+    rw_requests: 4,
+    rw_bytes: 0,
+    r_bytes: 3145,
+    w_bytes: 0,
+};
+
+fn are_quotas(rt: &impl Abort, limited: &[Limited]) {
+    match limited {
+        [first, second] => {
+            assert!(rt; first.dev == MALLOC);
+            assert!(rt; first.left == QUOTA);
+            assert!(rt; second.dev == DevId(2));
+            assert!(rt; second.left.rw_requests == 1);
+        }
+        _ => assert!(rt; false),
+    }
+}
+
+fn have_quotas(rt: &impl Abort, alloc: Global, setup: &Setup) -> Result<(), OutOfMemory> {
+    let part = part_at_start(alloc, setup, 1)?;
+    are_quotas(rt, part.limited.as_slice());
     Ok(())
 }
 
 #[test]
-fn the_first_registry_has_handles_and_channels(rt: HostRuntime) -> Result<(), Fail> {
-    let alloc = rt.alloc();
-    let setup = limited_setup(alloc)?;
-    let registry = registry_at_start(alloc, &setup)?;
+fn limited_devices_begin_with_a_quota(rt: HostRuntime) -> Result<(), Fail> {
+    let setup = limited_setup(rt.alloc())?;
+    are_limited(&rt, &setup);
+    have_quotas(&rt, rt.alloc(), &setup)?;
+    Ok(())
+}
+
+fn begins_with_handles(rt: &impl Abort, registry: &Registry) {
     assert!(rt; registry.devices.len() == 3 && registry.next == 1);
     assert!(rt; matches!(registry.devices.as_slice()[0].standing, Standing::Live));
     assert!(rt; registry.handles.len() == 1);
     let handle = registry.handles.as_slice()[0];
     assert!(rt; handle.dev == MALLOC && handle.thread.0 == 1);
+}
+
+fn begins_with_channels(rt: &impl Abort, registry: &Registry) {
     // the device's own channel, and that of the device which passes through to it
     for row in &[
         (1, 1, Some(2)),
@@ -228,24 +314,50 @@ fn the_first_registry_has_handles_and_channels(rt: HostRuntime) -> Result<(), Fa
     ] {
         let (thread, dev, count) = *row;
         assert!(rt;
-            references(&registry, thread, DevId(dev)) == count,
+            references(registry, thread, DevId(dev)) == count,
             "{thread}, {dev}"
         );
     }
+}
+
+fn begins(rt: &impl Abort, alloc: Global, setup: &Setup) -> Result<(), OutOfMemory> {
+    let registry = registry_at_start(alloc, setup)?;
+    begins_with_handles(rt, &registry);
+    begins_with_channels(rt, &registry);
     Ok(())
 }
 
 #[test]
-fn a_second_get_stops_at_the_channel(rt: HostRuntime) -> Result<(), Fail> {
-    let alloc = rt.alloc();
-    let setup = limited_setup(alloc)?;
-    let mut registry = registry_at_start(alloc, &setup)?;
-    get_channel(alloc, &setup, 0, DevId(2), &mut registry)?;
-    get_channel(alloc, &setup, 0, DevId(2), &mut registry)?;
-    assert!(rt; references(&registry, 0, DevId(2)) == Some(2));
-    assert!(rt; references(&registry, 0, MALLOC) == Some(1));
+fn the_first_registry_has_handles_and_channels(rt: HostRuntime) -> Result<(), Fail> {
+    let setup = limited_setup(rt.alloc())?;
+    begins(&rt, rt.alloc(), &setup)?;
+    Ok(())
+}
+
+fn is_got_twice(
+    rt: &impl Abort,
+    alloc: Global,
+    setup: &Setup,
+    registry: &mut Registry,
+) -> Result<(), OutOfMemory> {
+    get_channel(alloc, setup, 0, DevId(2), registry)?;
+    get_channel(alloc, setup, 0, DevId(2), registry)?;
+    assert!(rt; references(registry, 0, DevId(2)) == Some(2));
+    assert!(rt; references(registry, 0, MALLOC) == Some(1));
     set_count(&mut registry.channels, 0, MALLOC, None)?;
-    assert!(rt; references(&registry, 0, MALLOC).is_none());
+    assert!(rt; references(registry, 0, MALLOC).is_none());
+    Ok(())
+}
+
+fn registry_is_got_twice(rt: &impl Abort, alloc: Global, setup: &Setup) -> Result<(), OutOfMemory> {
+    let mut registry = registry_at_start(alloc, setup)?;
+    is_got_twice(rt, alloc, setup, &mut registry)
+}
+
+#[test]
+fn a_second_get_stops_at_the_channel(rt: HostRuntime) -> Result<(), Fail> {
+    let setup = limited_setup(rt.alloc())?;
+    registry_is_got_twice(&rt, rt.alloc(), &setup)?;
     Ok(())
 }
 

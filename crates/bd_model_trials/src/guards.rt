@@ -26,6 +26,7 @@ use bd_rules::new_request;
 use bd_view::{Sees, Submission, look_up, own_handle};
 use bd_walks::refused_visit;
 use std::alloc::Global;
+use std::process::Abort;
 use std::test::Fail;
 
 const DEV: DevId = DevId(0);
@@ -97,7 +98,8 @@ const RATES: Rates = Rates {
 };
 
 // What the thread has: one read, open there or elsewhere, on its own way or out to the limits of its
-// device, where it may wait with so many requests left; and a walk that came here for a drain.
+// device, where it may wait with so many requests left; a walk that came here for a drain; and a mark of its
+// device, a freeze mark or none.
 #[derive(Clone, Copy)]
 struct Case {
     open: bool,
@@ -105,6 +107,7 @@ struct Case {
     waits: bool,
     left: i128,
     walks: bool,
+    marked: Option<bool>,
 }
 
 // The read is open, on its own way.
@@ -114,6 +117,7 @@ const OPEN: Case = Case {
     waits: false,
     left: 1,
     walks: false,
+    marked: None,
 };
 
 // It waits for the limits of its device.
@@ -123,10 +127,11 @@ const WAITING: Case = Case {
     waits: true,
     left: 1,
     walks: false,
+    marked: None,
 };
 
-fn part(alloc: Global, setup: &Setup, case: Case) -> Result<Part, OutOfMemory> {
-    let mut part = part_at_start(alloc, setup, 0)?;
+// Puts the read where the case has it.
+fn fill_requests(part: &mut Part, case: Case) -> Result<(), OutOfMemory> {
     if case.open {
         part.requests.push(Open {
             id: REQ,
@@ -142,25 +147,66 @@ fn part(alloc: Global, setup: &Setup, case: Case) -> Result<Part, OutOfMemory> {
             limited.waiting.push(REQ)?;
         }
     }
+    Ok(())
+}
+
+fn fill_marks(part: &mut Part, case: Case) -> Result<(), OutOfMemory> {
+    if let Some(frozen) = case.marked {
+        let marking = Marking {
+            frozen,
+            removed: false,
+            times: 1,
+        };
+        part.marked.push((DEV, marking))?;
+    }
+    Ok(())
+}
+
+fn fill(part: &mut Part, case: Case) -> Result<(), OutOfMemory> {
+    fill_requests(part, case)?;
+    fill_marks(part, case)
+}
+
+fn part(alloc: Global, setup: &Setup, case: Case) -> Result<Part, OutOfMemory> {
+    let mut part = part_at_start(alloc, setup, 0)?;
+    fill(&mut part, case)?;
     Ok(part)
 }
 
-fn held(alloc: Global, case: Case) -> Result<Vec<(Id, Kept)>, OutOfMemory> {
+fn request(case: Case) -> Kept {
     let mut request = new_request(HANDLE, DEV, READ);
     request.trip = case.trip;
+    Kept::Request(request)
+}
+
+fn walk() -> Kept {
+    Kept::Walk(OpenWalk {
+        dev: DEV,
+        kind: WalkKind::Drain,
+        left: ThreadSet(1),
+        request: None,
+        taken: true,
+    })
+}
+
+fn held(alloc: Global, case: Case) -> Result<Vec<(Id, Kept)>, OutOfMemory> {
     let mut held = Vec::new(alloc);
-    held.push((Id::Request(REQ), Kept::Request(request)))?;
+    held.push((Id::Request(REQ), request(case)))?;
     if case.walks {
-        let walk = OpenWalk {
-            dev: DEV,
-            kind: WalkKind::Drain,
-            left: ThreadSet(1),
-            request: None,
-            taken: true,
-        };
-        held.push((Id::Walk(WALK), Kept::Walk(walk)))?;
+        held.push((Id::Walk(WALK), walk()))?;
     }
     Ok(held)
+}
+
+fn seen_in(alloc: Global, setup: &Setup, case: Case) -> Result<Holder, OutOfMemory> {
+    let held = held(alloc, case)?;
+    let registry = registry_at_start(alloc, setup)?;
+    let part = part(alloc, setup, case)?;
+    Ok(Holder {
+        part,
+        held,
+        registry,
+    })
 }
 
 // An act of the thread, on the read or on one that isn't here.
@@ -192,14 +238,14 @@ fn refused(seen: &Holder, setup: &Setup, deed: Deed) -> Result<Option<u32>, OutO
 }
 
 // The guard that refuses the act in this case, if one does.
-fn answer(alloc: Global, case: Case, deed: Deed) -> Result<Option<u32>, OutOfMemory> {
-    let setup = one_device(alloc, 1, Some(RATES))?;
-    let seen = Holder {
-        part: part(alloc, &setup, case)?,
-        held: held(alloc, case)?,
-        registry: registry_at_start(alloc, &setup)?,
-    };
-    refused(&seen, &setup, deed)
+fn answer(
+    alloc: Global,
+    setup: &Setup,
+    case: Case,
+    deed: Deed,
+) -> Result<Option<u32>, OutOfMemory> {
+    let seen = seen_in(alloc, setup, case)?;
+    refused(&seen, setup, deed)
 }
 
 const ROWS: [(Case, Deed, Option<u32>); 15] = [
@@ -241,35 +287,24 @@ const ROWS: [(Case, Deed, Option<u32>); 15] = [
     ),
 ];
 
-#[test]
-fn guards_of_acts_that_no_thread_makes(rt: HostRuntime) {
-    let alloc = rt.alloc();
+fn are_refused(rt: &impl Abort, alloc: Global, setup: &Setup) {
     for row in &ROWS {
         let (case, deed, guard) = *row;
-        let refused = answer(alloc, case, deed);
+        let refused = answer(alloc, setup, case, deed);
         assert!(rt; refused == Ok(guard), "{guard:?}");
     }
 }
 
-// The thread in this case, with a freeze mark of its device or without one.
-fn marked(alloc: Global, setup: &Setup, case: Case, frozen: bool) -> Result<Holder, OutOfMemory> {
-    let mut part = part(alloc, setup, case)?;
-    let marking = Marking {
-        frozen,
-        removed: false,
-        times: 1,
-    };
-    part.marked.push((DEV, marking))?;
-    Ok(Holder {
-        part,
-        held: held(alloc, case)?,
-        registry: registry_at_start(alloc, setup)?,
-    })
+#[test]
+fn guards_of_acts_that_no_thread_makes(rt: HostRuntime) -> Result<(), Fail> {
+    let setup = one_device(rt.alloc(), 1, &[RATES])?;
+    are_refused(&rt, rt.alloc(), &setup);
+    Ok(())
 }
 
 // In this case, with a freeze mark or without one: which request of the thread the freeze mark stops
 // first, which of those that wait for the limits, and whether a drain may leave.
-const MARKED: [(Case, bool, Option<ReqId>, Option<ReqId>, bool); 4] = [
+const MARKED: [Row; 4] = [
     (OPEN, true, Some(REQ), None, false),
     (OPEN, false, None, None, false),
     (WAITING, true, Some(REQ), Some(REQ), false),
@@ -286,20 +321,34 @@ const MARKED: [(Case, bool, Option<ReqId>, Option<ReqId>, bool); 4] = [
     ),
 ];
 
+// A row of MARKED.
+type Row = (Case, bool, Option<ReqId>, Option<ReqId>, bool);
+
+fn is_stopped(rt: &impl Abort, seen: &Holder, setup: &Setup, (_, _, first, in_line, leaves): Row) {
+    let cause = AbortCause::Frozen(DEV);
+    assert!(rt; first_waiting(seen, setup, cause) == first);
+    assert!(rt; first_in_line(seen, setup, DEV, cause) == in_line);
+    assert!(rt; may_leave(seen, setup, DEV) == leaves);
+    // no removal mark stands
+    let removed = AbortCause::Removed(DEV);
+    assert!(rt; first_waiting(seen, setup, removed).is_none());
+}
+
+fn are_stopped(rt: &impl Abort, alloc: Global, setup: &Setup) -> Result<(), OutOfMemory> {
+    for row in &MARKED {
+        let case = Case {
+            marked: Some(row.1),
+            ..row.0
+        };
+        let seen = seen_in(alloc, setup, case)?;
+        is_stopped(rt, &seen, setup, *row);
+    }
+    Ok(())
+}
+
 #[test]
 fn what_a_mark_stops_and_a_drain_waits_for(rt: HostRuntime) -> Result<(), Fail> {
-    let alloc = rt.alloc();
-    let setup = one_device(alloc, 1, Some(RATES))?;
-    for row in &MARKED {
-        let (case, frozen, first, in_line, leaves) = *row;
-        let seen = marked(alloc, &setup, case, frozen)?;
-        let cause = AbortCause::Frozen(DEV);
-        assert!(rt; first_waiting(&seen, &setup, cause) == first);
-        assert!(rt; first_in_line(&seen, &setup, DEV, cause) == in_line);
-        assert!(rt; may_leave(&seen, &setup, DEV) == leaves);
-        // no removal mark stands
-        let removed = AbortCause::Removed(DEV);
-        assert!(rt; first_waiting(&seen, &setup, removed).is_none());
-    }
+    let setup = one_device(rt.alloc(), 1, &[RATES])?;
+    are_stopped(&rt, rt.alloc(), &setup)?;
     Ok(())
 }

@@ -1,4 +1,5 @@
 //! Stacked devices, and the pieces of ranges on them.
+use crate::setups::setup_of;
 use bd_base::{DevId, DevRow, HandleId, Kind, Name, OutOfMemory, Rows, Setup};
 use bd_blocks::extents;
 use bd_machine::Extent;
@@ -23,7 +24,7 @@ const DEVICES: [Given; 7] = [
     (Kind::Passthru, Some(0), 10),
 ];
 
-fn row_of(alloc: Global, given: &Given) -> DevRow {
+fn row_of(alloc: Global, given: &Given, group: u32) -> DevRow {
     let (kind, base, boundary) = *given;
     DevRow {
         name: Name::new(alloc),
@@ -34,53 +35,59 @@ fn row_of(alloc: Global, given: &Given) -> DevRow {
         boundary,
         depth: 0,
         file: None,
-        group: 0,
+        group,
     }
 }
 
-fn setup_of(alloc: Global, devices: &[Given]) -> Result<Setup, OutOfMemory> {
+// The devices, each with its group, which is 0 where there is none for it.
+fn rows_of(alloc: Global, devices: &[Given], groups: &[u32]) -> Result<Rows<DevRow>, OutOfMemory> {
     let mut rows = Rows::new(alloc);
-    for given in devices {
-        rows.push(row_of(alloc, given))?;
+    for (number, given) in devices.iter().enumerate() {
+        let group = groups.get(number).copied().unwrap_or(0);
+        rows.push(row_of(alloc, given, group))?;
     }
-    Ok(Setup {
-        threads: 3,
-        devices: rows,
-        rates: Rows::new(alloc),
-        injections: Rows::new(alloc),
-        waiting: Rows::new(alloc),
-        scripts: Rows::new(alloc),
-    })
+    Ok(rows)
+}
+
+// Three threads over these devices.
+fn over(alloc: Global, devices: &[Given], groups: &[u32]) -> Result<Setup, OutOfMemory> {
+    let rows = rows_of(alloc, devices, groups)?;
+    Ok(setup_of(alloc, 3, rows, Rows::new(alloc)))
 }
 
 const LAST: u64 = (1 << 40) - 1;
 
-#[test]
-fn base_blocks(rt: HostRuntime) -> Result<(), Fail> {
-    let setup = setup_of(rt.alloc(), &DEVICES)?;
-    for row in &[
-        (0, 0, 0, 0),
-        (0, 8, 0, 8),
-        (1, 5, 0, 8),
-        (2, 7, 0, 10),
-        (3, 1, 0, 14),
-        (4, 5, 4, 5),
-        (5, LAST, 4, LAST),
-        (1, LAST, 0, LAST + 3),
-        (7, 6, 7, 6),
-    ] {
+// A device and one of its blocks, and the base device and the block of that under it.
+const BASES: [(u32, u64, u32, u64); 9] = [
+    (0, 0, 0, 0),
+    (0, 8, 0, 8),
+    (1, 5, 0, 8),
+    (2, 7, 0, 10),
+    (3, 1, 0, 14),
+    (4, 5, 4, 5),
+    (5, LAST, 4, LAST),
+    (1, LAST, 0, LAST + 3),
+    (7, 6, 7, 6),
+];
+
+fn have_bases(rt: &impl Abort, setup: &Setup) {
+    for row in &BASES {
         let (dev, block, base, number) = *row;
         let dev = DevId(dev);
-        assert!(rt;
-            at(&setup, dev, block)? == (DevId(base), number),
-            "{dev:?}, {block}"
-        );
-        assert!(rt; base_of(&setup, dev) == DevId(base), "{dev:?}");
-        assert!(rt; home(&setup, dev) == base % 3, "{dev:?}");
+        let found = at(setup, dev, block);
+        assert!(rt; found == Ok((DevId(base), number)), "{dev:?}, {block}");
+        assert!(rt; base_of(setup, dev) == DevId(base), "{dev:?}");
+        assert!(rt; home(setup, dev) == base % 3, "{dev:?}");
     }
-    assert!(rt; under(&setup, DevId(3), 1)? == Some((DevId(2), 11)));
-    assert!(rt; under(&setup, DevId(0), 1)?.is_none());
-    assert!(rt; at(&setup, DevId(1), u64::MAX).is_err());
+    assert!(rt; under(setup, DevId(3), 1) == Ok(Some((DevId(2), 11))));
+    assert!(rt; under(setup, DevId(0), 1) == Ok(None));
+    assert!(rt; at(setup, DevId(1), u64::MAX).is_err());
+}
+
+#[test]
+fn base_blocks(rt: HostRuntime) -> Result<(), Fail> {
+    let setup = over(rt.alloc(), &DEVICES, &[])?;
+    have_bases(&rt, &setup);
     Ok(())
 }
 
@@ -96,10 +103,8 @@ fn are_below(rt: &impl Abort, setup: &Setup, dev: u32, expected: &[u32]) {
 // Two devices that stand on each other, as no configuration gives them: the way down ends.
 #[test]
 fn a_circle_has_an_end(rt: HostRuntime) -> Result<(), Fail> {
-    let setup = setup_of(
-        rt.alloc(),
-        &[(Kind::Passthru, Some(1), 0), (Kind::Passthru, Some(0), 0)],
-    )?;
+    let circle = [(Kind::Passthru, Some(1), 0), (Kind::Passthru, Some(0), 0)];
+    let setup = over(rt.alloc(), &circle, &[])?;
     are_below(&rt, &setup, 0, &[0, 1, 0]);
     assert!(rt; base_of(&setup, DevId(0)) == DevId(0));
     Ok(())
@@ -107,58 +112,76 @@ fn a_circle_has_an_end(rt: HostRuntime) -> Result<(), Fail> {
 
 // A base device, two parts of it of one split, a device over the first part, another base device
 // and a device over that: three base handles. The groups of base devices have none.
-fn grouped_setup(alloc: Global) -> Result<Setup, OutOfMemory> {
-    let base = (Kind::Malloc, None, 0);
-    let devices = [
-        base,
-        (Kind::Part { shift: 0 }, Some(0), 0),
-        (Kind::Error, Some(1), 0),
-        (Kind::Part { shift: 8 }, Some(0), 0),
-        base,
-        (Kind::Passthru, Some(4), 0),
-    ];
-    let mut setup = setup_of(alloc, &[])?;
-    for (given, group) in devices.iter().zip([5, 1, 2, 1, 5, 3]) {
-        let mut row = row_of(alloc, given);
-        row.group = group;
-        setup.devices.push(row)?;
+const GROUPED: [Given; 6] = [
+    (Kind::Malloc, None, 0),
+    (Kind::Part { shift: 0 }, Some(0), 0),
+    (Kind::Error, Some(1), 0),
+    (Kind::Part { shift: 8 }, Some(0), 0),
+    (Kind::Malloc, None, 0),
+    (Kind::Passthru, Some(4), 0),
+];
+
+const GROUPS: [u32; 6] = [5, 1, 2, 1, 5, 3];
+
+// Whether the handle's users are these.
+fn has_users(
+    alloc: Global,
+    setup: &Setup,
+    handle: u128,
+    expected: &[DevId],
+) -> Result<bool, OutOfMemory> {
+    let users = users(alloc, setup, HandleId(handle))?;
+    Ok(users.as_slice() == expected)
+}
+
+// The users of the handles 0, 1, 2 and 3.
+const USERS: [&[DevId]; 4] = [&[DevId(1), DevId(3)], &[DevId(2)], &[DevId(5)], &[]];
+
+fn have_users(rt: &impl Abort, alloc: Global, setup: &Setup) {
+    for (number, devs) in USERS.iter().enumerate() {
+        let handle = number as u128;
+        assert!(rt;
+            has_users(alloc, setup, handle, devs) == Ok(true),
+            "{number}"
+        );
+        assert!(rt;
+            is_base_handle(setup, HandleId(handle)) == (number < 3),
+            "{number}"
+        );
     }
-    Ok(setup)
+    assert!(rt; has_users(alloc, setup, u128::MAX, &[]) == Ok(true));
+}
+
+// The base handles of the devices 0 to 6.
+const HANDLES: [Option<u128>; 7] = [None, Some(0), Some(1), Some(0), None, Some(2), None];
+
+fn have_handles(rt: &impl Abort, setup: &Setup) {
+    for (dev, number) in HANDLES.iter().enumerate() {
+        assert!(rt;
+            base_handle(setup, DevId(dev as u32)) == number.map(HandleId),
+            "{dev}"
+        );
+    }
+}
+
+fn has_firsts(alloc: Global, setup: &Setup, expected: &[DevId]) -> Result<bool, OutOfMemory> {
+    let firsts = firsts(alloc, setup)?;
+    Ok(firsts.as_slice() == expected)
 }
 
 #[test]
 fn users_of_base_handles(rt: HostRuntime) -> Result<(), Fail> {
-    let alloc = rt.alloc();
-    let setup = grouped_setup(alloc)?;
-    let expected: [&[DevId]; 4] = [&[DevId(1), DevId(3)], &[DevId(2)], &[DevId(5)], &[]];
-    for (number, devs) in expected.iter().enumerate() {
-        let handle = HandleId(number as u128);
-        assert!(rt;
-            users(alloc, &setup, handle)?.as_slice() == *devs,
-            "{number}"
-        );
-        assert!(rt; is_base_handle(&setup, handle) == (number < 3), "{number}");
-    }
-    assert!(rt;
-        users(alloc, &setup, HandleId(u128::MAX))?
-            .as_slice()
-            .is_empty()
-    );
-    let numbers = [None, Some(0), Some(1), Some(0), None, Some(2), None];
-    for (dev, number) in numbers.iter().enumerate() {
-        assert!(rt;
-            base_handle(&setup, DevId(dev as u32)) == number.map(HandleId),
-            "{dev}"
-        );
-    }
-    let first: &[DevId] = &[DevId(1), DevId(2), DevId(5)];
-    assert!(rt; firsts(alloc, &setup)?.as_slice() == first);
+    let setup = over(rt.alloc(), &GROUPED, &GROUPS)?;
+    have_users(&rt, rt.alloc(), &setup);
+    have_handles(&rt, &setup);
+    let found = has_firsts(rt.alloc(), &setup, &[DevId(1), DevId(2), DevId(5)]);
+    assert!(rt; found == Ok(true));
     Ok(())
 }
 
 #[test]
 fn devices_below(rt: HostRuntime) -> Result<(), Fail> {
-    let setup = setup_of(rt.alloc(), &DEVICES)?;
+    let setup = over(rt.alloc(), &DEVICES, &[])?;
     are_below(&rt, &setup, 0, &[0]);
     are_below(&rt, &setup, 1, &[1, 0]);
     are_below(&rt, &setup, 3, &[3, 2, 1, 0]);
@@ -173,22 +196,26 @@ type Range = (u32, u64, u64);
 // A piece, as its first block and its number of blocks.
 type Piece = (u64, u64);
 
-fn are_pieces(
-    rt: &impl Abort,
-    alloc: Global,
-    setup: &Setup,
-    (dev, lba, count): Range,
-    expected: &[Piece],
-) -> Result<(), Fail> {
-    let found = extents(alloc, setup, DevId(dev), lba, count)?;
-    assert!(rt; found.len() == expected.len(), "{dev}, {lba}, {count}");
-    for (extent, (first, count)) in found.as_slice().iter().zip(expected) {
+fn extents_are(rt: &impl Abort, found: &[Extent], expected: &[Piece]) {
+    assert!(rt; found.len() == expected.len());
+    for (extent, (first, count)) in found.iter().zip(expected) {
         let wanted = Extent {
             first: *first,
             count: *count,
         };
         assert!(rt; *extent == wanted, "{extent:?}");
     }
+}
+
+fn are_pieces(
+    rt: &impl Abort,
+    alloc: Global,
+    setup: &Setup,
+    (dev, lba, count): Range,
+    expected: &[Piece],
+) -> Result<(), OutOfMemory> {
+    let found = extents(alloc, setup, DevId(dev), lba, count)?;
+    extents_are(rt, found.as_slice(), expected);
     Ok(())
 }
 
@@ -212,12 +239,17 @@ const CUT: [(Range, &[Piece]); 12] = [
     ((6, 0, 20), &[(0, 8), (8, 2), (10, 6), (16, 4)]),
 ];
 
-#[test]
-fn ranges_are_cut_where_their_devices_say(rt: HostRuntime) -> Result<(), Fail> {
-    let setup = setup_of(rt.alloc(), &DEVICES)?;
+fn are_cut(rt: &impl Abort, alloc: Global, setup: &Setup) -> Result<(), OutOfMemory> {
     for row in &CUT {
         let (range, expected) = *row;
-        are_pieces(&rt, rt.alloc(), &setup, range, expected)?;
+        are_pieces(rt, alloc, setup, range, expected)?;
     }
+    Ok(())
+}
+
+#[test]
+fn ranges_are_cut_where_their_devices_say(rt: HostRuntime) -> Result<(), Fail> {
+    let setup = over(rt.alloc(), &DEVICES, &[])?;
+    are_cut(&rt, rt.alloc(), &setup)?;
     Ok(())
 }

@@ -1,7 +1,8 @@
 //! The tokens that a thread holds.
-use bd_base::{DevId, ReqId, WalkId};
+use bd_base::{DevId, OutOfMemory, ReqId, WalkId};
 use bd_machine::{Id, Kept, News};
 use bd_tokens::Tokens;
+use std::process::Abort;
 use std::test::Fail;
 
 // Four ids that differ in one part from those of another number, or in their kind.
@@ -30,17 +31,25 @@ fn device_of(kept: Option<&Kept>) -> Option<u32> {
     }
 }
 
-// Each of 400 tokens is held with a device of its own; then those of odd numbers are let go.
-#[test]
-fn each_token_is_found(rt: HostRuntime) -> Result<(), Fail> {
-    let mut tokens = Tokens::new(rt.alloc());
+// The device of a token that is taken out.
+fn taken(tokens: &mut Tokens, id: Id) -> Option<u32> {
+    let kept = tokens.take_out(id);
+    device_of(kept.as_ref())
+}
+
+// Each of 400 tokens is held with a device of its own.
+fn hold_all(tokens: &mut Tokens) -> Result<(), OutOfMemory> {
     tokens.reserve(16)?;
     for number in 0..100u32 {
         for id in ids_of(number) {
             tokens.hold(id, Kept::Notice(News::Device(DevId(number))))?;
         }
     }
-    assert_eq!(rt; tokens.len(), 400);
+    Ok(())
+}
+
+// Each is found, and those of odd numbers are let go.
+fn let_odd_go(rt: &impl Abort, tokens: &mut Tokens) {
     for number in 0..100u32 {
         for id in ids_of(number) {
             assert_eq!(rt; device_of(tokens.get(id)), Some(number));
@@ -49,13 +58,24 @@ fn each_token_is_found(rt: HostRuntime) -> Result<(), Fail> {
             }
         }
     }
+}
+
+fn take_all_out(rt: &impl Abort, tokens: &mut Tokens) {
     for number in 0..100u32 {
         for id in ids_of(number) {
-            let kept = tokens.take_out(id);
             let expected = if number % 2 == 1 { None } else { Some(number) };
-            assert_eq!(rt; device_of(kept.as_ref()), expected);
+            assert_eq!(rt; taken(tokens, id), expected);
         }
     }
+}
+
+#[test]
+fn each_token_is_found(rt: HostRuntime) -> Result<(), Fail> {
+    let mut tokens = Tokens::new(rt.alloc());
+    hold_all(&mut tokens)?;
+    assert_eq!(rt; tokens.len(), 400);
+    let_odd_go(&rt, &mut tokens);
+    take_all_out(&rt, &mut tokens);
     assert_eq!(rt; tokens.len(), 0);
     Ok(())
 }

@@ -11,8 +11,6 @@ mod run;
 mod schedule;
 mod seat;
 mod sharing;
-#[cfg(test)]
-mod tests;
 mod turning;
 mod worker;
 mod working;

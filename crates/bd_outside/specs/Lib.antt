@@ -1,3 +1,4 @@
+pub mod Calm
 pub mod Clock
 pub mod Count
 pub mod Disk

@@ -2,6 +2,7 @@
 ghost use Rattle.std.specs.Prelude.{◌≡◌, ℕ};
 
 use std::marker::Model;
+use std::sync::atomic::{AtomicU64, Ordering};
 
 /// A clock, which may answer anything, also a moment before an earlier one.
 pub trait Clock {
@@ -46,5 +47,35 @@ impl Clock for StillClock {
 
     fn now(&self) -> u64 {
         self.at
+    }
+}
+
+/// A clock that goes on by a step at each call, from whichever thread it comes; it tells no moments.
+#[derive(Drop)]
+pub struct StepClock {
+    next: AtomicU64,
+    step: u64,
+}
+
+impl StepClock {
+    /// A clock whose first answer is `start`, and each later one the one before plus `step`, modulo
+    /// 2^64 (microseconds).
+    pub fn new(start: u64, step: u64) -> StepClock
+        ensures { result.step ≡ step }
+    {
+        StepClock {
+            next: AtomicU64::new(start),
+            step,
+        }
+    }
+}
+
+impl Clock for StepClock {
+    ghost use Rattle.std.specs.Prelude.{None};
+
+    ghost range = { λ c. None };
+
+    fn now(&self) -> u64 {
+        self.next.fetch_add(self.step, Ordering::SeqCst)
     }
 }

@@ -2,6 +2,8 @@
 //! above is written, and forms of them in memory.
 #![tactic(auto)]
 
+mod calm_disk;
+mod calm_host;
 mod clock;
 mod disk;
 mod failed;
@@ -13,7 +15,9 @@ mod mem_sink;
 mod opening;
 mod sink;
 
-pub use clock::{Clock, StillClock};
+pub use calm_disk::CalmDisk;
+pub use calm_host::CalmHost;
+pub use clock::{Clock, StepClock, StillClock};
 pub use disk::Disk;
 pub use failed::Failed;
 pub use gate::{Gate, OpenGate};

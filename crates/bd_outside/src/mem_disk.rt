@@ -1,6 +1,8 @@
 //! A disk in memory.
-ghost use Rattle.std.specs.Prelude.{◌≡◌, ◌<◌, ◌*◌, Some, None, length};
-ghost use Rattle.bd_outside.specs.Memory.{MemoryDisk, disk_over};
+ghost use Rattle.std.specs.Prelude.{◌≡◌, ◌<◌, ◌≤◌, ◌*◌, Some, None, false, length, IsTrue, OnOk, OnErr};
+ghost use Rattle.bd_outside.specs.Count.{one_more};
+ghost use Rattle.bd_outside.specs.Disk.{IsInside, Reads, overwritten};
+ghost use Rattle.bd_outside.specs.Memory.{MemoryDisk, disk_over, next_disk_call_fails, disk_call, failed_disk_call, write_call, flush_call, memory_state};
 
 use crate::disk::Disk;
 use crate::failed::Failed;
@@ -8,12 +10,16 @@ use bd_base::Bytes;
 use std::alloc::Global;
 use std::marker::Model;
 
-/// A disk in memory, which never fails.
+/// A disk in memory, and a list of its calls that fail: reads, writes and flushes are numbered
+/// together from 1.
 #[derive(Debug, Drop)]
 pub struct MemDisk {
     content: Vec<u8>,
     block_size: u32,
     blocks: u64,
+    fails: Vec<u64>,
+    calls: u64,
+    faults: u64,
     flushes: u64,
     place: Option<u32>,
 }
@@ -21,26 +27,40 @@ pub struct MemDisk {
 impl Model for MemDisk {
     ghost Value = { MemoryDisk };
 
-    ghost view = { λ d. record { content = d.content.items; block_size = d.block_size; blocks = d.blocks; flushes = d.flushes; place = d.place } };
+    ghost view = { λ d. record {
+      content = d.content.items;
+      block_size = d.block_size;
+      blocks = d.blocks;
+      fails = d.fails.items;
+      calls = d.calls;
+      faults = d.faults;
+      flushes = d.flushes;
+      place = d.place;
+    } };
 
     ghost invariant = { λ d. length d.content.items ≡ d.blocks * d.block_size };
 }
 
 impl MemDisk {
-    /// A disk with the whole blocks of these bytes; what comes after the last whole block is dropped.
-    /// It takes no memory; the allocator comes first as in each call that makes a value which
-    /// holds memory.
-    pub fn new(_alloc: Global, content: Bytes, block_size: u32) -> MemDisk
+    /// A disk with the whole blocks of these bytes, of which these calls fail; what comes after the
+    /// last whole block is dropped. It takes no memory; the allocator comes first as in each call
+    /// that makes a value which holds memory.
+    pub fn new(_alloc: Global, content: Bytes, block_size: u32, fails: Vec<u64>) -> MemDisk
         requires { 0 < block_size }
-        ensures { result ≡ disk_over content block_size None }
+        ensures { result ≡ disk_over content block_size fails.items None }
     {
-        MemDisk::opened(content, block_size, None)
+        MemDisk::opened(content, block_size, fails, None)
     }
 
     // A disk over the bytes of a file, at its place among its host's openings.
-    pub(crate) fn opened(content: Bytes, block_size: u32, place: Option<u32>) -> MemDisk
+    pub(crate) fn opened(
+        content: Bytes,
+        block_size: u32,
+        fails: Vec<u64>,
+        place: Option<u32>,
+    ) -> MemDisk
         requires { 0 < block_size }
-        ensures { result ≡ disk_over content block_size place }
+        ensures { result ≡ disk_over content block_size fails.items place }
     {
         let mut content = content.into_vec();
         let blocks = content.len() / block_size as usize;
@@ -49,6 +69,9 @@ impl MemDisk {
             content,
             block_size,
             blocks: blocks as u64,
+            fails,
+            calls: 0,
+            faults: 0,
             flushes: 0,
             place,
         }
@@ -59,6 +82,13 @@ impl MemDisk {
         ensures { result.now ≡ self.now.content }
     {
         self.content.as_slice()
+    }
+
+    /// How often it failed; it stands still at u64::MAX.
+    pub fn faults(&self) -> u64
+        ensures { result ≡ self.now.faults }
+    {
+        self.faults
     }
 
     /// How many flushes were done; it stands still at u64::MAX.
@@ -81,35 +111,66 @@ impl MemDisk {
     {
         Bytes::from_vec(self.content)
     }
+
+    // Counts a call, and also a fault where the call is one of those that fail.
+    fn begin_call(&mut self) -> Result<(), Failed>
+        ensures begun { OnOk result ((next_disk_call_fails self.old ≡ false) × (self.new ≡ disk_call self.old)) }
+        ensures failed { OnErr result (IsTrue (next_disk_call_fails self.old) × (self.new ≡ failed_disk_call self.old)) }
+        ensures fault_count { self.old.faults ≤ self.new.faults }
+    {
+        self.calls = self.calls.saturating_add(1);
+        if self.fails.contains(&self.calls) {
+            self.faults = self.faults.saturating_add(1);
+            return Err(Failed);
+        }
+        Ok(())
+    }
 }
 
 impl Disk for MemDisk {
-    ghost state = { λ d. record {
-      block_size = d.block_size;
-      blocks = d.blocks;
-      content = Some d.content;
-      faults = 0;
-      flushes = d.flushes;
-      place = d.place;
-    } };
+    ghost state = { memory_state };
 
     fn blocks(&self) -> u64 {
         self.blocks
     }
 
-    fn read(&mut self, lba: u64, to: &mut [u8]) -> Result<(), Failed> {
+    /// Failed exactly where this call is one that fails: the buffer is as it was.
+    fn read(&mut self, lba: u64, to: &mut [u8]) -> Result<(), Failed>
+        requires { IsInside lba (length to.old) self.old.block_size self.old.blocks }
+        ensures given { OnOk result (Reads (Some self.old.content) (lba * self.old.block_size) to.new) }
+        ensures done { OnOk result ((next_disk_call_fails self.old ≡ false) × (self.new ≡ disk_call self.old)) }
+        ensures failed { OnErr result (IsTrue (next_disk_call_fails self.old) × (self.new ≡ failed_disk_call self.old)) }
+        ensures same_buffer { OnErr result (to.new ≡ to.old) }
+        ensures fault_count { self.old.faults ≤ self.new.faults }
+    {
+        self.begin_call()?;
         let at = lba as usize * self.block_size as usize;
         to.copy_from_slice(&self.content[at..at + to.len()]);
         Ok(())
     }
 
-    fn write(&mut self, lba: u64, from: &[u8]) -> Result<(), Failed> {
+    /// Failed exactly where this call is one that fails.
+    fn write(&mut self, lba: u64, from: &[u8]) -> Result<(), Failed>
+        requires { IsInside lba (length from.now) self.old.block_size self.old.blocks }
+        ensures done { OnOk result ((next_disk_call_fails self.old ≡ false)
+            × (self.new ≡ write_call self.old (lba * self.old.block_size) from.now)) }
+        ensures failed { OnErr result (IsTrue (next_disk_call_fails self.old) × (self.new ≡ failed_disk_call self.old)) }
+        ensures fault_count { self.old.faults ≤ self.new.faults }
+    {
+        self.begin_call()?;
         let at = lba as usize * self.block_size as usize;
         self.content[at..at + from.len()].copy_from_slice(from);
         Ok(())
     }
 
-    fn flush(&mut self) -> Result<(), Failed> {
+    /// Failed exactly where this call is one that fails.
+    fn flush(&mut self) -> Result<(), Failed>
+        ensures done { OnOk result ((next_disk_call_fails self.old ≡ false) × (self.new ≡ flush_call self.old)) }
+        ensures failed { OnErr result (IsTrue (next_disk_call_fails self.old) × (self.new ≡ failed_disk_call self.old)) }
+        ensures fault_count { self.old.faults ≤ self.new.faults }
+        ensures flush_count { self.old.flushes ≤ self.new.flushes }
+    {
+        self.begin_call()?;
         self.flushes = self.flushes.saturating_add(1);
         Ok(())
     }

@@ -1,26 +1,30 @@
 //! Files in memory.
-ghost use Rattle.std.specs.Prelude.{◌≡◌, ◌<◌, ◌≤◌, ℕ, List, Some, false, length, take, drop, min, IsTrue, IsErr, IfOk, IsErrOf, MatchOption};
+ghost use Rattle.std.specs.Prelude.{◌≡◌, ◌<◌, ◌≤◌, ℕ, List, [], ◌∷◌, ◌++◌, Some, false, length, take, drop, min, IsTrue, IsErr, IfOk, OnOk, OnErr, IsErrOf, MatchOption};
 ghost use Rattle.bd_outside.specs.Count.{one_more};
+ghost use Rattle.bd_outside.specs.Disk.{closing_of};
 ghost use Rattle.bd_outside.specs.File.{file_of, rest_of, NoFile, Content, GivesPiece};
-ghost use Rattle.bd_outside.specs.Memory.{MemoryHost, host_of, next_fails, failed_call, absent_call, read_call, open_call, close_call, IsDiskOver};
+ghost use Rattle.bd_outside.specs.Memory.{MemoryHost, host_of, next_fails, failed_call, absent_call, read_call, open_call, close_call, IsDiskOver, fails_of, memory_state};
+ghost use Rattle.bd_outside.specs.Opening.{open_row, rows_closed};
 ghost use Rattle.bd_outside.specs.declared.opening.Opening.{Opening};
 
 use crate::disk::Disk;
 use crate::host::{Host, HostNo};
 use crate::mem_disk::MemDisk;
 use crate::opening::{Closing, Opening};
-use bd_base::{Bytes, Name, OutOfMemory};
+use bd_base::{Bytes, Name, OutOfMemory, Rows};
 use std::alloc::Global;
 use std::marker::Model;
 
 /// Files in memory by name (of two with one name the first counts), and a list of the calls that
-/// fail. Calls of `read_at` and `open_disk` are numbered from 1.
+/// fail. Calls of `read_at` and `open_disk` are numbered from 1. The disks over a name may have
+/// failing calls too.
 #[derive(Debug, Drop)]
 pub struct MemHost {
     files: Vec<(Name, Bytes)>,
     openings: Vec<Opening>,
     rows: u32,
     fails: Vec<u64>,
+    disk_fails: Vec<(Name, Rows<u64>)>,
     calls: u64,
     faults: u64,
     absences: u64,
@@ -34,6 +38,7 @@ impl Model for MemHost {
       openings = h.openings.items;
       rows = h.rows;
       fails = h.fails.items;
+      disk_fails = h.disk_fails.items;
       calls = h.calls;
       faults = h.faults;
       absences = h.absences;
@@ -42,7 +47,7 @@ impl Model for MemHost {
 
 impl MemHost {
     /// A host of these files, which opens at most `rows` disks in all and keeps a row of each; or
-    /// out of memory. An opening beyond the rows answers Failed.
+    /// out of memory. An opening beyond the rows answers Failed. None of its disks fails.
     pub fn new(
         alloc: Global,
         files: Vec<(Name, Bytes)>,
@@ -57,10 +62,20 @@ impl MemHost {
             openings,
             rows,
             fails,
+            disk_fails: Vec::new(alloc),
             calls: 0,
             faults: 0,
             absences: 0,
         })
+    }
+
+    /// This host, whose disks fail from now on at these calls, by the names of their files. Of two
+    /// rows with one name the first counts; a disk without a row never fails.
+    pub fn with_disk_fails(mut self, disk_fails: Vec<(Name, Rows<u64>)>) -> MemHost
+        ensures { result ≡ record self { disk_fails = disk_fails.items } }
+    {
+        self.disk_fails = disk_fails;
+        self
     }
 
     /// The openings so far, in order.
@@ -115,7 +130,7 @@ impl MemHost {
 }
 
 // The file of a name.
-fn find<'a>(files: &'a [(Name, Bytes)], name: &[u8]) -> Option<&'a Bytes>
+pub(crate) fn find<'a>(files: &'a [(Name, Bytes)], name: &[u8]) -> Option<&'a Bytes>
     ensures { MatchOption result (file_of name.now files.now ≡ NoFile) (λ file. file_of name.now files.now ≡ Content file.now) }
 {
     for file in files {
@@ -126,8 +141,20 @@ fn find<'a>(files: &'a [(Name, Bytes)], name: &[u8]) -> Option<&'a Bytes>
     None
 }
 
+// The failing calls of a disk over the file of a name.
+fn fails_of<'a>(rows: &'a [(Name, Rows<u64>)], name: &[u8]) -> &'a [u64]
+    ensures { result.now ≡ fails_of name.now rows.now }
+{
+    for row in rows {
+        if row.0.as_slice() == name {
+            return row.1.as_slice();
+        }
+    }
+    &[]
+}
+
 // Copies a file's bytes from a place on, as many as there are and fit.
-fn copy_from(file: &[u8], at: u64, to: &mut [u8]) -> usize
+pub(crate) fn copy_from(file: &[u8], at: u64, to: &mut [u8]) -> usize
     ensures most { result ≡ min (length to.old) (length (drop at file.now)) }
     ensures given { GivesPiece (Content file.now) at result to.new }
 {
@@ -138,6 +165,42 @@ fn copy_from(file: &[u8], at: u64, to: &mut [u8]) -> usize
     let n = rest.len().min(to.len());
     to[..n].copy_from_slice(&rest[..n]);
     n
+}
+
+// Adds the row of an opening. Out of memory leaves the rows.
+pub(crate) fn add_row(rows: &mut Vec<Opening>, name: &str, blocks: u64) -> Result<(), OutOfMemory>
+    ensures added { OnOk result (rows.new.items ≡ rows.old.items ++ open_row name.now blocks ∷ []) }
+    ensures same { OnErr result (rows.new.items ≡ rows.old.items) }
+{
+    let name = Name::from_slice(*rows.allocator(), name.as_bytes())?;
+    let row = Opening {
+        name,
+        blocks,
+        closing: None,
+    };
+    rows.push(row)?;
+    Ok(())
+}
+
+// Fills the row of a disk that is closed by that name, if it has one that stands open.
+pub(crate) fn close_row(rows: &mut Vec<Opening>, name: &str, disk: MemDisk)
+    ensures { rows.new.items ≡ rows_closed rows.old.items disk.place name.now (closing_of (memory_state disk)) }
+{
+    let (faults, flushes, place) = (disk.faults(), disk.flushes(), disk.place());
+    let closing = Closing {
+        content: Some(disk.into_content()),
+        faults,
+        flushes,
+    };
+    let Some(place) = place else {
+        return;
+    };
+    if (place as usize) < rows.len() {
+        let row = &mut rows[place as usize];
+        if row.name.as_slice() == name.as_bytes() && row.closing.is_none() {
+            row.closing = Some(closing);
+        }
+    }
 }
 
 impl Host for MemHost {
@@ -175,7 +238,8 @@ impl Host for MemHost {
     /// fails, where there is a row for each opening that may be made, and where it is out of memory.
     fn open_disk(&mut self, name: &str, block_size: u32) -> Result<MemDisk, HostNo>
         requires { 0 < block_size }
-        ensures disk { IfOk result (λ d. IsDiskOver (file_of name.now self.old.files) block_size (length self.old.openings) d) }
+        ensures disk { IfOk result (λ d. IsDiskOver (file_of name.now self.old.files) (fails_of name.now self.old.disk_fails)
+            block_size (length self.old.openings) d) }
         ensures row { IfOk result (λ d. self.new ≡ open_call self.old name.now d.blocks) }
         ensures listed { IsTrue (next_fails self.old) → IsErrOf result HostNo.Failed }
         ensures full { self.old.rows ≤ length self.old.openings → IsErr result }
@@ -197,16 +261,12 @@ impl Host for MemHost {
             return Err(self.fault());
         }
         let alloc = *self.openings.allocator();
-        let (Ok(name), Ok(content)) = (Name::from_slice(alloc, name.as_bytes()), file.copy()) else {
+        let fails = Vec::from_slice(alloc, fails_of(self.disk_fails.as_slice(), name.as_bytes()));
+        let (Ok(content), Ok(fails)) = (file.copy(), fails) else {
             return Err(self.fault());
         };
-        let disk = MemDisk::opened(content, block_size, Some(place as u32));
-        let row = Opening {
-            name,
-            blocks: disk.blocks(),
-            closing: None,
-        };
-        if self.openings.push(row).is_err() {
+        let disk = MemDisk::opened(content, block_size, fails, Some(place as u32));
+        if add_row(&mut self.openings, name, disk.blocks()).is_err() {
             return Err(self.fault());
         }
         Ok(disk)
@@ -215,21 +275,6 @@ impl Host for MemHost {
     fn close_disk(&mut self, name: &str, disk: MemDisk)
         ensures { self.new ≡ close_call self.old name.now disk }
     {
-        let flushes = disk.flushes();
-        let place = disk.place();
-        let closing = Closing {
-            content: Some(disk.into_content()),
-            faults: 0,
-            flushes,
-        };
-        let Some(place) = place else {
-            return;
-        };
-        if (place as usize) < self.openings.len() {
-            let row = &mut self.openings[place as usize];
-            if row.name.as_slice() == name.as_bytes() && row.closing.is_none() {
-                row.closing = Some(closing);
-            }
-        }
+        close_row(&mut self.openings, name, disk);
     }
 }

@@ -4,3 +4,4 @@ pub mod Steps
 pub mod Chunks
 pub mod Ranges
 pub mod Even
+pub mod Fills

@@ -1,4 +1,5 @@
 pub mod Bytes
 pub mod Leaf
 pub mod Table
+pub mod Fills
 pub mod Pages

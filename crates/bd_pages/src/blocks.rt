@@ -1,11 +1,12 @@
 //! The blocks alone, without what is told of pages.
-ghost use Rattle.std.specs.Prelude.{◌≡◌, ◌+◌, ◌≤◌, ◌++◌, length, nat_le, replicate, take, drop, IfOk, OnOk, OnErr};
+ghost use Rattle.std.specs.Prelude.{◌≡◌, ◌+◌, ◌<◌, ◌≤◌, ◌^◌, ◌++◌, length, nat_le, replicate, take, drop, IfOk, OnOk, OnErr};
 ghost use Rattle.std.specs.List.{concat};
 ghost use Rattle.sha2.specs.Sha256.{sha256};
+ghost use Rattle.bd_pages.specs.Fills.{filled};
 ghost use Rattle.bd_pages.specs.Pages.{cut_as, zeroed};
 
 use crate::pages::Pages;
-use bd_base::{Bytes, OutOfMemory};
+use bd_base::{Bytes, Fill, OutOfMemory};
 use std::alloc::Global;
 use std::marker::Model;
 
@@ -79,6 +80,25 @@ impl Blocks {
     {
         let _size = self.pages.size();
         self.pages.write(alloc, lba, count, bytes)
+    }
+
+    /// Puts what a write brings into `count` blocks from `lba` on, of which the first has this number on
+    /// the device that was written: the pattern of its seed, and where it says so byte 0 complemented.
+    /// Out of memory, the blocks are as they were.
+    pub fn fill(
+        &mut self,
+        alloc: Global,
+        lba: u64,
+        count: u64,
+        fill: Fill,
+        number: u64,
+    ) -> Result<(), OutOfMemory>
+        requires inside { lba + count ≤ length self.old }
+        requires numbered { number + count < 2 ^ 64 }
+        ensures ok { OnOk result (self.new ≡ take lba self.old ++ filled fill number (take count (drop lba self.old)) ++ drop (lba + count) self.old) }
+        ensures err { OnErr result (self.new ≡ self.old) }
+    {
+        self.pages.fill(alloc, lba, count, fill, number)
     }
 
     /// Makes every byte of `count` blocks from `lba` on 0. It takes no memory.

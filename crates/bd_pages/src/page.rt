@@ -1,10 +1,11 @@
 //! One page: a part of a device's bytes, which takes memory only once a write needs it.
 ghost use Rattle.std.specs.Prelude.{◌≡◌, ◌+◌, ◌≤◌, ◌++◌, ℕ, List, true, false, length, min, replicate, take, drop, IfOk, OnOk, OnErr};
 ghost use Rattle.sha2.specs.Hashers.{Holds256};
+ghost use Rattle.bd_base.specs.Pattern.{pattern};
 ghost use Rattle.bd_pages.specs.Bytes.{written};
 ghost use Rattle.bd_pages.specs.Leaf.{Leaf};
 
-use bd_base::OutOfMemory;
+use bd_base::{OutOfMemory, fill_pattern};
 use sha2::{Digest, Sha256};
 use std::alloc::Global;
 use std::marker::Model;
@@ -118,6 +119,17 @@ impl Page {
     {
         if let Some(memory) = &mut self.memory {
             memory[at..at + bytes.len()].copy_from_slice(bytes);
+        }
+    }
+
+    /// Puts the pattern of a seed into `n` bytes from a place on, as at the beginning of a block.
+    pub(crate) fn fill(&mut self, at: usize, n: usize, seed: u64, block: u64)
+        requires taken { self.old.taken ≡ true }
+        requires inside { at + n ≤ length self.old.bytes }
+        ensures { self.new ≡ record self.old { bytes = written at (pattern seed block n) self.old.bytes } }
+    {
+        if let Some(memory) = &mut self.memory {
+            fill_pattern(seed, block, &mut memory[at..at + n]);
         }
     }
 

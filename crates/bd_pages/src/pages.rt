@@ -1,13 +1,14 @@
 //! The blocks of a device over its pages.
-ghost use Rattle.std.specs.Prelude.{◌≡◌, ◌+◌, ◌*◌, ◌≤◌, ◌++◌, false, length, nat_le, replicate, take, drop, All, IfOk, OnOk, OnErr, count_by};
+ghost use Rattle.std.specs.Prelude.{◌≡◌, ◌+◌, ◌*◌, ◌<◌, ◌≤◌, ◌^◌, ◌++◌, false, length, nat_le, replicate, take, drop, All, IfOk, OnOk, OnErr, count_by};
 ghost use Rattle.std.specs.List.{concat};
 ghost use Rattle.sha2.specs.Sha256.{sha256};
+ghost use Rattle.bd_pages.specs.Fills.{filled};
 ghost use Rattle.bd_pages.specs.Pages.{Paged, blocks_of, zeroed};
 ghost use Rattle.bd_pages.specs.Table.{pages_of, touched};
 
 use crate::page::Page;
-use crate::table;
-use bd_base::{Bytes, OutOfMemory};
+use crate::table::{self, Span};
+use bd_base::{Bytes, Fill, OutOfMemory};
 use std::alloc::Global;
 use std::marker::Model;
 
@@ -104,6 +105,34 @@ impl Pages {
     {
         let at = lba as usize * self.size as usize;
         table::write(alloc, self.pages.as_mut_slice(), at, bytes)
+    }
+
+    /// Puts what a write brings into `count` blocks from `lba` on, of which the first has this number on
+    /// the device that was written: the pattern of its seed, and where it says so byte 0 complemented.
+    /// As with `write`, every page is taken before anything changes, and out of memory, blocks and
+    /// taken pages are as they were.
+    pub fn fill(
+        &mut self,
+        alloc: Global,
+        lba: u64,
+        count: u64,
+        fill: Fill,
+        number: u64,
+    ) -> Result<(), OutOfMemory>
+        requires inside { lba + count ≤ length self.old.blocks }
+        requires numbered { number + count < 2 ^ 64 }
+        ensures size { self.new.size ≡ self.old.size }
+        ensures blocks { OnOk result (self.new.blocks ≡ take lba self.old.blocks ++ filled fill number (take count (drop lba self.old.blocks)) ++ drop (lba + count) self.old.blocks) }
+        ensures taken { OnOk result (self.new.taken ≡ touched (lba * self.old.size) (count * self.old.size) self.old.taken) }
+        ensures err { OnErr result (self.new ≡ self.old) }
+    {
+        let size = self.size as usize;
+        let span = Span {
+            at: lba as usize * size,
+            size,
+            count: count as usize,
+        };
+        table::fill(alloc, self.pages.as_mut_slice(), span, fill, number)
     }
 
     /// Makes every byte of `count` blocks from `lba` on 0. It takes no memory, and the pages taken

@@ -1,12 +1,14 @@
 //! The pages of a device in order: their bytes, read and written over several pages.
 ghost use Rattle.std.specs.Prelude.{◌≡◌, ◌+◌, ◌*◌, ◌/◌, ◌%◌, ◌-◌, ◌^◌, ◌<◌, ◌≤◌, ◌++◌, ℕ, Bool, true, false, min, length, replicate, take, drop, IfOk, OnOk, OnErr, slice_index_or, count_by};
 ghost use Rattle.sha2.specs.Sha256.{sha256};
+ghost use Rattle.bd_base.specs.Pattern.{pattern, pattern_byte};
 ghost use Rattle.bd_pages.specs.Bytes.{written};
+ghost use Rattle.bd_pages.specs.Fills.{bytes_filled, patterns};
 ghost use Rattle.bd_pages.specs.Leaf.{Leaf};
 ghost use Rattle.bd_pages.specs.Table.{AreReady, AreTaken, IsPaged, SameContents, flat, marks, pages_of, pieces, touched};
 
 use crate::page::Page;
-use bd_base::OutOfMemory;
+use bd_base::{Fill, OutOfMemory};
 use sha2::{Digest, Sha256};
 use std::alloc::Global;
 
@@ -139,6 +141,27 @@ fn mark(pages: &mut [Page], first: usize, end: usize)
     }
 }
 
+// Takes every page that has one of the `n` bytes from a place on, and changes no byte. Out of memory,
+// the pages taken are as they were, and memory that was got is given back.
+fn take(alloc: Global, pages: &mut [Page], at: usize, n: usize) -> Result<(), OutOfMemory>
+    requires paged { IsPaged pages.old }
+    requires inside { at + n ≤ length (flat pages.old) }
+    requires small { at + n < 2 ^ 64 }
+    ensures bytes { pieces pages.new ≡ pieces pages.old }
+    ensures ok { OnOk result (marks pages.new ≡ touched at n (marks pages.old)) }
+    ensures taken { OnOk result (AreTaken (at / 65536) (at / 65536 + pages_of at n) pages.new) }
+    ensures err { OnErr result (marks pages.new ≡ marks pages.old) }
+{
+    let first = at / PAGE;
+    let end = end_of(at, n);
+    if let Err(e) = prepare(alloc, pages, first, end) {
+        release(pages, first, end);
+        return Err(e);
+    }
+    mark(pages, first, end);
+    Ok(())
+}
+
 /// Writes bytes from a place on. Every page that they need is taken before anything changes; out of
 /// memory, the bytes and the pages taken are as they were, and memory that was taken is given back.
 pub(crate) fn write(
@@ -156,14 +179,94 @@ pub(crate) fn write(
     ensures taken { OnOk result (marks pages.new ≡ touched at (length bytes.now) (marks pages.old)) }
     ensures err { OnErr result (SameContents pages.old pages.new) }
 {
-    let first = at / PAGE;
-    let end = end_of(at, bytes.len());
-    if let Err(e) = prepare(alloc, pages, first, end) {
-        release(pages, first, end);
-        return Err(e);
-    }
-    mark(pages, first, end);
+    take(alloc, pages, at, bytes.len())?;
     put(pages, at, bytes);
+    Ok(())
+}
+
+// A seed whose pattern is this one's from byte `from` on.
+fn shifted(seed: u64, from: usize) -> u64
+    ensures { result ≡ seed % 256 + 7 * (from % 256) }
+{
+    seed % 256 + 7 * (from % 256) as u64
+}
+
+// Puts the pattern of a seed into the block of `n` bytes from a place on, on pages that are taken.
+fn fill_block(pages: &mut [Page], at: usize, n: usize, seed: u64, block: u64)
+    requires paged { IsPaged pages.old }
+    requires inside { at + n ≤ length (flat pages.old) }
+    requires small { at + n < 2 ^ 64 }
+    requires ready { AreTaken (at / 65536) (at / 65536 + pages_of at n) pages.old }
+    ensures bytes { flat pages.new ≡ written at (pattern seed block n) (flat pages.old) }
+    ensures paged { IsPaged pages.new }
+    ensures taken { marks pages.new ≡ marks pages.old }
+{
+    let mut done = 0;
+    while done < n {
+        let place = at + done;
+        let count = reach(place, n - done);
+        pages[place / PAGE].fill(place % PAGE, count, shifted(seed, done), block);
+        done += count;
+    }
+}
+
+/// Blocks one after another: where the first begins, the bytes of each, and how many there are.
+#[derive(Clone, Copy)]
+pub(crate) struct Span {
+    pub(crate) at: usize,
+    pub(crate) size: usize,
+    pub(crate) count: usize,
+}
+
+// Puts the pattern of a seed into blocks, of which the first has this number, on pages that are taken.
+fn fill_blocks(pages: &mut [Page], span: Span, seed: u64, number: u64)
+    requires paged { IsPaged pages.old }
+    requires inside { span.at + span.count * span.size ≤ length (flat pages.old) }
+    requires small { span.at + span.count * span.size < 2 ^ 64 }
+    requires numbered { number + span.count < 2 ^ 64 }
+    requires ready { AreTaken (span.at / 65536) (span.at / 65536 + pages_of span.at (span.count * span.size)) pages.old }
+    ensures bytes { flat pages.new ≡ written span.at (patterns seed number span.size span.count) (flat pages.old) }
+    ensures paged { IsPaged pages.new }
+    ensures taken { marks pages.new ≡ marks pages.old }
+{
+    let size = span.size;
+    for k in 0..span.count {
+        fill_block(pages, span.at + k * size, size, seed, number + k as u64);
+    }
+}
+
+// Byte 0 of a block of the pattern of a seed, complemented.
+fn first_turned(seed: u64, block: u64) -> u8
+    ensures { result ≡ 255 - pattern_byte seed block 0 }
+{
+    255 - ((seed % 256 + 31 * (block % 256)) % 256) as u8
+}
+
+/// Puts what a write brings into blocks, of which the first has this number. Every page that they need
+/// is taken before anything changes; out of memory, the bytes and the pages taken are as they were.
+pub(crate) fn fill(
+    alloc: Global,
+    pages: &mut [Page],
+    span: Span,
+    fill: Fill,
+    number: u64,
+) -> Result<(), OutOfMemory>
+    requires paged { IsPaged pages.old }
+    requires inside { span.at + span.count * span.size ≤ length (flat pages.old) }
+    requires small { span.at + span.count * span.size < 2 ^ 64 }
+    requires numbered { number + span.count < 2 ^ 64 }
+    ensures paged { IsPaged pages.new }
+    ensures len { length (flat pages.new) ≡ length (flat pages.old) }
+    ensures bytes { OnOk result (flat pages.new ≡ written span.at (bytes_filled fill number span.size span.count) (flat pages.old)) }
+    ensures taken { OnOk result (marks pages.new ≡ touched span.at (span.count * span.size) (marks pages.old)) }
+    ensures err { OnErr result (SameContents pages.old pages.new) }
+{
+    let len = span.count * span.size;
+    take(alloc, pages, span.at, len)?;
+    fill_blocks(pages, span, fill.seed, number);
+    if fill.flip && len > 0 {
+        put(pages, span.at, &[first_turned(fill.seed, number)]);
+    }
     Ok(())
 }
 

@@ -1,7 +1,9 @@
 //! Files of the system, which tell nothing to a contract.
 ghost use Rattle.std.specs.Prelude.{◌≡◌, ◌≤◌, length, None, IfOk};
+ghost use Rattle.bd_outside.specs.Count.{Rises};
 
-use bd_outside::{Host, HostNo, MemDisk};
+use crate::disk::SystemDisk;
+use bd_outside::{Host, HostNo};
 use std::alloc::Global;
 use std::fs;
 use std::io::{self, ErrorKind, Read, Seek, SeekFrom};
@@ -90,13 +92,30 @@ impl<'a, R: Files> SystemHost<'a, R> {
             absences: 0,
         }
     }
+
+    // Counts a failure, by its kind: no such file, or another one.
+    fn count(&mut self, no: io::Error) -> HostNo
+        ensures same_files { self.new.files ≡ self.old.files }
+        ensures absent { result ≡ HostNo.Absent → Rises self.old.absences self.new.absences × (self.new.faults ≡ self.old.faults) }
+        ensures failed { result ≡ HostNo.Failed → Rises self.old.faults self.new.faults × (self.new.absences ≡ self.old.absences) }
+        ensures fault_count { self.old.faults ≤ self.new.faults }
+        ensures absence_count { self.old.absences ≤ self.new.absences }
+    {
+        if no.kind() == ErrorKind::NotFound {
+            self.absences = self.absences.saturating_add(1);
+            HostNo::Absent
+        } else {
+            self.faults = self.faults.saturating_add(1);
+            HostNo::Failed
+        }
+    }
 }
 
 impl<R: Files> Host for SystemHost<'_, R> {
     ghost use Rattle.std.specs.Prelude.{None};
     ghost use Rattle.bd_outside.specs.File.{Untold};
 
-    type Disk = MemDisk;
+    type Disk = SystemDisk<R::File>;
 
     ghost state = { λ h. record {
       faults = λ name. h.faults;
@@ -108,26 +127,25 @@ impl<R: Files> Host for SystemHost<'_, R> {
     /// Absent where the system says that there is no such file. Every other failure, as of a
     /// folder, a path through a file or a file that may not be read, is Failed.
     fn read_at(&mut self, name: &str, at: u64, to: &mut [u8]) -> Result<usize, HostNo> {
-        let no = match self.files.read(name, at, to) {
-            Ok(n) => return Ok(n),
-            Err(no) => no.kind(),
-        };
-        if no == ErrorKind::NotFound {
-            self.absences = self.absences.saturating_add(1);
-            Err(HostNo::Absent)
-        } else {
-            self.faults = self.faults.saturating_add(1);
-            Err(HostNo::Failed)
+        match self.files.read(name, at, to) {
+            Ok(n) => Ok(n),
+            Err(no) => Err(self.count(no)),
         }
     }
 
-    /// Opens nothing: no device that is built today has a disk. It always answers Failed.
-    fn open_disk(&mut self, _name: &str, _block_size: u32) -> Result<MemDisk, HostNo> {
-        self.faults = self.faults.saturating_add(1);
-        Err(HostNo::Failed)
+    /// Opens a regular file for reading and writing. Absent where the system says that there is no
+    /// such file. Every other failure is Failed, also of a file that isn't a regular one.
+    fn open_disk(&mut self, name: &str, block_size: u32) -> Result<SystemDisk<R::File>, HostNo> {
+        match SystemDisk::open(self.files.rt, name, block_size) {
+            Ok(disk) => Ok(disk),
+            Err(no) => Err(self.count(no)),
+        }
     }
 
-    fn close_disk(&mut self, _name: &str, _disk: MemDisk) {}
+    /// Closes the disk's file.
+    fn close_disk(&mut self, _name: &str, disk: SystemDisk<R::File>) {
+        drop(disk);
+    }
 }
 
 #[cfg(test)]

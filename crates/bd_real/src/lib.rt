@@ -3,9 +3,11 @@
 #![tactic(auto)]
 
 mod clock;
+mod disk;
 mod host;
 mod output;
 
 pub use clock::SystemClock;
+pub use disk::SystemDisk;
 pub use host::SystemHost;
 pub use output::{Output, SteadyWrite};

@@ -4,7 +4,7 @@ mod disk;
 use crate::steps::{Subject, said, told};
 use crate::words::{escaped, first_word, number};
 use bd_base::{Bytes, Name, OutOfMemory};
-use bd_outside::{Clock, Host, MemHost, MemSink, Sink, StillClock};
+use bd_outside::{Clock, Host, MemHost, MemSink, Sink, StepClock, StillClock};
 use std::alloc::Global;
 
 pub(crate) fn answer(alloc: Global, case: &str) -> Result<String, OutOfMemory> {
@@ -15,7 +15,15 @@ pub(crate) fn answer(alloc: Global, case: &str) -> Result<String, OutOfMemory> {
             let (first, second) = (clock.now(), clock.now());
             Ok(format!(in alloc; "{first} {second}")?)
         }
+        "steps" => {
+            let (start, step) = first_word(rest);
+            let clock = StepClock::new(number(start), number(step));
+            let (first, second, third) = (clock.now(), clock.now(), clock.now());
+            Ok(format!(in alloc; "{first} {second} {third}")?)
+        }
+        "calm" => disk::calm(alloc),
         "disk" => disk::written(alloc),
+        "failing" => disk::failing(alloc),
         "files" => told(alloc, &mut two_files(alloc, 0, &[4])?, rest),
         "openings" => disk::opened(alloc),
         "sink" => taken(alloc, rest),

@@ -1,21 +1,12 @@
 //! The machine played by hand: a whole trace, and entries that it refuses. Digests are by python's
 //! hashlib.
-use bd_base::{
-    Act, Answer, ApplyEnd, ClaimKind, DevId, DevRow, Dropped, Entry, Errno, Fill, HandleId, Job,
-    Kind, Line, Name, Op, OutOfMemory, Outcome, RegEvent, ReqId, Rows, Script, Setup, Shown,
-    Status, ThreadSet, Token,
-};
-use bd_play::{Machine, StepNo};
+use crate::tests::deeds::{Ask, Deed, What, answer_to, answer_with, is_complete};
+use crate::tests::setups::{PLAIN, WRITE, Word, setup};
+use bd_base::{ApplyEnd, ClaimKind, Errno, Op, OutOfMemory, Outcome, ReqId, Setup, Shown, Status};
+use bd_play::StepNo;
 use std::alloc::Global;
-
-const DEV: DevId = DevId(0);
-
-const HANDLE: HandleId = HandleId(0);
-
-const WRITE: Op = Op::Write(Fill {
-    seed: 5,
-    flip: false,
-});
+use std::process::Abort;
+use std::test::Fail;
 
 // The block that the script writes and reads: its first bytes and its digest.
 const SHOWN: Shown = Shown {
@@ -32,267 +23,17 @@ const CONTENT: [u8; 32] = [
     251, 136, 153, 208, 34, 149, 94, 112, 182, 217, 127, 87, 198,
 ];
 
-// A line of the script, on the handle h and block 0 of Malloc0.
-#[derive(Clone, Copy)]
-enum Word {
-    Open,
-    Submit(Op),
-    // A read of the first block past the end.
-    Beyond,
-    Wait,
-    Claim,
-    Close,
-}
-
 const SCRIPT: [Word; 8] = [
-    Word::Open,
-    Word::Submit(WRITE),
+    Word::Open("h", "Malloc0", true),
+    Word::Submit("h", WRITE, 0, 1),
     Word::Wait,
-    Word::Submit(Op::Read),
+    Word::Submit("h", Op::Read, 0, 1),
     Word::Wait,
-    Word::Beyond,
-    Word::Claim,
-    Word::Close,
+    // the first block past the end
+    Word::Submit("h", Op::Read, 64, 1),
+    Word::Claim("h", ClaimKind::Exclusive),
+    Word::Close("h"),
 ];
-
-fn job(alloc: Global, word: Word) -> Result<Job, OutOfMemory> {
-    let handle = Name::from_slice(alloc, b"h")?;
-    match word {
-        Word::Open => {
-            let dev = Name::from_slice(alloc, b"Malloc0")?;
-            let write = true;
-            Ok(Job::Open { handle, dev, write })
-        }
-        Word::Submit(op) => Ok(Job::Submit {
-            handle,
-            op,
-            lba: 0,
-            count: 1,
-        }),
-        Word::Beyond => Ok(Job::Submit {
-            handle,
-            op: Op::Read,
-            lba: 64,
-            count: 1,
-        }),
-        Word::Wait => Ok(Job::Wait),
-        Word::Claim => Ok(Job::Claim {
-            handle,
-            kind: ClaimKind::Exclusive,
-        }),
-        Word::Close => Ok(Job::Close { handle }),
-    }
-}
-
-fn lines(alloc: Global) -> Result<Rows<Line>, OutOfMemory> {
-    let mut lines = Rows::new(alloc);
-    let mut number: u32 = 1;
-    for word in &SCRIPT {
-        let job = job(alloc, *word)?;
-        lines.push(Line { number, job })?;
-        number = number.saturating_add(1);
-    }
-    Ok(lines)
-}
-
-fn device(alloc: Global) -> Result<DevRow, OutOfMemory> {
-    let name = Name::from_slice(alloc, b"Malloc0")?;
-    Ok(DevRow {
-        name,
-        kind: Kind::Malloc,
-        base: None,
-        blocks: 64,
-        size: 512,
-        boundary: 0,
-        depth: 128,
-        file: None,
-        group: 0,
-    })
-}
-
-// One thread, one malloc device of 64 blocks of 512 bytes, one script.
-fn setup(alloc: Global) -> Result<Setup, OutOfMemory> {
-    let mut devices = Rows::new(alloc);
-    devices.push(device(alloc)?)?;
-    let lines = lines(alloc)?;
-    let mut scripts = Rows::new(alloc);
-    scripts.push(Script { thread: 0, lines })?;
-    Ok(Setup {
-        threads: 1,
-        devices,
-        rates: Rows::new(alloc),
-        injections: Rows::new(alloc),
-        waiting: Rows::new(alloc),
-        scripts,
-    })
-}
-
-// What thread 0 asks of the registry, with the answer, by what differs.
-#[derive(Clone, Copy)]
-enum Ask {
-    Open(u128),
-    // Whether the channel is made by this get.
-    Get(bool),
-    Claim,
-    Put,
-    Close,
-    Drop,
-    Remove,
-    Destructed,
-}
-
-// What a message carries: a piece, the channel that is to be dropped, or the device that is to be destructed.
-#[derive(Clone, Copy)]
-enum What {
-    Piece(u64, u32),
-    Channel,
-    Device,
-}
-
-// An act of thread 0, by what differs.
-#[derive(Clone, Copy)]
-enum Deed {
-    Reg(Ask),
-    Accept(ReqId, u32, Op, u64),
-    Refuse(Op, u64),
-    Cut(u64, u32),
-    Put(u128, What),
-    Took(u128, What),
-    Apply(u64, ApplyEnd),
-    Complete(u64, Status, Option<Shown>),
-    Script(u32, Outcome),
-    Shutdown,
-    Destruct(u32, Option<[u8; 32]>),
-    Pend,
-}
-
-fn req(seq: u64) -> ReqId {
-    ReqId { thread: 0, seq }
-}
-
-fn event(alloc: Global, ask: Ask) -> Result<RegEvent, OutOfMemory> {
-    let name = Name::from_slice(alloc, b"Malloc0")?;
-    match ask {
-        Ask::Open(_) => Ok(RegEvent::Open { name, write: true }),
-        Ask::Get(_) => Ok(RegEvent::GetChannel { dev: DEV }),
-        Ask::Claim => Ok(RegEvent::Claim {
-            handle: HANDLE,
-            kind: ClaimKind::Exclusive,
-        }),
-        Ask::Put => Ok(RegEvent::PutChannel {
-            dev: DEV,
-            closing: true,
-        }),
-        Ask::Close => Ok(RegEvent::Close { handle: HANDLE }),
-        Ask::Drop => Ok(RegEvent::DropChannel { dev: DEV }),
-        Ask::Remove => Ok(RegEvent::BeginRemove { name }),
-        Ask::Destructed => Ok(RegEvent::Destructed { dev: DEV }),
-    }
-}
-
-fn answer(alloc: Global, ask: Ask) -> Answer {
-    match ask {
-        Ask::Open(handle) => Answer::Opened {
-            handle: HandleId(handle),
-            dev: DEV,
-        },
-        Ask::Get(fresh) => Answer::Got {
-            fresh,
-            frozen: Rows::new(alloc),
-        },
-        Ask::Claim => Answer::Claimed,
-        Ask::Put => Answer::PutDown { left: 0 },
-        Ask::Close => Answer::Closed { destruct: None },
-        Ask::Drop => Answer::Dropped {
-            what: Dropped::Last,
-            zero: None,
-            destruct: None,
-        },
-        Ask::Remove => Answer::Removing {
-            dev: DEV,
-            threads: ThreadSet::empty(),
-            handles: Rows::new(alloc),
-            destruct: Some(DEV),
-        },
-        Ask::Destructed => Answer::Freed { close: None },
-    }
-}
-
-fn token(what: What) -> Token {
-    match what {
-        What::Piece(seq, k) => Token::Piece(req(seq), k),
-        What::Channel => Token::Channel(DEV),
-        What::Device => Token::Device(DEV),
-    }
-}
-
-fn accepted(req: ReqId, dev: DevId, op: Op, lba: u64) -> Act {
-    Act::Accept {
-        req,
-        dev,
-        handle: HANDLE,
-        op,
-        lba,
-        count: 1,
-    }
-}
-
-fn refused(op: Op, lba: u64) -> Act {
-    Act::Refuse {
-        handle: Some(HANDLE),
-        op,
-        lba,
-        count: 1,
-        errno: Errno::Inval,
-    }
-}
-
-fn applied(req: ReqId, end: ApplyEnd) -> Act {
-    Act::Apply {
-        req,
-        k: 0,
-        dev: DEV,
-        end,
-    }
-}
-
-fn act(alloc: Global, deed: Deed) -> Result<Act, OutOfMemory> {
-    match deed {
-        Deed::Reg(ask) => Ok(Act::Reg {
-            event: event(alloc, ask)?,
-            answer: answer(alloc, ask),
-        }),
-        Deed::Accept(req, dev, op, lba) => Ok(accepted(req, DevId(dev), op, lba)),
-        Deed::Refuse(op, lba) => Ok(refused(op, lba)),
-        Deed::Cut(seq, pieces) => Ok(Act::Cut {
-            req: req(seq),
-            pieces,
-        }),
-        Deed::Put(number, what) => Ok(Act::Put {
-            to: 0,
-            number,
-            what: token(what),
-        }),
-        Deed::Took(number, what) => Ok(Act::Took {
-            source: 0,
-            number,
-            what: token(what),
-        }),
-        Deed::Apply(seq, end) => Ok(applied(req(seq), end)),
-        Deed::Complete(seq, status, shown) => Ok(Act::Complete {
-            req: req(seq),
-            status,
-            shown,
-        }),
-        Deed::Script(line, outcome) => Ok(Act::Script { line, outcome }),
-        Deed::Shutdown => Ok(Act::Shutdown),
-        Deed::Destruct(dev, digest) => Ok(Act::Destruct {
-            dev: DevId(dev),
-            digest,
-        }),
-        Deed::Pend => Ok(Act::Pend { req: req(0) }),
-    }
-}
 
 const ZERO: ReqId = ReqId { thread: 0, seq: 0 };
 
@@ -305,22 +46,22 @@ const TRACE: [Deed; 39] = [
     Deed::Reg(Ask::Open(0)),
     Deed::Reg(Ask::Get(true)),
     Deed::Script(1, Outcome::Done),
-    Deed::Accept(ZERO, 0, WRITE, 0),
+    Deed::Accept(ZERO, 0, WRITE, 0, 1),
     Deed::Script(2, Outcome::Accepted(ZERO)),
     Deed::Cut(0, 1),
     Deed::Put(0, What::Piece(0, 0)),
     Deed::Took(0, What::Piece(0, 0)),
-    Deed::Apply(0, ApplyEnd::Done),
+    Deed::Apply(0, 0, ApplyEnd::Done),
     Deed::Put(1, What::Piece(0, 0)),
     Deed::Took(1, What::Piece(0, 0)),
     Deed::Complete(0, Status::Success, None),
     Deed::Script(3, Outcome::Done),
-    Deed::Accept(ONE, 0, Op::Read, 0),
+    Deed::Accept(ONE, 0, Op::Read, 0, 1),
     Deed::Script(4, Outcome::Accepted(ONE)),
     Deed::Cut(1, 1),
     Deed::Put(2, What::Piece(1, 0)),
     Deed::Took(2, What::Piece(1, 0)),
-    Deed::Apply(1, ApplyEnd::Done),
+    Deed::Apply(1, 0, ApplyEnd::Done),
     Deed::Put(3, What::Piece(1, 0)),
     Deed::Took(3, What::Piece(1, 0)),
     Deed::Complete(1, Status::Success, Some(SHOWN)),
@@ -347,7 +88,7 @@ const TRACE: [Deed; 39] = [
 const REFUSED: [(u32, usize, Deed); 52] = [
     // an act that isn't built, a reset
     (0, 0, Deed::Pend),
-    (0, 3, Deed::Accept(ZERO, 0, Op::Reset, 0)),
+    (0, 3, Deed::Accept(ZERO, 0, Op::Reset, 0, 1)),
     // a put with the wrong number; of a piece that there isn't; of one that is out; of one that
     // wasn't served; of a channel that has a reference; a take before its put; a take of what was
     // taken; of a channel that wasn't put
@@ -381,21 +122,21 @@ const REFUSED: [(u32, usize, Deed); 52] = [
     (7, 31, Deed::Reg(Ask::Drop)),
     // a block that the line doesn't name, a device that isn't the handle's, a block past the end, an
     // id of another thread, an id that is used, a refusal without a cause
-    (8, 3, Deed::Accept(ZERO, 0, WRITE, 1)),
-    (8, 3, Deed::Accept(ZERO, 1, WRITE, 0)),
-    (9, 23, Deed::Accept(TWO, 0, Op::Read, 64)),
+    (8, 3, Deed::Accept(ZERO, 0, WRITE, 1, 1)),
+    (8, 3, Deed::Accept(ZERO, 1, WRITE, 0, 1)),
+    (9, 23, Deed::Accept(TWO, 0, Op::Read, 64, 1)),
     (
         10,
         3,
-        Deed::Accept(ReqId { thread: 1, seq: 0 }, 0, WRITE, 0),
+        Deed::Accept(ReqId { thread: 1, seq: 0 }, 0, WRITE, 0, 1),
     ),
-    (10, 13, Deed::Accept(ZERO, 0, Op::Read, 0)),
+    (10, 13, Deed::Accept(ZERO, 0, Op::Read, 0, 1)),
     (11, 3, Deed::Refuse(WRITE, 0)),
     // cut twice, cut into two, served twice, a fault of memory
     (17, 6, Deed::Cut(0, 1)),
     (18, 5, Deed::Cut(0, 2)),
-    (19, 9, Deed::Apply(0, ApplyEnd::Done)),
-    (20, 8, Deed::Apply(0, ApplyEnd::Fault)),
+    (19, 9, Deed::Apply(0, 0, ApplyEnd::Done)),
+    (20, 8, Deed::Apply(0, 0, ApplyEnd::Fault)),
     // completed without an accept, with a piece out, before the cut, as failed, without its data
     (26, 3, Deed::Complete(0, Status::Success, None)),
     (26, 9, Deed::Complete(0, Status::Success, None)),
@@ -421,68 +162,46 @@ const REFUSED: [(u32, usize, Deed); 52] = [
     (36, 0, Deed::Shutdown),
 ];
 
-// The machine after the first n entries of the trace.
-fn played(alloc: Global, n: usize) -> Result<Machine, StepNo> {
-    let setup = setup(alloc)?;
-    let mut machine = Machine::start(alloc, &setup)?;
-    let mut stamp: u128 = 0;
-    for (i, deed) in TRACE.iter().enumerate() {
-        if i < n {
-            let act = act(alloc, *deed)?;
-            stamp = stamp.saturating_add(1);
-            let thread = 0;
-            let entry = Entry { stamp, thread, act };
-            machine.step(&entry)?;
-        }
-    }
-    Ok(machine)
-}
-
-// How the machine takes an act after the first n entries.
-fn answer_after(
-    alloc: Global,
-    n: usize,
-    stamp: u128,
-    thread: u32,
-    deed: Deed,
-) -> Result<(), StepNo> {
-    let mut machine = played(alloc, n)?;
-    let act = act(alloc, deed)?;
-    let entry = Entry { stamp, thread, act };
-    machine.step(&entry)
+fn one_script(alloc: Global) -> Result<Setup, OutOfMemory> {
+    setup(alloc, 1, PLAIN, &[&SCRIPT])
 }
 
 #[test]
-fn first_path_is_a_complete_run(rt: HostRuntime) {
+fn first_path_is_a_complete_run(rt: HostRuntime) -> Result<(), Fail> {
     let alloc = rt.alloc();
+    let setup = one_script(alloc)?;
     for row in &[(38, false), (39, true)] {
         let (n, complete) = *row;
-        let is_complete = match played(alloc, n) {
-            Ok(machine) => machine.is_complete() == Ok(complete),
-            Err(_) => false,
-        };
-        assert!(rt; is_complete, "after {n} entries");
+        let answer = is_complete(alloc, &setup, TRACE.get(..n).unwrap_or(&[]));
+        assert!(rt; answer == Ok(complete), "after {n} entries");
     }
+    Ok(())
 }
 
-#[test]
-fn each_guard_refuses(rt: HostRuntime) {
-    let alloc = rt.alloc();
+fn each_refuses(rt: &impl Abort, alloc: Global, setup: &Setup) {
     for row in &REFUSED {
         let (guard, after, deed) = *row;
         let refused = Err(StepNo::Illegal { guard, stamp: 100 });
-        let answer = answer_after(alloc, after, 100, 0, deed);
+        let answer = answer_to(alloc, setup, TRACE.get(..after).unwrap_or(&[]), deed);
         assert!(rt; answer == refused, "guard {guard} after {after} entries");
     }
 }
 
 #[test]
-fn stamps_and_threads_are_in_order(rt: HostRuntime) {
-    let alloc = rt.alloc();
+fn each_guard_refuses(rt: HostRuntime) -> Result<(), Fail> {
+    let setup = one_script(rt.alloc())?;
+    each_refuses(&rt, rt.alloc(), &setup);
+    Ok(())
+}
+
+#[test]
+fn stamps_and_threads_are_in_order(rt: HostRuntime) -> Result<(), Fail> {
+    let setup = one_script(rt.alloc())?;
     for row in &[(2, 0), (0, 0), (100, 1)] {
         let (stamp, thread) = *row;
         let refused = Err(StepNo::Illegal { guard: 1, stamp });
-        let answer = answer_after(alloc, 2, stamp, thread, Deed::Shutdown);
+        let answer = answer_with(rt.alloc(), &setup, &TRACE[..2], *row, Deed::Shutdown);
         assert!(rt; answer == refused, "stamp {stamp}, thread {thread}");
     }
+    Ok(())
 }

@@ -1,88 +1,17 @@
 //! The whole call over files and output in memory: what the program's own tests can't bring about.
 //! Expected digests, and which thread a schedule begins with, were computed by another program,
 //! from the rules alone.
-use bd_base::{Bytes, Name};
-use bd_outside::{MemHost, MemSink, OpenGate, StillClock};
-use bd_top::{Fault, Ran, run};
+use crate::tests::outside::{FIRST, ran};
+use bd_outside::MemSink;
+use bd_top::Fault;
 use std::alloc::Global;
-use std::sync::Wait;
 use std::test::Fail;
-use std::thread::Threads;
 
-const CONFIG: [&str; 1] = [
-    "{\"subsystems\":[{\"subsystem\":\"bdev\",\"config\":[{\"method\":\"bdev_malloc_create\",\"params\":{\"name\":\"Malloc0\",\"num_blocks\":64,\"block_size\":512}}]}]}",
-];
-
-const SCRIPT: [&str; 6] = [
-    "0 open h Malloc0 w",
-    "0 write h 0 1 5",
-    "0 wait",
-    "0 read h 0 1",
-    "0 wait",
-    "0 close h",
-];
-
-const REPORT: [&str; 9] = [
-    "job 1 0 open ok",
-    "job 2 0 write success",
-    "job 3 0 wait ok",
-    "job 4 0 read success first 050c131a21282f36 sha256 c3717cf549ddf372826820cc644a3290eb934e51efef437764e816825dbfd7d6",
-    "job 5 0 wait ok",
-    "job 6 0 close ok",
-    "thread 0 accepted 2 success 2 failed 0 aborted 0 refused 0",
-    "device Malloc0 malloc blocks 64 size 512 reads 1 writes 1 read_bytes 512 write_bytes 512 sha256 86cd2c9acac57ea80bb89b887b62a568aafde3fb8899d022955e70b6d97f57c6",
-    "end accepted 2 success 2 failed 0 aborted 0",
-];
+const REPORT: &str =
+    "job 1 0 open ok\njob 2 0 write success\njob 3 0 wait ok\njob 4 0 read success first 050c131a21282f36 sha256 c3717cf549ddf372826820cc644a3290eb934e51efef437764e816825dbfd7d6\njob 5 0 wait ok\njob 6 0 close ok\nthread 0 accepted 2 success 2 failed 0 aborted 0 refused 0\ndevice Malloc0 malloc blocks 64 size 512 reads 1 writes 1 read_bytes 512 write_bytes 512 sha256 86cd2c9acac57ea80bb89b887b62a568aafde3fb8899d022955e70b6d97f57c6\nend accepted 2 success 2 failed 0 aborted 0\n";
 
 // Each of the two threads has something to do at its first turn.
-const TWO_OPENS: [&str; 4] = [
-    "0 open a Malloc0 w",
-    "0 close a",
-    "1 open b Malloc0 w",
-    "1 close b",
-];
-
-// A text of these lines, each with a line feed.
-fn text_of(alloc: Global, lines: &[&str]) -> Result<String, Fail> {
-    let mut text = String::new(alloc);
-    for line in lines {
-        text.push_str(line)?;
-        text.push_str("\n")?;
-    }
-    Ok(text)
-}
-
-fn file(alloc: Global, name: &str, lines: &[&str]) -> Result<(Name, Bytes), Fail> {
-    let text = text_of(alloc, lines)?;
-    let name = Name::from_slice(alloc, name.as_bytes())?;
-    let bytes = Bytes::from_slice(alloc, text.as_bytes())?;
-    Ok((name, bytes))
-}
-
-// Runs these words, after `run`, over the configuration `c` and a script `j`; `e` is a configuration
-// without devices, `n` a script without lines. The host's calls of these numbers fail.
-fn ran<R: AllocGlobal + Threads + Wait + Sync>(
-    rt: &R,
-    words: &[&str],
-    script: &[&str],
-    fails: &[u64],
-    out: &mut MemSink,
-) -> Result<Result<Ran, Fault>, Fail> {
-    let alloc = rt.alloc();
-    let mut files = Vec::new(alloc);
-    files.push(file(alloc, "c", &CONFIG)?)?;
-    files.push(file(alloc, "j", script)?)?;
-    files.push(file(alloc, "e", &["{\"subsystems\":[]}"])?)?;
-    files.push(file(alloc, "n", &[])?)?;
-    let mut host = MemHost::new(alloc, files, 0, Vec::from_slice(alloc, fails)?)?;
-    let mut list = Vec::new(alloc);
-    list.push(String::from_str(alloc, "run")?)?;
-    for word in words {
-        list.push(String::from_str(alloc, word)?)?;
-    }
-    let clock = StillClock::new(0);
-    Ok(run(rt, list.as_slice(), &mut host, out, &clock, &OpenGate))
-}
+const TWO_OPENS: &str = "0 open a Malloc0 w\n0 close a\n1 open b Malloc0 w\n1 close b\n";
 
 // The outside's failures: the host's call that fails (0: none), the room of the output, the words
 // after `run`, the fault's line and status, and what was written before.
@@ -109,7 +38,7 @@ fn faults_of_the_outside(rt: HostRuntime) -> Result<(), Fail> {
     for row in &OUTSIDE {
         let (call, room, words, line, text) = *row;
         let mut out = MemSink::new(alloc, room)?;
-        let fault = match ran(&rt, &words, &SCRIPT, &[call], &mut out)? {
+        let fault = match ran(&rt, &words, FIRST, &[call], &mut out)? {
             Ok(_) => String::new(alloc),
             Err(fault) => format!(in alloc; "{fault}, status {}", fault.status())?,
         };
@@ -126,10 +55,9 @@ fn faults_of_the_outside(rt: HostRuntime) -> Result<(), Fail> {
 #[test]
 fn first_path_or_out_of_memory(rt: HostRuntime) -> Result<(), Fail> {
     let alloc = rt.alloc();
-    let report = text_of(alloc, &REPORT)?;
     let mut out = MemSink::new(alloc, 10_000)?;
-    match ran(&rt, &["c", "j"], &SCRIPT, &[], &mut out)? {
-        Ok(_) => assert!(rt; out.bytes() == report.as_bytes()),
+    match ran(&rt, &["c", "j"], FIRST, &[], &mut out)? {
+        Ok(_) => assert!(rt; out.bytes() == REPORT.as_bytes()),
         Err(fault) => {
             assert!(rt; matches!(fault, Fault::OutOfMemory));
             assert!(rt; out.bytes().is_empty());
@@ -157,7 +85,7 @@ fn a_schedule_says_who_begins(rt: HostRuntime) -> Result<(), Fail> {
     for (schedule, thread) in FIRST_THREADS {
         let words = ["c", "j", "--threads", "2", "--schedule", schedule];
         let mut out = MemSink::new(rt.alloc(), 10_000)?;
-        let first = match ran(&rt, &words, &TWO_OPENS, &[], &mut out)? {
+        let first = match ran(&rt, &words, TWO_OPENS, &[], &mut out)? {
             Ok(ran) => ran.trace.entries().first().map(|entry| entry.thread),
             Err(_) => None,
         };

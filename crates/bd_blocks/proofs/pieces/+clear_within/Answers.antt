@@ -2,7 +2,7 @@ use Rattle.std.proofs.Common.{◌≡◌, ◌+◌, ◌-◌, ◌∙◌, ap, subst,
 use Rattle.std.specs.Prelude.{Option, IfSome}
 use Rattle.std.specs.Option.{option_map}
 use Rattle.bd_base.specs.declared.id.DevId.{DevId}
-use Rattle.bd_machine.specs.BlockMap.{boundary_of, row_of, shift_of_row}
+use Rattle.bd_machine.specs.BlockMap.{row_of, shift_of_row}
 use Rattle.bd_blocks.specs.Cuts.{IsClear, is_multiple}
 use Rattle.bd_blocks.proofs.Cutting.{clear_lower}
 use Rattle.bd_blocks.proofs.pieces.+clear_within.Goals as goal

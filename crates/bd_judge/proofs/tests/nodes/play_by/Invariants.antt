@@ -1,0 +1,5 @@
+use Rattle.bd_node.specs.Whole.{IsNode}
+use Rattle.bd_judge.proofs.tests.nodes.play_by.Given as goal
+
+abbrev pub invariant-loop : goal.invariant-loop
+invariant-loop g l = IsNode l.node

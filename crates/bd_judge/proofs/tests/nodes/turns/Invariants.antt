@@ -1,0 +1,5 @@
+use Rattle.bd_node.specs.Whole.{IsNode}
+use Rattle.bd_judge.proofs.tests.nodes.turns.Given as goal
+
+abbrev pub invariant-loop-thread : goal.invariant-loop-thread
+invariant-loop-thread g l = IsNode l.node

@@ -1,5 +1,0 @@
-use Rattle.bd_node.specs.Whole.{IsNode}
-use Rattle.bd_node.proofs.tests.turns.Given as goal
-
-abbrev pub invariant-loop-thread : goal.invariant-loop-thread
-invariant-loop-thread g l = IsNode l.node
