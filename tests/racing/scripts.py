@@ -16,6 +16,8 @@ Device = namedtuple("Device", "name blocks size kind base", defaults=("malloc", 
 MOST_BYTES = 262144
 # All requests of a script together move at most so many bytes, but for one block each.
 BYTES_IN_ALL = 1 << 20
+# How many pieces the queue of a device takes. What a report may say doesn't depend on it.
+DEPTHS = (1, 128, 2, 3, 1, 8, 1024)
 KINDS = ("exclusive", "one", "none", "shared 7", "shared 8")
 
 
@@ -396,10 +398,15 @@ def script(number):
     return Maker(number).make()
 
 
+def depth_of(made, place):
+    """How many pieces the queue of a device takes."""
+    return DEPTHS[(len(made.text) + place) % len(DEPTHS)]
+
+
 def config(made):
     """The configuration that goes with a script."""
     calls = ", ".join(
-        '{ "method": "bdev_%s_create", "params": { "name": "%s", "num_blocks": %d, "block_size": %d } }' % (kind, name, blocks, size)
-        for name, blocks, size, kind, _ in made.devices
+        '{ "method": "bdev_%s_create", "params": { "name": "%s", "num_blocks": %d, "block_size": %d, "queue_depth": %d } }' % (kind, name, blocks, size, depth_of(made, place))
+        for place, (name, blocks, size, kind, _) in enumerate(made.devices)
     )
     return '{ "subsystems": [ { "subsystem": "bdev", "config": [ %s ] } ] }\n' % calls

@@ -23,6 +23,8 @@ MOST_BYTES = 262144
 MOST_LINES = 20000
 # All requests of a script together move at most so many bytes, but for one block each.
 BYTES_IN_ALL = 4 << 20
+# How many pieces the queue of a base device takes; where it isn't said, 128. What a report may say doesn't depend on it.
+DEPTHS = (1, None, 2, 3, 1, 8, 1024)
 
 
 class Thread:
@@ -545,12 +547,20 @@ def script(number):
     return Maker(number).make()
 
 
+def depth_of(made, place):
+    """How many pieces the queue of a device takes, where the configuration says it."""
+    return DEPTHS[(len(made.text) + place) % len(DEPTHS)]
+
+
 def config(made):
     """The configuration that goes with a script."""
     calls, split = [], set()
-    for row in made.devices:
+    for place, row in enumerate(made.devices):
         if row.kind in ("malloc", "null"):
             params = {"name": row.name, "num_blocks": row.blocks, "block_size": row.size}
+            depth = depth_of(made, place)
+            if depth:
+                params["queue_depth"] = depth
             if row.boundary:
                 params["optimal_io_boundary"] = row.boundary
             calls.append({"method": "bdev_%s_create" % row.kind, "params": params})

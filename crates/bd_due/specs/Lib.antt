@@ -10,3 +10,5 @@ pub mod Tickets
 pub mod Serving
 pub mod Visiting
 pub mod Answering
+pub mod Refusing
+pub mod Returning

@@ -1,7 +1,8 @@
 -- Which request may be aborted, what an abort stops, and what a completion leaves of it: pieces of the request that are still to be put.
-use Rattle.std.specs.Prelude.{ℕ, Bool, false, cond, not, ◌&&◌, List, filter, Option, None, is_none}
+use Rattle.std.specs.Prelude.{ℕ, ◌-◌, Bool, false, cond, not, ◌&&◌, List, filter, length, Option, Some, None, is_none}
 use Rattle.bd_base.specs.declared.act.Token.{Token}
 use Rattle.bd_base.specs.declared.act.Token.TheVariants as tokens
+use Rattle.bd_base.specs.declared.id.DevId.{DevId}
 use Rattle.bd_base.specs.declared.id.ReqId.{ReqId}
 use Rattle.bd_base.specs.declared.request.AbortCause.{AbortCause}
 use Rattle.bd_base.specs.declared.request.Status.{Status}
@@ -11,11 +12,13 @@ use Rattle.bd_machine.specs.declared.state.Id.TheVariants as ids
 use Rattle.bd_machine.specs.declared.state.Kept.{Kept}
 use Rattle.bd_machine.specs.declared.state.OpenRequest.{OpenRequest}
 use Rattle.bd_machine.specs.Aborts.{guards_abort}
+use Rattle.bd_machine.specs.BlockMap.{base_of}
 use Rattle.bd_machine.specs.Completion.{is_success, waits_unsent}
-use Rattle.bd_machine.specs.Kept.{as_piece, request_here}
+use Rattle.bd_machine.specs.Kept.{as_piece, as_request, request_here}
 use Rattle.bd_machine.specs.Same.{same_request}
 use Rattle.bd_machine.specs.Step.{first_failing}
 use Rattle.bd_machine.specs.View.{View}
+use Rattle.bd_tables.specs.Channels.{Channel, changed_if_any, dropped}
 
 -- the rules let the thread abort the request for this cause
 abbrev pub may_stop : Setup → ℕ → View → ReqId → AbortCause → Bool
@@ -37,3 +40,23 @@ without_unsent req here outbox = filter (λ x. not (is_unsent req here x.1)) out
 -- what is still to be put once the request completed with this status: where it succeeded none of its pieces waited, else those that did are no longer to be put
 abbrev pub left_by : ReqId → Status → (Id → Option Kept) → List (ℕ × Token) → List (ℕ × Token)
 left_by req status here outbox = cond (is_success status) outbox (without_unsent req here outbox)
+
+-- ---- the channel of the request's base device
+
+-- the base device under a request's device
+abbrev pub base_under : Setup → Option OpenRequest → Option DevId
+base_under setup None = None
+base_under setup (Some r) = Some (base_of setup r.dev)
+
+-- n pieces that were never sent are no longer in flight to this base device, and no piece of the request waits to be sent again
+abbrev pub channels_at : Option DevId → ReqId → ℕ → List Channel → List Channel
+channels_at None req n channels = channels
+channels_at (Some base) req n channels = changed_if_any base (dropped req n) channels
+
+-- the request's pieces that wait unsent are neither in flight nor to be sent again
+abbrev pub channels_without : Setup → ReqId → (Id → Option Kept) → List (ℕ × Token) → List Channel → List Channel
+channels_without setup req here outbox channels = channels_at (base_under setup (as_request (here (ids.Request req)))) req (length outbox - length (without_unsent req here outbox)) channels
+
+-- the same once the request completed with this status, but for success
+abbrev pub channels_left : Setup → ReqId → Status → (Id → Option Kept) → List (ℕ × Token) → List Channel → List Channel
+channels_left setup req status here outbox channels = cond (is_success status) channels (channels_without setup req here outbox channels)

@@ -1,13 +1,14 @@
-//! The pieces of a request that was cut: held, and to be put.
+//! The pieces of a request that was cut: held, and to be put or to wait.
 ghost use Rattle.std.specs.Prelude.{◌≡◌, ◌++◌, length, IfOk, OnOk};
 ghost use Rattle.bd_machine.specs.Alone.{held_after};
 ghost use Rattle.bd_machine.specs.Requests.{pieces_made};
 ghost use Rattle.bd_tokens.specs.Tokens.{here_in};
-ghost use Rattle.bd_due.specs.Pieces.{pieces_to};
+ghost use Rattle.bd_due.specs.Pieces.{channels_cut, outbox_cut, pieces_to};
 
-use bd_base::{OutOfMemory, ReqId, Rows, Setup, Token};
-use bd_blocks::new_piece;
+use bd_base::{DevId, OutOfMemory, ReqId, Rows, Setup, Token};
+use bd_blocks::{base_of, home, new_piece};
 use bd_machine::{Extent, Id, Kept, OpenRequest};
+use bd_tables::Retries;
 use bd_tokens::Tokens;
 use std::collections::VecDeque;
 
@@ -33,9 +34,9 @@ pub fn hold_pieces(
     Ok(())
 }
 
-/// The first n pieces of a request are to be put to a thread.
+// The first n pieces of a request are to be put to a thread.
 #[tactic(auto, using(crate::proofs::Left::left_from))]
-pub fn send_pieces(
+fn send_pieces(
     outbox: &mut VecDeque<(u32, Token)>,
     to: u32,
     req: ReqId,
@@ -47,6 +48,28 @@ pub fn send_pieces(
         outbox.push_back((to, Token::Piece(req, k)))?;
     }
     Ok(())
+}
+
+/// The first n pieces of a request on a device are to be put to the device's home, and are in flight. Where
+/// pieces wait already to be sent again to its base device, they wait after those. After out of memory
+/// both are unspecified.
+pub fn send_cut(
+    outbox: &mut VecDeque<(u32, Token)>,
+    retries: &mut Retries,
+    setup: &Setup,
+    dev: DevId,
+    req: ReqId,
+    n: u32,
+) -> Result<(), OutOfMemory>
+    ensures outbox { OnOk result (outbox.new.items ≡ outbox_cut setup.now dev req n retries.old outbox.old.items) }
+    ensures retries { OnOk result (retries.new ≡ channels_cut setup.now dev req n retries.old) }
+{
+    let base = base_of(setup, dev);
+    if retries.waits(base) {
+        return retries.queue(base, req, n);
+    }
+    send_pieces(outbox, home(setup, dev), req, n)?;
+    retries.sent(base, n)
 }
 
 /// How many pieces there are. More than 32 bits count answer out of memory.

@@ -3,14 +3,17 @@
 ghost use Rattle.std.specs.Prelude.{◌≡◌, option_copied, Some};
 ghost use Rattle.bd_machine.specs.Aborts.{stopped};
 ghost use Rattle.bd_machine.specs.Completion.{waits_unsent};
-ghost use Rattle.bd_machine.specs.Kept.{as_piece};
+ghost use Rattle.bd_machine.specs.declared.state.Id.TheVariants as ids;
+ghost use Rattle.bd_machine.specs.Kept.{as_piece, as_request};
 ghost use Rattle.bd_tokens.specs.Tokens.{here_in};
-ghost use Rattle.bd_due.specs.Stopping.{abortable, is_unsent, left_by, without_unsent};
+ghost use Rattle.bd_due.specs.Stopping.{abortable, base_under, channels_left, channels_without, is_unsent, left_by, without_unsent};
 
-use bd_base::{AbortCause, ReqId, Setup, Status, Token};
+use bd_base::{AbortCause, DevId, ReqId, Setup, Status, Token};
+use bd_blocks::base_of;
 use bd_course::{depart, refused_abort};
 use bd_machine::{Id, Kept, OpenRequest, Part, Progress};
 use bd_rules::{next_limited, request_here};
+use bd_tables::Retries;
 use bd_tokens::Tokens;
 use bd_view::{Sees, same_request};
 use std::alloc::Global;
@@ -55,20 +58,58 @@ fn is_unsent(held: &Tokens, req: ReqId, what: &Token) -> bool
     }
 }
 
-/// The pieces of a request that wait here unsent are no longer to be put; all else is, in its order.
-pub fn drop_unsent(outbox: &mut VecDeque<(u32, Token)>, held: &Tokens, req: ReqId)
+// What is to be put, without the pieces of a request that wait here unsent.
+fn keep_others(outbox: &mut VecDeque<(u32, Token)>, held: &Tokens, req: ReqId)
     ensures { outbox.new.items ≡ without_unsent req (here_in held.now.items) outbox.old.items }
 {
     outbox.retain(|x| !is_unsent(held, req, &x.1));
 }
 
+// The base device under the request's device, where the request is here.
+fn base_under(held: &Tokens, setup: &Setup, req: ReqId) -> Option<DevId>
+    ensures { result ≡ base_under setup.now (as_request (here_in held.now.items (ids.Request req))) }
+{
+    match held.get(Id::Request(req)) {
+        Some(Kept::Request(r)) => Some(base_of(setup, r.dev)),
+        _ => None,
+    }
+}
+
+/// The pieces of a request that wait here unsent are no longer to be put; all else is, in its order. Nor are
+/// they in flight, and those that wait to be sent again do so no more.
+pub fn drop_unsent(
+    outbox: &mut VecDeque<(u32, Token)>,
+    retries: &mut Retries,
+    held: &Tokens,
+    setup: &Setup,
+    req: ReqId,
+)
+    ensures outbox { outbox.new.items ≡ without_unsent req (here_in held.now.items) outbox.old.items }
+    ensures retries { retries.new ≡ channels_without setup.now req (here_in held.now.items) outbox.old.items retries.old }
+{
+    let before = outbox.len();
+    keep_others(outbox, held, req);
+    let after = outbox.len();
+    if let Some(base) = base_under(held, setup, req) {
+        retries.dropped(base, req, before.saturating_sub(after));
+    }
+}
+
 /// Where a request completes with this status, but for success, its pieces that wait here unsent are no longer
-/// to be put: they end with it.
-pub fn drop_left(outbox: &mut VecDeque<(u32, Token)>, held: &Tokens, req: ReqId, status: Status)
-    ensures { outbox.new.items ≡ left_by req status (here_in held.now.items) outbox.old.items }
+/// to be put, in flight, or to be sent again: they end with it.
+pub fn drop_left(
+    outbox: &mut VecDeque<(u32, Token)>,
+    retries: &mut Retries,
+    held: &Tokens,
+    setup: &Setup,
+    req: ReqId,
+    status: Status,
+)
+    ensures outbox { outbox.new.items ≡ left_by req status (here_in held.now.items) outbox.old.items }
+    ensures retries { retries.new ≡ channels_left setup.now req status (here_in held.now.items) outbox.old.items retries.old }
 {
     if !matches!(status, Status::Success) {
-        drop_unsent(outbox, held, req);
+        drop_unsent(outbox, retries, held, setup, req);
     }
 }
 

@@ -1,4 +1,4 @@
--- Which piece waits first at a base, and whether the base can serve a piece.
+-- Which piece waits first at a base, which last, and whether the base can serve a piece.
 use Rattle.std.specs.Prelude.{ℕ, Bool, ◌&&◌, List, [], ◌∷◌, Option, Some, None}
 use Rattle.bd_base.specs.declared.id.DevId.{DevId}
 use Rattle.bd_base.specs.declared.id.ReqId.{ReqId}
@@ -15,6 +15,16 @@ first_of (q ∷ qs) = Some q
 abbrev pub first_at : Option Base → Option (ReqId × ℕ)
 first_at None = None
 first_at (Some b) = first_of b.queue
+
+abbrev pub last_of : List (ReqId × ℕ) → Option (ReqId × ℕ)
+last_of [] = None
+last_of (q ∷ []) = Some q
+last_of (q ∷ r ∷ qs) = last_of (r ∷ qs)
+
+-- the piece that waits last at a base
+abbrev pub last_at : Option Base → Option (ReqId × ℕ)
+last_at None = None
+last_at (Some b) = last_of b.queue
 
 -- the base is there, its content has the blocks of the piece, and the piece is on it
 abbrev pub can_serve : ℕ → DevId → Option Base → OpenPiece → Bool

@@ -1,17 +1,18 @@
-//! Which piece waits first at a base device, and its serving.
+//! Which piece waits first at a base device, and its serving; which waits last, and its leaving.
 ghost use Rattle.std.specs.Prelude.{◌≡◌, IfOk, OnOk, OnErr, Some, find, true};
 ghost use Rattle.std.specs.Option.{option_map};
 ghost use Rattle.bd_base.specs.declared.act.ApplyEnd.TheVariants as ends;
-ghost use Rattle.bd_machine.specs.Homes.{applied, is_base, served};
+ghost use Rattle.bd_machine.specs.Homes.{applied, is_base, served, without_last};
 ghost use Rattle.bd_machine.specs.Table.{change_first};
 ghost use Rattle.bd_home.specs.Fitting.{fits, is_inside};
-ghost use Rattle.bd_home.specs.Serving.{can_serve, first_at, first_of};
+ghost use Rattle.bd_home.specs.Serving.{can_serve, first_at, first_of, last_at, last_of};
 
 use bd_base::{ApplyEnd, DevId, OutOfMemory, ReqId, Rows};
-use bd_blocks::find_base;
+use bd_blocks::{base_place, find_base};
 use bd_machine::{Base, Content, OpenPiece};
 use bd_pages::Blocks;
 use std::alloc::Global;
+use std::mem::replace;
 
 // The first piece of a queue.
 fn first(queue: &[(ReqId, u32)]) -> Option<(ReqId, u32)>
@@ -30,6 +31,42 @@ pub fn first_waiting(bases: &[Base], dev: DevId) -> Option<(ReqId, u32)>
 {
     let base = find_base(bases, dev)?;
     first(base.queue.as_slice())
+}
+
+// The last piece of a queue.
+fn last(queue: &[(ReqId, u32)]) -> Option<(ReqId, u32)>
+    ensures { result ≡ last_of queue.now }
+{
+    let n = queue.len();
+    if n == 0 { None } else { Some(queue[n - 1]) }
+}
+
+/// The piece that came last to the device, of those that wait there, by its request and its number there.
+/// None where no piece waits, or the device isn't among the bases.
+pub fn last_waiting(bases: &[Base], dev: DevId) -> Option<(ReqId, u32)>
+    ensures { result ≡ last_at (find (is_base dev) bases.now) }
+{
+    let base = find_base(bases, dev)?;
+    last(base.queue.as_slice())
+}
+
+// A base's queue loses its last piece.
+fn drop_last_of(alloc: Global, base: &mut Base)
+    ensures { base.new ≡ without_last base.old }
+{
+    let mut queue = replace(&mut base.queue, Rows::new(alloc)).into_vec();
+    let _ = queue.pop();
+    base.queue = Rows::from_vec(queue);
+}
+
+/// The queue of a device among the bases loses its last piece; where the device isn't among them nothing
+/// changes. It takes no memory.
+pub fn drop_last(alloc: Global, bases: &mut Rows<Base>, dev: DevId)
+    ensures { bases.new ≡ change_first (is_base dev) without_last bases.old }
+{
+    if let Some(place) = base_place(bases.as_slice(), dev) {
+        drop_last_of(alloc, bases.at_mut(place));
+    }
 }
 
 // One more than the greatest number of 64 bits.

@@ -1,6 +1,7 @@
 //! The machine played by hand, the histories of whole runs judged by it, and nodes whose threads have turns by hand.
 mod by_hand;
 mod deeds;
+mod full;
 mod nodes;
 mod outside;
 mod pieces;

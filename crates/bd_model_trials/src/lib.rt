@@ -7,8 +7,6 @@ mod answers;
 #[cfg(test)]
 mod blocks;
 #[cfg(test)]
-mod guards;
-#[cfg(test)]
 mod registry;
 #[cfg(test)]
 mod setups;

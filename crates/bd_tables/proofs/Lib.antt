@@ -1,2 +1,5 @@
 pub mod Order
 pub mod Found
+mod Left
+mod Moving
+mod Answered

@@ -1,4 +1,4 @@
-pub mod Pieces
+pub mod Channels
 pub mod Rows
 pub mod Shelf
 pub mod Firsts

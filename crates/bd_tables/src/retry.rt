@@ -1,93 +1,159 @@
-//! Pieces that a full home refused, and those that wait after them.
-ghost use Rattle.std.specs.Prelude.{◌≡◌, ◌<◌, ◌≤◌, ◌+◌, ◌-◌, ◌++◌, ◌∷◌, [], ◌⊎◌, drop, ◌↔◌, IsTrue, IsNone, IfNone, IfSome, OnSome, IsOk, OnOk};
-ghost use Rattle.bd_tables.specs.Pieces.{threshold_at};
+//! The channel of one base device: its pieces in flight, and those that wait since the home was full.
+ghost use Rattle.std.specs.Prelude.{◌≡◌, ◌++◌, filter, map, not, OnOk};
+ghost use Rattle.bd_machine.specs.Same.{same_request};
+ghost use Rattle.bd_tables.specs.Channels.{blank, dropped, first_waiting, is_of, is_some_waiting, landed, next, pieces_named, queued, refused, retried, sent};
 
-use bd_base::OutOfMemory;
-use bd_msg::Piece;
+use crate::waiting::Waiting;
+use bd_base::{DevId, OutOfMemory, ReqId};
 use std::alloc::Global;
 use std::collections::VecDeque;
 use std::marker::Model;
 
-/// The retry queue of a base device's channel: a piece that comes back since the home was full
-/// joins its end, and so do new pieces while it isn't empty.
+/// The channel of a base device on one thread, with its retry queue: a piece that comes back since the
+/// home was full joins its end, and so do new pieces while it isn't empty.
 #[derive(Debug, Drop)]
 pub struct Retry {
-    pieces: VecDeque<Piece>,
-    threshold: u32,
+    base: DevId,
+    in_flight: u64,
+    threshold: u64,
+    pieces: VecDeque<(ReqId, u32)>,
 }
 
 impl Model for Retry {
-    ghost use Rattle.std.specs.Prelude.{◌-◌};
-    ghost use Rattle.std.specs.VecDeque.{deque_len, deque_capacity};
-    ghost use Rattle.bd_tables.specs.Pieces.{Pieces};
+    ghost use Rattle.bd_tables.specs.Channels.{Channel};
 
-    ghost Value = { Pieces };
+    ghost Value = { Channel };
 
-    ghost view = { λ r. record { pieces = r.pieces.items; threshold = r.threshold; room = deque_capacity r.pieces - deque_len r.pieces } };
+    ghost view = { λ r. record { base = r.base; in_flight = r.in_flight; threshold = r.threshold; pieces = r.pieces.items } };
+}
+
+// The first n pieces of a request come to the end.
+#[tactic(auto, using(crate::proofs::Left::left_from))]
+fn join(pieces: &mut VecDeque<(ReqId, u32)>, req: ReqId, n: u32) -> Result<(), OutOfMemory>
+    ensures { OnOk result (pieces.new.items ≡ pieces.old.items ++ pieces_named req n) }
+{
+    for k in 0..n {
+        pieces.push_back((req, k))?;
+    }
+    Ok(())
+}
+
+// The pieces of a request go, and the others stay in order.
+fn leave(pieces: &mut VecDeque<(ReqId, u32)>, req: ReqId)
+    ensures { pieces.new.items ≡ filter (λ p. not (same_request p.0 req)) pieces.old.items }
+{
+    pieces.retain(|p| !(p.0.thread == req.thread && p.0.seq == req.seq));
+}
+
+// The first of the pieces.
+fn first(base: DevId, pieces: &VecDeque<(ReqId, u32)>) -> Option<Waiting>
+    ensures { result ≡ first_waiting base pieces.now.items }
+{
+    match pieces.front() {
+        Some((req, k)) => Some(Waiting {
+            base,
+            req: *req,
+            k: *k,
+        }),
+        None => None,
+    }
 }
 
 impl Retry {
-    /// An empty queue with threshold 0; it may have no room yet. It takes no memory.
-    pub fn new(alloc: Global) -> Retry
-        ensures pieces { result.pieces ≡ [] }
-        ensures threshold { result.threshold ≡ 0 }
+    /// The channel of a base device with nothing in flight, and nothing that waits. It takes no memory.
+    pub fn new(alloc: Global, base: DevId) -> Retry
+        ensures { result ≡ blank base }
     {
         Retry {
-            pieces: VecDeque::new(alloc),
+            base,
+            in_flight: 0,
             threshold: 0,
+            pieces: VecDeque::new(alloc),
         }
     }
 
-    /// Makes room for `n` more pieces. Out of memory, the queue stays as it was.
-    pub fn reserve(&mut self, n: u32) -> Result<(), OutOfMemory>
-        ensures ok { OnOk result (n ≤ self.new.room) }
-        ensures enough { n ≤ self.old.room → IsOk result }
-        ensures grows { self.old.room ≤ self.new.room }
-        ensures pieces { self.new.pieces ≡ self.old.pieces }
-        ensures threshold { self.new.threshold ≡ self.old.threshold }
+    /// Whether it is the channel of this base device.
+    pub fn is_of(&self, base: DevId) -> bool
+        ensures { result ≡ is_of base self.now }
     {
-        self.pieces.reserve(n as usize)?;
+        self.base.0 == base.0
+    }
+
+    /// Whether a piece waits.
+    pub fn waits(&self) -> bool
+        ensures { result ≡ is_some_waiting self.now.pieces }
+    {
+        first(self.base, &self.pieces).is_some()
+    }
+
+    /// `n` more pieces are in flight. A count past 64 bits answers out of memory, and nothing changed.
+    pub fn sent(&mut self, n: u32) -> Result<(), OutOfMemory>
+        ensures { OnOk result (self.new ≡ sent n self.old) }
+    {
+        let Some(more) = self.in_flight.checked_add(n as u64) else {
+            return Err(OutOfMemory);
+        };
+        self.in_flight = more;
         Ok(())
     }
 
-    /// A piece came back refused; `in_flight` pieces of the channel are in flight after its return:
-    /// it joins the end, and the threshold becomes half of them or 8 fewer, whichever is more (this
-    /// project's choice). There is room for it. It takes no memory.
-    pub fn refused(&mut self, piece: Piece, in_flight: u32)
-        requires { 0 < self.old.room }
-        ensures { self.new ≡ record { pieces = self.old.pieces ++ piece ∷ []; threshold = threshold_at in_flight; room = self.old.room - 1 } }
+    /// A piece came back, so one fewer is in flight; none is fewer than none. It takes no memory.
+    pub fn landed(&mut self)
+        ensures { self.new ≡ landed self.old }
     {
-        self.threshold = (in_flight / 2).max(in_flight.saturating_sub(8));
-        self.queue(piece);
+        self.in_flight = self.in_flight.saturating_sub(1);
     }
 
-    /// A new piece joins the end. There is room for it. It takes no memory.
-    pub fn queue(&mut self, piece: Piece)
-        requires { 0 < self.old.room }
-        ensures { self.new ≡ record self.old { pieces = self.old.pieces ++ piece ∷ []; room = self.old.room - 1 } }
+    /// A piece came back refused: one fewer is in flight, it joins the end, and the threshold becomes
+    /// half of what is in flight then or 8 fewer, whichever is more (this project's choice). After out of
+    /// memory the channel is unspecified.
+    pub fn refused(&mut self, piece: (ReqId, u32)) -> Result<(), OutOfMemory>
+        ensures { OnOk result (self.new ≡ refused piece self.old) }
     {
-        self.pieces.push_back_reserved(piece);
+        self.pieces.push_back(piece)?;
+        self.in_flight = self.in_flight.saturating_sub(1);
+        self.threshold = (self.in_flight / 2).max(self.in_flight.saturating_sub(8));
+        Ok(())
     }
 
-    /// Whether no piece waits.
-    pub fn is_empty(&self) -> bool
-        ensures { IsTrue result ↔ (self.now.pieces ≡ []) }
+    /// The first `n` pieces of a request join the end. After out of memory the channel is unspecified.
+    pub fn queue(&mut self, req: ReqId, n: u32) -> Result<(), OutOfMemory>
+        ensures { OnOk result (self.new ≡ queued req n self.old) }
     {
-        self.pieces.is_empty()
+        join(&mut self.pieces, req, n)
     }
 
-    /// The first piece, to be sent while `in_flight` pieces of the channel are under way. None exactly
-    /// where no piece waits or more than the threshold of the last refusal are in flight, and
-    /// nothing changes then. It takes no memory.
-    pub fn retry(&mut self, in_flight: u32) -> Option<Piece>
-        ensures none { IsNone result ↔ ((self.old.pieces ≡ []) ⊎ (self.old.threshold < in_flight)) }
-        ensures kept { IfNone result (self.new ≡ self.old) }
-        ensures first { IfSome result (λ piece. self.old.pieces ≡ piece ∷ self.new.pieces) }
-        ensures rest { OnSome result (self.new ≡ record self.old { pieces = drop 1 self.old.pieces; room = self.old.room + 1 }) }
+    /// The first piece that waits, where no more are in flight than the threshold of the last refusal.
+    /// None where there is none, or more are in flight.
+    pub fn next(&self) -> Option<Waiting>
+        ensures { result ≡ next self.now }
     {
-        if in_flight > self.threshold {
-            return None;
+        if self.in_flight <= self.threshold {
+            first(self.base, &self.pieces)
+        } else {
+            None
         }
-        self.pieces.pop_front()
+    }
+
+    /// The first piece that waits is in flight. A count past 64 bits answers out of memory, and nothing
+    /// changed. It takes no memory.
+    pub fn retried(&mut self) -> Result<(), OutOfMemory>
+        ensures { OnOk result (self.new ≡ retried self.old) }
+    {
+        let Some(more) = self.in_flight.checked_add(1) else {
+            return Err(OutOfMemory);
+        };
+        self.in_flight = more;
+        let _ = self.pieces.pop_front();
+        Ok(())
+    }
+
+    /// `n` pieces that were never sent are no longer in flight, and no piece of the request waits. It takes
+    /// no memory.
+    pub fn dropped(&mut self, req: ReqId, n: usize)
+        ensures { self.new ≡ dropped req n self.old }
+    {
+        self.in_flight = self.in_flight.saturating_sub(n as u64);
+        leave(&mut self.pieces, req);
     }
 }

@@ -21,11 +21,15 @@ use Rattle.bd_blocks.specs.Digests.{digest_due}
 use Rattle.bd_machine.specs.declared.state.Id.{Id}
 use Rattle.bd_machine.specs.declared.state.Id.TheVariants as ids
 use Rattle.bd_machine.specs.declared.state.Open.{Open}
+use Rattle.bd_machine.specs.declared.state.OpenPiece.{OpenPiece}
 use Rattle.bd_machine.specs.declared.state.OpenRequest.{OpenRequest}
 use Rattle.bd_machine.specs.declared.state.OpenWalk.{OpenWalk}
+use Rattle.bd_machine.specs.declared.state.Progress.{Progress}
+use Rattle.bd_machine.specs.declared.state.Progress.TheVariants.{Held, Out, Served}
 use Rattle.bd_machine.specs.BlockMap.{is_malloc}
 use Rattle.bd_machine.specs.Homes.{is_base}
-use Rattle.bd_machine.specs.Kept.{request_here}
+use Rattle.bd_machine.specs.Kept.{as_piece, request_here}
+use Rattle.bd_tokens.specs.Tokens.{here_in}
 use Rattle.bd_machine.specs.Messages.{count_at}
 use Rattle.bd_merged.specs.Journals.{events, is_event}
 use Rattle.bd_turns.specs.declared.queue.Message.{Message}
@@ -44,7 +48,8 @@ use Rattle.bd_thread.specs.Completions.{CompletesBy, MayComplete}
 use Rattle.bd_thread.specs.Cuts.{may_cut_now, Cuts, CutsBy}
 use Rattle.bd_thread.specs.Destructs.{may_device_go, DestructAdded, Destructs}
 use Rattle.bd_thread.specs.Lines.{outcome_now, EndsBy, EndsLine}
-use Rattle.bd_thread.specs.Moves.{Comes, CompletesOwn}
+use Rattle.bd_thread.specs.Moves.{Comes, ComesAs, ComesOwn, ComesPiece}
+use Rattle.bd_thread.specs.Refusals.{refusal_now, SendsBack, SendsBackBy}
 use Rattle.bd_thread.specs.Requests.{accept_act, refuse_act, IsAccepted, IsRefused}
 use Rattle.bd_thread.specs.Seen.{view_of}
 use Rattle.bd_thread.specs.Sent.{may_put, KeepsRequests, Puts, PutsBy, Takes, TakesBy}
@@ -165,13 +170,30 @@ visits_alone walk o a n c made h = go (visit_due o a walk) h
     go (Some w) k =
         alone_then a k.1.shared c (alone_by o.me a k.1.shared (acts.Visit walk w.dev w.kind) refl k.1.first.links) (for_alone w.kind w.dev k.1.middle k.1.shared n c k.1.second)
 
+pub sends_back_alone : (dev : DevId) (o : Thread) (a : Links) (n : Thread) (c : Links) (done : Bool) → SendsBack dev o a n c done → AsksNothing a c
+sends_back_alone dev o a n c done h = go (refusal_now dev o a) h
+  where
+    go : (q : Option (ReqId × ℕ)) → SendsBackBy dev o a n c done q → AsksNothing a c
+    go None k = alone_same a c k.2
+    go (Some q) k = alone_by o.me a c (acts.NoMem q.0 q.1 dev) refl k.1.links
+
+-- what a piece that came brings about
+came_alone : (req : ReqId) (k : ℕ) (o : Thread) (a : Links) (n : Thread) (c : Links) (p : Option OpenPiece) → ComesPiece p req k o a n c → AsksNothing a c
+came_alone req k o a n c None h = alone_same a c h.1
+came_alone req k o a n c (Some p) h = by_progress p.progress h
+  where
+    own : (b : Bool) → ComesOwn b req k o a n c → AsksNothing a c
+    own true h = completes_alone req h.middle a n c h.completes
+    own false h = alone_same a c h.1
+
+    by_progress : (progress : Progress) → ComesAs progress p.base req k o a n c → AsksNothing a c
+    by_progress Out h = sends_back_alone p.base o a n c h.done h.sends
+    by_progress Held h = own (req.thread == o.me) h
+    by_progress Served h = own (req.thread == o.me) h
+
 -- what a token brings about
 pub comes_alone : (id : Id) (o : Thread) (a : Links) (n : Thread) (c : Links) → Comes id o a n c → AsksNothing a c
-comes_alone (ids.Piece req k) o a n c h = go (req.thread == o.me) h
-  where
-    go : (b : Bool) → CompletesOwn b req o a n c → AsksNothing a c
-    go true k = completes_alone req o a n c k
-    go false k = alone_same a c k.1
+comes_alone (ids.Piece req k) o a n c h = came_alone req k o a n c (as_piece (here_in o.held.items (ids.Piece req k))) h
 comes_alone (ids.Walk walk) o a n c h = visits_alone walk o a n c h.made h.visits
 comes_alone (ids.Request req) o a n c h = alone_same a c h.1
 comes_alone (ids.Notice sender receiver number) o a n c h = alone_same a c h.1

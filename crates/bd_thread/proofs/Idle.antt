@@ -43,7 +43,6 @@ use Rattle.bd_thread.specs.Duties.{duty_asked, Discharges, NoDuty}
 use Rattle.bd_thread.specs.Endings.{left_on, removal_due, ClosesLeft, RemovesLeft}
 use Rattle.bd_due.specs.Following.{close_due, get_due}
 use Rattle.bd_thread.specs.Lines.{claim_asked, close_asked, open_asked, outcome_now, remove_asked, AsksBy, Claims, Closes, ClosesBy, EndsBy, EndsLine, Follows, IsFollowed, Opens, OpensBy, Removes}
-use Rattle.bd_thread.specs.Moves.{Comes, CompletesOwn}
 use Rattle.bd_thread.specs.Seen.{view_of}
 use Rattle.bd_due.specs.Sending.{first_brought}
 use Rattle.bd_thread.specs.Sent.{may_put, Puts, PutsBy, Takes, TakesBy}
@@ -111,6 +110,17 @@ takes_idle old before new after id h few = go (first_brought (queues_of before.q
     go None e k = record { thread = k.1; links = k.2; waits = e }
     go (Some m) e k = absurd (more old.me before after (acts.Took m.sender (count_at old.part.taken m.sender) m.what) k.1 few)
 
+-- a message was taken, and then what its token brings about
+pub received_more : (o : Thread) (a : Links) (m : Thread) (b : Links) (n : Thread) (c : Links) (id : Id) → Takes o a m b (Some id) → Acted m b n c → length c.entries ≤ length a.entries → ⊥
+received_more o a m b n c id h acted few = go (first_brought (queues_of a.queues.items o.me)) h
+  where
+    none_taken : Some id ≡ None → ⊥
+    none_taken e = cc
+
+    go : (x : Option Message) → TakesBy o a m b (Some id) x → ⊥
+    go None k = none_taken k.0
+    go (Some x) k = more_then o.me a b (acts.Took x.sender (count_at o.part.taken x.sender) x.what) m n c k.1 acted few
+
 -- a request that may be cut is cut
 pub cuts_more : (req : ReqId) (old : Thread) (before : Links) (new : Thread) (after : Links) (n : ℕ) → may_cut_now req old before ≡ true → Cuts req old before new after n → length after.entries ≤ length before.entries → ⊥
 cuts_more req old before new after n may h few = go (request_here (view_of old before) req) refl (may_cut_now req old before) may h
@@ -177,26 +187,6 @@ for_grows kinds.Removal dev old before new after h = each_grows old.part.request
 for_grows kinds.Freeze dev old before new after h = same_grows before after h.1
 for_grows kinds.Drain dev old before new after h = same_grows before after h.1
 for_grows kinds.Thaw dev old before new after h = same_grows before after h.1
-
-pub visits_idle : {P : Thread → Links → Type 0} (walk : WalkId) (old : Thread) (before : Links) (new : Thread) (after : Links) (made : Bool) → P old before → Visits walk old before new after made → Idles P old before new after
-visits_idle {P = P} walk old before new after made p h few = go (visit_due old before walk) h
-  where
-    go : (o : Option OpenWalk) → VisitsBy walk old before new after made o → IsIdle P old before new after
-    go None k = record { thread = k.1; links = k.2; waits = p }
-    go (Some w) k =
-        let grows = for_grows w.kind w.dev k.1.middle k.1.shared new after k.1.second in
-        absurd (more old.me before k.1.shared (acts.Visit walk w.dev w.kind) (ap (λ (l : Links). l.entries) k.1.first.links) (omega (arith, few, grows)))
-
--- what a token brings about adds no entry, or something was done
-pub comes_idle : {P : Thread → Links → Type 0} (id : Id) (old : Thread) (before : Links) (new : Thread) (after : Links) → P old before → Comes id old before new after → Idles P old before new after
-comes_idle {P = P} (ids.Piece req k) old before new after p h = go (req.thread == old.me) h
-  where
-    go : (b : Bool) → CompletesOwn b req old before new after → Idles P old before new after
-    go true k = completes_idle req old before new after k.done p k.completes
-    go false k = λ few. record { thread = k.0; links = k.1; waits = p }
-comes_idle (ids.Walk walk) old before new after p h = visits_idle walk old before new after h.made p h.visits
-comes_idle (ids.Request req) old before new after p h = λ few. record { thread = h.0; links = h.1; waits = p }
-comes_idle (ids.Notice sender receiver number) old before new after p h = λ few. record { thread = h.0; links = h.1; waits = p }
 
 asks_idle : {P : Thread → Links → Type 0} (old : Thread) (before : Links) (new : Thread) (after : Links) (asked : Bool) (o : Option RegEvent) → (o ≡ None → P old before) → AsksBy old before new after asked o → Idles P old before new after
 asks_idle old before new after asked None so h few = record { thread = h.1; links = h.2; waits = so refl }

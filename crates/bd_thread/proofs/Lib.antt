@@ -17,6 +17,8 @@ pub mod Carried
 pub mod Waiting
 pub mod Walking
 pub mod Aborting
+pub mod Refusing
+pub mod Retrying
 pub mod Alone
 pub mod Wanted
 pub mod Working

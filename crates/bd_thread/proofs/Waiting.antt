@@ -52,9 +52,9 @@ use Rattle.bd_due.specs.Sending.{first_due, token_of}
 use Rattle.bd_thread.specs.Duties.{NoDuty}
 use Rattle.bd_thread.specs.Lines.{claim_if_bound, claim_of, close_of, handle_if_any, if_asked, if_closable, may_ask, may_ask_after, may_close, open_of, remove_of}
 use Rattle.bd_thread.specs.Moves.{turned_of}
-use Rattle.bd_thread.specs.Sent.{may_put}
+use Rattle.bd_thread.specs.Sent.{may_put, may_send}
 use Rattle.bd_thread.specs.Seen.{local, view_of}
-use Rattle.bd_thread.specs.Waits.{asks_unbuilt, is_line_waiting, is_submission, is_unbuilt, may_post, may_send, Idles, IsWaiting, NoDestructBelow, NoDestructOn, NoHandleBelow, NoHandleOn, NoLine, NoMessage, NoPiece, NoPieceBelow, NoPieceOn, NoStep, NothingLeft, NothingToPost, NothingToSend, Quiets}
+use Rattle.bd_thread.specs.Waits.{asks_unbuilt, is_line_waiting, is_submission, is_unbuilt, may_post, Idles, IsWaiting, NoDestructBelow, NoDestructOn, NoHandleBelow, NoHandleOn, NoLine, NoMessage, NoPiece, NoPieceBelow, NoPieceOn, NoRefusal, NoRetry, NoStep, NothingLeft, NothingToPost, NothingToSend, Quiets}
 use Rattle.bd_thread.proofs.Going.{acted_then}
 use Rattle.bd_thread.proofs.Idle.{idle_last, idle_then}
 use Rattle.bd_thread.proofs.Leftovers.{found_is}
@@ -391,44 +391,54 @@ due_waits t links x first stays = go t.part.due refl first
 -- ---- the answer of a turn
 
 -- one part of a turn after the other
-pub turn_idle : (o : Thread) (a : Links) (m : Thread) (z : Links) (p : Thread) (b : Links) (q : Thread) (d : Links) (r : Thread) (e : Links) (u : Thread) (k : Links) (s : Thread) (f : Links) (x : Thread) (y : Links) (n : Thread) (g : Links)
-    → Acted o a m z
-    → Acted m z p b
-    → Acted p b q d
-    → Acted q d r e
-    → Acted r e u k
-    → Acted u k s f
-    → Acted s f x y
-    → Acted x y n g
-    → Idles NoMessage o a m z
-    → Idles NoDuty m z p b
-    → Idles NoPiece p b q d
-    → Idles NoLine q d r e
-    → Idles NothingLeft r e u k
-    → Idles NothingToSend u k s f
-    → Idles NothingToPost s f x y
-    → (length a.entries ≡ length y.entries → Idles NoStep x y n g)
-    → Idles IsWaiting o a n g
-turn_idle o a m z p b q d r e u k s f x y n g received discharged served commanded ended sent posted carried message duty piece line left outbox due request =
-    let one : Idles (λ t links. NoMessage t links × NoDuty t links) o a p b =
-    idle_then o a m z p b received discharged (λ no_message no_duty. (no_message, no_duty)) message duty in
-    let one_acted = acted_then o a m z p b received discharged in
-    let two : Idles (λ t links. NoMessage t links × NoDuty t links × NoPiece t links) o a q d =
-    idle_then o a p b q d one_acted served (λ so no_piece. (so.0, so.1, no_piece)) one piece in
-    let two_acted = acted_then o a p b q d one_acted served in
-    let three : Idles (λ t links. NoMessage t links × NoDuty t links × NoPiece t links × NoLine t links) o a r e =
-    idle_then o a q d r e two_acted commanded (λ so no_line. (so.0, so.1, so.2, no_line)) two line in
-    let three_acted = acted_then o a q d r e two_acted commanded in
-    let four : Idles (λ t links. NoMessage t links × NoDuty t links × NoPiece t links × NoLine t links × NothingLeft t links) o a u k =
-    idle_then o a r e u k three_acted ended (λ so none. (so.0, so.1, so.2, so.3, none)) three left in
-    let four_acted = acted_then o a r e u k three_acted ended in
-    let five : Idles (λ t links. NoMessage t links × NoDuty t links × NoPiece t links × NoLine t links × NothingLeft t links × NothingToSend t links) o a s f =
-    idle_then o a u k s f four_acted sent (λ so no_send. (so.0, so.1, so.2, so.3, so.4, no_send)) four outbox in
-    let five_acted = acted_then o a u k s f four_acted sent in
-    let six : Idles (λ t links. NoMessage t links × NoDuty t links × NoPiece t links × NoLine t links × NothingLeft t links × NothingToSend t links × NothingToPost t links) o a x y =
-    idle_then o a s f x y five_acted posted (λ so no_post. (so.0, so.1, so.2, so.3, so.4, so.5, no_post)) five due in
-    idle_last o a x y n g (acted_then o a s f x y five_acted posted) carried
-    (λ so no_step. record { message = so.0; duty = so.1; piece = so.2; line = line_waits o a so.3; left = so.4; outbox = so.5; due = so.6; request = no_step }) six request
+pub turn_idle : (o : Thread) (a : Links) (p1 : Thread) (l1 : Links) (p2 : Thread) (l2 : Links) (p3 : Thread) (l3 : Links) (p4 : Thread) (l4 : Links) (p5 : Thread) (l5 : Links) (p6 : Thread) (l6 : Links) (p7 : Thread) (l7 : Links) (p8 : Thread) (l8 : Links) (p9 : Thread) (l9 : Links) (n : Thread) (c : Links)
+    → Acted o a p1 l1
+    → Acted p1 l1 p2 l2
+    → Acted p2 l2 p3 l3
+    → Acted p3 l3 p4 l4
+    → Acted p4 l4 p5 l5
+    → Acted p5 l5 p6 l6
+    → Acted p6 l6 p7 l7
+    → Acted p7 l7 p8 l8
+    → Acted p8 l8 p9 l9
+    → Acted p9 l9 n c
+    → Idles NoMessage o a p1 l1
+    → Idles NoRetry p1 l1 p2 l2
+    → Idles NoDuty p2 l2 p3 l3
+    → Idles NoPiece p3 l3 p4 l4
+    → Idles NoLine p4 l4 p5 l5
+    → Idles NothingLeft p5 l5 p6 l6
+    → Idles NothingToSend p6 l6 p7 l7
+    → Idles NothingToPost p7 l7 p8 l8
+    → (length a.entries ≡ length l8.entries → Idles NoStep p8 l8 p9 l9)
+    → (length a.entries ≡ length l9.entries → Idles NoRefusal p9 l9 n c)
+    → Idles IsWaiting o a n c
+turn_idle o a p1 l1 p2 l2 p3 l3 p4 l4 p5 l5 p6 l6 p7 l7 p8 l8 p9 l9 n c acted0 acted1 acted2 acted3 acted4 acted5 acted6 acted7 acted8 acted9 message retry duty piece line left outbox due request refusal =
+    let so1 : Idles (λ t links. NoMessage t links × NoRetry t links) o a p2 l2 =
+    idle_then o a p1 l1 p2 l2 acted0 acted1 (λ first next. (first, next)) message retry in
+    let both1 = acted_then o a p1 l1 p2 l2 acted0 acted1 in
+    let so2 : Idles (λ t links. NoMessage t links × NoRetry t links × NoDuty t links) o a p3 l3 =
+    idle_then o a p2 l2 p3 l3 both1 acted2 (λ so next. (so.0, so.1, next)) so1 duty in
+    let both2 = acted_then o a p2 l2 p3 l3 both1 acted2 in
+    let so3 : Idles (λ t links. NoMessage t links × NoRetry t links × NoDuty t links × NoPiece t links) o a p4 l4 =
+    idle_then o a p3 l3 p4 l4 both2 acted3 (λ so next. (so.0, so.1, so.2, next)) so2 piece in
+    let both3 = acted_then o a p3 l3 p4 l4 both2 acted3 in
+    let so4 : Idles (λ t links. NoMessage t links × NoRetry t links × NoDuty t links × NoPiece t links × NoLine t links) o a p5 l5 =
+    idle_then o a p4 l4 p5 l5 both3 acted4 (λ so next. (so.0, so.1, so.2, so.3, next)) so3 line in
+    let both4 = acted_then o a p4 l4 p5 l5 both3 acted4 in
+    let so5 : Idles (λ t links. NoMessage t links × NoRetry t links × NoDuty t links × NoPiece t links × NoLine t links × NothingLeft t links) o a p6 l6 =
+    idle_then o a p5 l5 p6 l6 both4 acted5 (λ so next. (so.0, so.1, so.2, so.3, so.4, next)) so4 left in
+    let both5 = acted_then o a p5 l5 p6 l6 both4 acted5 in
+    let so6 : Idles (λ t links. NoMessage t links × NoRetry t links × NoDuty t links × NoPiece t links × NoLine t links × NothingLeft t links × NothingToSend t links) o a p7 l7 =
+    idle_then o a p6 l6 p7 l7 both5 acted6 (λ so next. (so.0, so.1, so.2, so.3, so.4, so.5, next)) so5 outbox in
+    let both6 = acted_then o a p6 l6 p7 l7 both5 acted6 in
+    let so7 : Idles (λ t links. NoMessage t links × NoRetry t links × NoDuty t links × NoPiece t links × NoLine t links × NothingLeft t links × NothingToSend t links × NothingToPost t links) o a p8 l8 =
+    idle_then o a p7 l7 p8 l8 both6 acted7 (λ so next. (so.0, so.1, so.2, so.3, so.4, so.5, so.6, next)) so6 due in
+    let both7 = acted_then o a p7 l7 p8 l8 both6 acted7 in
+    let so8 : Idles (λ t links. NoMessage t links × NoRetry t links × NoDuty t links × NoPiece t links × NoLine t links × NothingLeft t links × NothingToSend t links × NothingToPost t links × NoStep t links) o a p9 l9 =
+    idle_last o a p8 l8 p9 l9 both7 acted8 (λ so next. (so.0, so.1, so.2, so.3, so.4, so.5, so.6, so.7, next)) so7 request in
+    idle_last o a p9 l9 n c (acted_then o a p8 l8 p9 l9 both7 acted8) acted9
+    (λ so next. record { message = so.0; retry = so.1; duty = so.2; piece = so.3; line = line_waits o a so.4; left = so.5; outbox = so.6; due = so.7; request = so.8; refusal = next }) so8 refusal
 
 pub quiet_by : (o : Thread) (a : Links) (n : Thread) (c : Links) (turned : Turned) → turned ≡ turned_of (length a.entries) (length c.entries) → Idles IsWaiting o a n c → Quiets o a n c turned
 quiet_by o a n c turned e h = subst (Quiets o a n c) (sym e) (go (length a.entries == length c.entries) refl)

@@ -156,6 +156,8 @@ nothing_else_waits t links alone unwanted =
       line,
       record {
         message = alone.message;
+        refusal = alone.refusal;
+        retry = alone.retry;
         duty = no_duty t links three.1;
         piece = alone.piece;
         line = line_waits t links line;

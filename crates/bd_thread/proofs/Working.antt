@@ -6,43 +6,55 @@ use Rattle.bd_thread.specs.declared.turn.Turned.{Turned}
 use Rattle.bd_thread.specs.declared.turn.Turned.TheVariants.{Moved, Quiet}
 use Rattle.bd_thread.specs.Acted.{Acted}
 use Rattle.bd_thread.specs.Moves.{turned_of}
-use Rattle.bd_thread.specs.Waits.{Idles, NoDestruct, NoMessage, NoPiece, NoStep, NothingToPost, NothingToSend}
+use Rattle.bd_thread.specs.Waits.{Idles, NoDestruct, NoMessage, NoPiece, NoRefusal, NoRetry, NoStep, NothingToPost, NothingToSend}
 use Rattle.bd_thread.specs.Work.{IsWaitingAlone, NoLineAlone, QuietsAlone}
 use Rattle.bd_thread.proofs.Going.{acted_then}
 use Rattle.bd_thread.proofs.Idle.{idle_last, idle_then}
 
 -- one part of the work after the other
-pub work_idle : (o : Thread) (a : Links) (p : Thread) (b : Links) (q : Thread) (d : Links) (r : Thread) (e : Links) (u : Thread) (k : Links) (s : Thread) (f : Links) (x : Thread) (y : Links) (n : Thread) (g : Links)
-    → Acted o a p b
-    → Acted p b q d
-    → Acted q d r e
-    → Acted r e u k
-    → Acted u k s f
-    → Acted s f x y
-    → Acted x y n g
-    → Idles NoMessage o a p b
-    → Idles NoPiece p b q d
-    → Idles NoLineAlone q d r e
-    → Idles NoDestruct r e u k
-    → Idles NothingToSend u k s f
-    → Idles NothingToPost s f x y
-    → (length a.entries ≡ length y.entries → Idles NoStep x y n g)
-    → Idles IsWaitingAlone o a n g
-work_idle o a p b q d r e u k s f x y n g received served submitted destructed sent posted carried message piece line device outbox due request =
-    let one : Idles (λ t links. NoMessage t links × NoPiece t links) o a q d = idle_then o a p b q d received served (λ no_message no_piece. (no_message, no_piece)) message piece in
-    let one_acted = acted_then o a p b q d received served in
-    let two : Idles (λ t links. NoMessage t links × NoPiece t links × NoLineAlone t links) o a r e = idle_then o a q d r e one_acted submitted (λ so no_line. (so.0, so.1, no_line)) one line in
-    let two_acted = acted_then o a q d r e one_acted submitted in
-    let three : Idles (λ t links. NoMessage t links × NoPiece t links × NoLineAlone t links × NoDestruct t links) o a u k =
-    idle_then o a r e u k two_acted destructed (λ so no_device. (so.0, so.1, so.2, no_device)) two device in
-    let three_acted = acted_then o a r e u k two_acted destructed in
-    let four : Idles (λ t links. NoMessage t links × NoPiece t links × NoLineAlone t links × NoDestruct t links × NothingToSend t links) o a s f =
-    idle_then o a u k s f three_acted sent (λ so no_send. (so.0, so.1, so.2, so.3, no_send)) three outbox in
-    let four_acted = acted_then o a u k s f three_acted sent in
-    let five : Idles (λ t links. NoMessage t links × NoPiece t links × NoLineAlone t links × NoDestruct t links × NothingToSend t links × NothingToPost t links) o a x y =
-    idle_then o a s f x y four_acted posted (λ so no_post. (so.0, so.1, so.2, so.3, so.4, no_post)) four due in
-    idle_last o a x y n g (acted_then o a s f x y four_acted posted) carried
-    (λ so no_step. record { message = so.0; piece = so.1; line = so.2; device = so.3; outbox = so.4; due = so.5; request = no_step }) five request
+pub work_idle : (o : Thread) (a : Links) (p1 : Thread) (l1 : Links) (p2 : Thread) (l2 : Links) (p3 : Thread) (l3 : Links) (p4 : Thread) (l4 : Links) (p5 : Thread) (l5 : Links) (p6 : Thread) (l6 : Links) (p7 : Thread) (l7 : Links) (p8 : Thread) (l8 : Links) (n : Thread) (c : Links)
+    → Acted o a p1 l1
+    → Acted p1 l1 p2 l2
+    → Acted p2 l2 p3 l3
+    → Acted p3 l3 p4 l4
+    → Acted p4 l4 p5 l5
+    → Acted p5 l5 p6 l6
+    → Acted p6 l6 p7 l7
+    → Acted p7 l7 p8 l8
+    → Acted p8 l8 n c
+    → Idles NoMessage o a p1 l1
+    → Idles NoRetry p1 l1 p2 l2
+    → Idles NoPiece p2 l2 p3 l3
+    → Idles NoLineAlone p3 l3 p4 l4
+    → Idles NoDestruct p4 l4 p5 l5
+    → Idles NothingToSend p5 l5 p6 l6
+    → Idles NothingToPost p6 l6 p7 l7
+    → (length a.entries ≡ length l7.entries → Idles NoStep p7 l7 p8 l8)
+    → (length a.entries ≡ length l8.entries → Idles NoRefusal p8 l8 n c)
+    → Idles IsWaitingAlone o a n c
+work_idle o a p1 l1 p2 l2 p3 l3 p4 l4 p5 l5 p6 l6 p7 l7 p8 l8 n c acted0 acted1 acted2 acted3 acted4 acted5 acted6 acted7 acted8 message retry piece line device outbox due request refusal =
+    let so1 : Idles (λ t links. NoMessage t links × NoRetry t links) o a p2 l2 =
+    idle_then o a p1 l1 p2 l2 acted0 acted1 (λ first next. (first, next)) message retry in
+    let both1 = acted_then o a p1 l1 p2 l2 acted0 acted1 in
+    let so2 : Idles (λ t links. NoMessage t links × NoRetry t links × NoPiece t links) o a p3 l3 =
+    idle_then o a p2 l2 p3 l3 both1 acted2 (λ so next. (so.0, so.1, next)) so1 piece in
+    let both2 = acted_then o a p2 l2 p3 l3 both1 acted2 in
+    let so3 : Idles (λ t links. NoMessage t links × NoRetry t links × NoPiece t links × NoLineAlone t links) o a p4 l4 =
+    idle_then o a p3 l3 p4 l4 both2 acted3 (λ so next. (so.0, so.1, so.2, next)) so2 line in
+    let both3 = acted_then o a p3 l3 p4 l4 both2 acted3 in
+    let so4 : Idles (λ t links. NoMessage t links × NoRetry t links × NoPiece t links × NoLineAlone t links × NoDestruct t links) o a p5 l5 =
+    idle_then o a p4 l4 p5 l5 both3 acted4 (λ so next. (so.0, so.1, so.2, so.3, next)) so3 device in
+    let both4 = acted_then o a p4 l4 p5 l5 both3 acted4 in
+    let so5 : Idles (λ t links. NoMessage t links × NoRetry t links × NoPiece t links × NoLineAlone t links × NoDestruct t links × NothingToSend t links) o a p6 l6 =
+    idle_then o a p5 l5 p6 l6 both4 acted5 (λ so next. (so.0, so.1, so.2, so.3, so.4, next)) so4 outbox in
+    let both5 = acted_then o a p5 l5 p6 l6 both4 acted5 in
+    let so6 : Idles (λ t links. NoMessage t links × NoRetry t links × NoPiece t links × NoLineAlone t links × NoDestruct t links × NothingToSend t links × NothingToPost t links) o a p7 l7 =
+    idle_then o a p6 l6 p7 l7 both5 acted6 (λ so next. (so.0, so.1, so.2, so.3, so.4, so.5, next)) so5 due in
+    let both6 = acted_then o a p6 l6 p7 l7 both5 acted6 in
+    let so7 : Idles (λ t links. NoMessage t links × NoRetry t links × NoPiece t links × NoLineAlone t links × NoDestruct t links × NothingToSend t links × NothingToPost t links × NoStep t links) o a p8 l8 =
+    idle_last o a p7 l7 p8 l8 both6 acted7 (λ so next. (so.0, so.1, so.2, so.3, so.4, so.5, so.6, next)) so6 request in
+    idle_last o a p8 l8 n c (acted_then o a p7 l7 p8 l8 both6 acted7) acted8
+    (λ so next. record { message = so.0; retry = so.1; piece = so.2; line = so.3; device = so.4; outbox = so.5; due = so.6; request = so.7; refusal = next }) so7 refusal
 
 pub quiet_alone_by : (o : Thread) (a : Links) (n : Thread) (c : Links) (turned : Turned) → turned ≡ turned_of (length a.entries) (length c.entries) → Idles IsWaitingAlone o a n c → QuietsAlone o a n c turned
 quiet_alone_by o a n c turned e h = subst (QuietsAlone o a n c) (sym e) (go (length a.entries == length c.entries) refl)

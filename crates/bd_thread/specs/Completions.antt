@@ -10,7 +10,7 @@ use Rattle.bd_machine.specs.Same.{same_request}
 use Rattle.bd_changes.specs.Lone.{lone}
 use Rattle.bd_due.specs.declared.completion.Ending.{Ending}
 use Rattle.bd_due.specs.Completions.{ended, ending_of}
-use Rattle.bd_due.specs.Stopping.{left_by}
+use Rattle.bd_due.specs.Stopping.{channels_left, left_by}
 use Rattle.bd_links.specs.Entries.{longer}
 use Rattle.bd_tokens.specs.Tokens.{here_in}
 use Rattle.bd_thread.specs.declared.links.Links.{Links}
@@ -25,13 +25,14 @@ without_open req requests = filter (λ r. not (same_request r.id req)) requests
 abbrev pub completed : ReqId → Part → Part
 completed req part = untaken (change_complete (lone part) req).part
 
--- the request completed so: it is no longer open, its pieces are gone and no longer to be put, its ticket is spent, and the entry says so
+-- the request completed so: it is no longer open, its pieces are gone and no longer to be put or to be sent again, its ticket is spent, and the entry says so
 pub record IsCompleted (req : ReqId) (ending : Ending) (old : Thread) (before : Links) (new : Thread) (after : Links) : Type 0 where
   pub part : new.part ≡ completed req old.part
   pub held : here_in new.held.items ≡ ended req ending.pieces (here_in old.held.items)
   pub outbox : new.outbox.items ≡ left_by req ending.status (here_in old.held.items) old.outbox.items
+  pub retries : new.retries ≡ channels_left old.setup.now req ending.status (here_in old.held.items) old.outbox.items old.retries
   pub tickets : new.purse.ids ≡ without req old.purse.ids
-  pub thread : new ≡ record old { part = new.part; held = new.held; outbox = new.outbox; purse = new.purse }
+  pub thread : new ≡ record old { part = new.part; held = new.held; outbox = new.outbox; retries = new.retries; purse = new.purse }
   pub links : after ≡ record before { entries = longer old.me before.entries (acts.Complete req ending.status ending.shown) }
 
 abbrev pub CompletesBy : ReqId → Thread → Links → Thread → Links → Bool → Option Ending → Type 0

@@ -10,6 +10,8 @@ pub mod Duties
 pub mod Served
 pub mod Requests
 pub mod Destructs
+pub mod Refusals
+pub mod Retries
 pub mod Moves
 pub mod Starts
 pub mod Endings

@@ -9,16 +9,21 @@ use Rattle.bd_base.specs.declared.id.ReqId.{ReqId}
 use Rattle.bd_base.specs.declared.id.WalkId.{WalkId}
 use Rattle.bd_machine.specs.declared.state.Id.{Id}
 use Rattle.bd_machine.specs.declared.state.Id.TheVariants as ids
+use Rattle.bd_machine.specs.declared.state.OpenPiece.{OpenPiece}
+use Rattle.bd_machine.specs.declared.state.Progress.{Progress}
+use Rattle.bd_machine.specs.declared.state.Progress.TheVariants.{Out}
+use Rattle.bd_machine.specs.Kept.{as_piece}
 use Rattle.bd_machine.specs.Messages.{count_at}
 use Rattle.bd_links.specs.Entries.{longer}
 use Rattle.bd_thread.specs.declared.links.Links.{Links}
 use Rattle.bd_thread.specs.declared.thread.Thread.{Thread}
 use Rattle.bd_thread.specs.declared.turn.Turned.{Turned}
 use Rattle.bd_thread.specs.declared.turn.Turned.TheVariants.{Moved, Quiet}
-use Rattle.bd_thread.specs.Completions.{MayComplete}
-use Rattle.bd_thread.specs.Sent.{Takes}
+use Rattle.bd_tokens.specs.Tokens.{here_in}
+use Rattle.bd_thread.specs.Refusals.{MaySendBack}
+use Rattle.bd_thread.specs.Retries.{IsBack}
+use Rattle.bd_thread.specs.Sent.{may_send, Takes}
 use Rattle.bd_thread.specs.Served.{next_due}
-use Rattle.bd_thread.specs.Waits.{may_send}
 use Rattle.bd_thread.specs.Walking.{Visits}
 
 abbrev pub turned_of : ℕ → ℕ → Turned
@@ -58,13 +63,22 @@ pub record MayVisit (walk : WalkId) (old : Thread) (before : Links) (new : Threa
   pub made : Bool
   pub visits : Visits walk old before new after made
 
-abbrev pub CompletesOwn : Bool → ReqId → Thread → Links → Thread → Links → Type 0
-CompletesOwn true req old before new after = MayComplete req old before new after
-CompletesOwn false req old before new after = (new ≡ old) × (after ≡ before)
+abbrev pub ComesOwn : Bool → ReqId → ℕ → Thread → Links → Thread → Links → Type 0
+ComesOwn true req k old before new after = IsBack req k old before new after
+ComesOwn false req k old before new after = (new ≡ old) × (after ≡ before)
 
--- what a token that came brings about: a piece that its own request completes, a walk its visit, and else nothing
+-- a piece that came to its home goes back where it is one too many there; one that isn't out is back on its own thread
+abbrev pub ComesAs : Progress → DevId → ReqId → ℕ → Thread → Links → Thread → Links → Type 0
+ComesAs Out dev req k old before new after = MaySendBack dev old before new after
+ComesAs _ dev req k old before new after = ComesOwn (req.thread == old.me) req k old before new after
+
+abbrev pub ComesPiece : Option OpenPiece → ReqId → ℕ → Thread → Links → Thread → Links → Type 0
+ComesPiece None req k old before new after = (new ≡ old) × (after ≡ before)
+ComesPiece (Some p) req k old before new after = ComesAs p.progress p.base req k old before new after
+
+-- what a token that came brings about: of a piece that it goes back or is back, a walk's visit, and else nothing
 abbrev pub Comes : Id → Thread → Links → Thread → Links → Type 0
-Comes (ids.Piece req k) old before new after = CompletesOwn (req.thread == old.me) req old before new after
+Comes (ids.Piece req k) old before new after = ComesPiece (as_piece (here_in old.held.items (ids.Piece req k))) req k old before new after
 Comes (ids.Walk walk) old before new after = MayVisit walk old before new after
 Comes _ old before new after = (new ≡ old) × (after ≡ before)
 

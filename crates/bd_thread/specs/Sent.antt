@@ -1,5 +1,5 @@
 -- What a thread takes from its queue and puts into others', and the entries that say so.
-use Rattle.std.specs.Prelude.{◌≡◌, ℕ, Bool, true, false, ◌&&◌, nat_lt, vec_len, Option, Some, None}
+use Rattle.std.specs.Prelude.{◌≡◌, ℕ, Bool, true, false, not, ◌&&◌, nat_lt, List, [], ◌∷◌, vec_len, Option, Some, None}
 use Rattle.bd_base.specs.declared.act.Act.TheVariants as acts
 use Rattle.bd_base.specs.declared.act.Token.{Token}
 use Rattle.bd_machine.specs.declared.state.Id.{Id}
@@ -9,7 +9,7 @@ use Rattle.bd_turns.specs.declared.queue.Message.{Message}
 use Rattle.bd_turns.specs.Tied.{id_next}
 use Rattle.bd_due.specs.Sending.{first_brought}
 use Rattle.bd_links.specs.Entries.{longer}
-use Rattle.bd_links.specs.Queues.{queues_of}
+use Rattle.bd_links.specs.Queues.{is_full, queues_of}
 use Rattle.bd_thread.specs.declared.links.Links.{Links}
 use Rattle.bd_thread.specs.declared.thread.Thread.{Thread}
 use Rattle.bd_thread.specs.Seen.{local}
@@ -26,6 +26,15 @@ Takes old before new after id = TakesBy old before new after id (first_brought (
 -- there is a queue to this thread, the token is one that threads put as yet, and it may go there
 abbrev pub may_put : Thread → Links → ℕ → Token → Bool
 may_put t links to what = nat_lt to (vec_len links.queues) && is_built_token what && may_go t.setup.now t.me (local t links).view to what
+
+-- there is a queue to the thread, and it isn't full
+abbrev pub has_room : Links → ℕ → Bool
+has_room links to = nat_lt to (vec_len links.queues) && not (is_full links.queues.items to)
+
+-- the first of these may go where it is to go, and there is room
+abbrev pub may_send : Thread → Links → List (ℕ × Token) → Bool
+may_send t links [] = false
+may_send t links (x ∷ xs) = has_room links x.0 && is_built_token x.1 && may_go t.setup.now t.me (local t links).view x.0 x.1
 
 -- one Put of the token, where it may go there; else nothing changes
 abbrev pub PutsBy : Thread → Links → Thread → Links → ℕ → Token → Bool → Bool → Type 0

@@ -17,13 +17,14 @@ pub record IsNewLinks (setup : Setup) (links : Links) : Type 0 where
   pub entries : links.entries ≡ []
   pub running : links.shut ≡ false
 
--- it is thread number `me` of the setup with its part as it is at the start, holds no token, has nothing to put, and keeps no ticket
+-- it is thread number `me` of the setup with its part as it is at the start, holds no token, has nothing to put, nothing in flight and nothing that waits to be sent again, and keeps no ticket
 pub record IsNew (me : ℕ) (setup : Setup) (t : Thread) : Type 0 where
   pub own : t.me ≡ me
   pub given : t.setup.now ≡ setup
   pub part : t.part ≡ part_at_start setup [] me
   pub held : t.held.items ≡ []
   pub outbox : t.outbox.items ≡ []
+  pub retries : t.retries ≡ []
   pub tickets : t.purse.ids ≡ []
 
 -- what a thread sees before any entry, with nothing told of its disks, and what is shared then

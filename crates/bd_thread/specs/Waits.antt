@@ -1,12 +1,12 @@
 -- What a thread waits for where its turn added no entry.
-use Rattle.std.specs.Prelude.{◌≡◌, ℕ, ◌<◌, ◌≤◌, ◌^◌, Bool, true, false, not, ◌&&◌, ◌||◌, nat_lt, List, [], ◌∷◌, length, find, slice_get, vec_len, Option, Some, None, is_some}
-use Rattle.bd_base.specs.declared.act.Token.{Token}
+use Rattle.std.specs.Prelude.{◌≡◌, ℕ, ◌<◌, ◌≤◌, ◌^◌, Bool, true, false, not, ◌&&◌, ◌||◌, nat_lt, List, [], ◌∷◌, length, find, slice_get, Option, Some, None, is_some}
 use Rattle.bd_base.specs.declared.id.DevId.{DevId}
 use Rattle.bd_base.specs.declared.id.ReqId.{ReqId}
 use Rattle.bd_base.specs.declared.job.Job.{Job}
 use Rattle.bd_base.specs.declared.job.Job.TheVariants as jobs
 use Rattle.bd_base.specs.declared.setup.Setup.{Setup}
 use Rattle.bd_blocks.specs.Digests.{digest_due}
+use Rattle.bd_machine.specs.declared.state.Base.{Base}
 use Rattle.bd_machine.specs.declared.state.Due.{Due}
 use Rattle.bd_machine.specs.declared.state.Open.{Open}
 use Rattle.bd_machine.specs.Admission.{has_range}
@@ -14,7 +14,6 @@ use Rattle.bd_machine.specs.Asked.{bound_to, is_script_blocked, most_requests, u
 use Rattle.bd_machine.specs.BlockMap.{is_malloc}
 use Rattle.bd_machine.specs.Guards.{is_built_token}
 use Rattle.bd_machine.specs.Homes.{is_base}
-use Rattle.bd_machine.specs.Messages.{may_go}
 use Rattle.bd_machine.specs.View.{View}
 use Rattle.bd_due.specs.Asking.{is_base_if_any}
 use Rattle.bd_due.specs.Completions.{ending_of}
@@ -22,7 +21,7 @@ use Rattle.bd_due.specs.Sending.{first_brought, token_of}
 use Rattle.bd_flight.specs.declared.next.Step.{Step}
 use Rattle.bd_flight.specs.declared.next.Step.TheVariants as steps
 use Rattle.bd_flight.specs.Next.{next_step}
-use Rattle.bd_links.specs.Queues.{is_full, queues_of}
+use Rattle.bd_links.specs.Queues.{queues_of}
 use Rattle.bd_thread.specs.declared.links.Links.{Links}
 use Rattle.bd_thread.specs.declared.thread.Thread.{Thread}
 use Rattle.bd_thread.specs.declared.turn.Turned.{Turned}
@@ -31,7 +30,10 @@ use Rattle.bd_thread.specs.Destructs.{may_device_go}
 use Rattle.bd_thread.specs.Duties.{NoDuty}
 use Rattle.bd_thread.specs.Endings.{left_on, removal_due}
 use Rattle.bd_thread.specs.Lines.{claim_asked, close_asked, job_now, open_asked, outcome_now, remove_asked}
-use Rattle.bd_thread.specs.Seen.{local, view_of}
+use Rattle.bd_thread.specs.Refusals.{refusal_now}
+use Rattle.bd_thread.specs.Retries.{may_retry}
+use Rattle.bd_thread.specs.Seen.{view_of}
+use Rattle.bd_thread.specs.Sent.{has_room, may_send}
 use Rattle.bd_thread.specs.Served.{next_due}
 
 -- ---- messages and pieces
@@ -51,6 +53,32 @@ NoPieceBelow n t links = (dev : DevId) → dev.0 < n → NoPieceOn dev t links
 -- nor on any; their numbers have 32 bits
 abbrev pub NoPiece : Thread → Links → Type 0
 NoPiece = NoPieceBelow (2 ^ 32)
+
+-- ---- pieces that are refused, and those that wait to be sent again
+
+-- no piece is one too many on a device
+abbrev pub NoRefusalOn : DevId → Thread → Links → Type 0
+NoRefusalOn dev t links = refusal_now dev t links ≡ None
+
+-- nor on any of the first n base devices of the thread
+abbrev pub NoRefusalBelow : ℕ → Thread → Links → Type 0
+NoRefusalBelow n t links = (i : ℕ) (b : Base) → i < n → slice_get t.part.bases i ≡ Some b → NoRefusalOn b.dev t links
+
+-- nor on any
+abbrev pub NoRefusal : Thread → Links → Type 0
+NoRefusal t links = (i : ℕ) (b : Base) → slice_get t.part.bases i ≡ Some b → NoRefusalOn b.dev t links
+
+-- no piece that waits may be sent again by the channel at this place
+abbrev pub NoRetryAt : ℕ → Thread → Links → Type 0
+NoRetryAt place t links = may_retry place t links ≡ false
+
+-- nor by any before it
+abbrev pub NoRetryBelow : ℕ → Thread → Links → Type 0
+NoRetryBelow n t links = (place : ℕ) → place < n → NoRetryAt place t links
+
+-- nor by any
+abbrev pub NoRetry : Thread → Links → Type 0
+NoRetry t links = (place : ℕ) → NoRetryAt place t links
 
 -- ---- open requests
 
@@ -164,15 +192,6 @@ pub record NothingLeft (t : Thread) (links : Links) : Type 0 where
 
 -- ---- what is still to be put
 
--- there is a queue to the thread, and it isn't full
-abbrev pub has_room : Links → ℕ → Bool
-has_room links to = nat_lt to (vec_len links.queues) && not (is_full links.queues.items to)
-
--- the first of the outbox may go where it is to go, and there is room
-abbrev pub may_send : Thread → Links → List (ℕ × Token) → Bool
-may_send t links [] = false
-may_send t links (x ∷ xs) = has_room links x.0 && is_built_token x.1 && may_go t.setup.now t.me (local t links).view x.0 x.1
-
 abbrev pub NothingToSend : Thread → Links → Type 0
 NothingToSend t links = may_send t links t.outbox.items ≡ false
 
@@ -196,9 +215,11 @@ pub record IsIdle (Waits : Thread → Links → Type 0) (old : Thread) (before :
 abbrev pub Idles : (Thread → Links → Type 0) → Thread → Links → Thread → Links → Type 0
 Idles Waits old before new after = length after.entries ≤ length before.entries → IsIdle Waits old before new after
 
--- all that a thread waits for: a message that it can take, something that it owes and can do, a piece that it can serve on a device whose home it is, an open request that it can abort by a mark, cut or complete, a line that can go on, after Shutdown on thread 0 a device that it can remove, a handle that it can close by itself or a device that it can destruct, and room for the first of its outbox, if that may go there, and for the first message that is due
+-- all that a thread waits for: a message that it can take, a piece that it can send back or send again, something that it owes and can do, a piece that it can serve on a device whose home it is, an open request that it can abort by a mark, cut or complete, a line that can go on, after Shutdown on thread 0 a device that it can remove, a handle that it can close by itself or a device that it can destruct, and room for the first of its outbox, if that may go there, and for the first message that is due
 pub record IsWaiting (t : Thread) (links : Links) : Type 0 where
   pub message : NoMessage t links
+  pub refusal : NoRefusal t links
+  pub retry : NoRetry t links
   pub duty : NoDuty t links
   pub piece : NoPiece t links
   pub line : is_line_waiting t links ≡ true

@@ -14,7 +14,7 @@ use Rattle.bd_thread.specs.declared.turn.Turned.TheVariants.{Moved, Quiet}
 use Rattle.bd_thread.specs.Acted.{Acted}
 use Rattle.bd_thread.specs.Endings.{left_on}
 use Rattle.bd_thread.specs.Lines.{job_now, outcome_now}
-use Rattle.bd_thread.specs.Waits.{IsIdle, IsWaiting, NoDestruct, NoLine, NoMessage, NoPiece, NoStep, NoSubmission, NothingToPost, NothingToSend}
+use Rattle.bd_thread.specs.Waits.{IsIdle, IsWaiting, NoDestruct, NoLine, NoMessage, NoPiece, NoRefusal, NoRetry, NoStep, NoSubmission, NothingToPost, NothingToSend}
 
 -- ---- what asks the registry for nothing
 
@@ -41,6 +41,8 @@ pub record NoLineAlone (t : Thread) (links : Links) : Type 0 where
 -- all that a thread waits for but what it would ask the registry
 pub record IsWaitingAlone (t : Thread) (links : Links) : Type 0 where
   pub message : NoMessage t links
+  pub refusal : NoRefusal t links
+  pub retry : NoRetry t links
   pub piece : NoPiece t links
   pub line : NoLineAlone t links
   pub device : NoDestruct t links

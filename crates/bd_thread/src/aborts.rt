@@ -14,7 +14,7 @@ use bd_machine::{Id, Kept};
 impl<'a> Thread<'a> {
     /// Aborts a request that is here, where the rules let it for this cause (it has a range, is neither
     /// aborted nor to fail, and isn't cut, or a piece of it waits here unsent, or it is held): true, and
-    /// its pieces that wait unsent are no longer to be put. Else the answer is false, and nothing changed.
+    /// its pieces that wait unsent are no longer to be put, nor to be sent again. Else the answer is false, and nothing changed.
     pub(crate) fn abort(
         &mut self,
         links: &mut Links,
@@ -28,7 +28,13 @@ impl<'a> Thread<'a> {
         let Some(r) = abortable(&self.seen(links), self.setup, self.me, req, cause) else {
             return Ok(false);
         };
-        drop_unsent(&mut self.outbox, &self.held, req);
+        drop_unsent(
+            &mut self.outbox,
+            &mut self.retries,
+            &self.held,
+            self.setup,
+            req,
+        );
         stop_waiting(self.alloc, &mut self.part, self.setup, req, r);
         let kept = Kept::Request(aborted(cause, r));
         self.held.hold(Id::Request(req), kept)?;

@@ -1,18 +1,22 @@
-//! What a home does: it applies pieces to its base devices, and destructs its devices.
-ghost use Rattle.std.specs.Prelude.{◌≡◌, ◌<◌, IfOk, OnOk, vec_len};
+//! What a home does: it applies pieces to its base devices, sends back those that are too many, and
+//! destructs its devices.
+ghost use Rattle.std.specs.Prelude.{◌≡◌, ◌<◌, length, IfOk, OnOk, Some, vec_len};
 ghost use Rattle.bd_thread.specs.Acted.{Acted};
 ghost use Rattle.bd_thread.specs.Destructs.{Destructs};
+ghost use Rattle.bd_thread.specs.Refusals.{refusal_now, IsSentBack, SendsBack};
 ghost use Rattle.bd_thread.specs.Requests.{KeepsTickets};
 ghost use Rattle.bd_thread.specs.Sent.{KeepsRequests};
 ghost use Rattle.bd_thread.specs.Served.{Applies};
+ghost use Rattle.bd_thread.specs.Waits.{Idles, NoRefusal, NoRefusalOn};
+ghost use Rattle.bd_thread.specs.Work.{AsksNothing};
 
 use crate::links::Links;
 use crate::thread::Thread;
-use bd_base::{Act, ApplyEnd, DevId, OutOfMemory};
+use bd_base::{Act, ApplyEnd, DevId, OutOfMemory, ReqId, Token};
 use bd_blocks::{digest_due, size_of};
 use bd_changes::destructed;
-use bd_due::next_due;
-use bd_home::serve;
+use bd_due::{next_due, refusal_due, refuse};
+use bd_home::{drop_last, serve};
 use bd_machine::{Id, Kept};
 use bd_rules::may_destruct;
 
@@ -47,6 +51,73 @@ impl<'a> Thread<'a> {
             },
         )?;
         Ok(Some(Id::Piece(req, k)))
+    }
+
+    // Sends the last piece of a device's queue back, without an end.
+    fn send_back(
+        &mut self,
+        links: &mut Links,
+        dev: DevId,
+        req: ReqId,
+        k: u32,
+    ) -> Result<(), OutOfMemory>
+        requires { refusal_now dev self.old links.old ≡ Some (req, k) }
+        ensures acted { OnOk result (Acted self.old links.old self.new links.new) }
+        ensures tickets { OnOk result (KeepsTickets self.old → KeepsTickets self.new) }
+        ensures sent { OnOk result (IsSentBack req k dev self.old links.old self.new links.new) }
+    {
+        drop_last(self.alloc, &mut self.part.bases, dev);
+        refuse(&mut self.held, req, k)?;
+        self.outbox.push_back((req.thread, Token::Piece(req, k)))?;
+        self.note(links, Act::NoMem { req, k, dev })?;
+        Ok(())
+    }
+
+    /// Sends the last piece of a device's queue back to its own thread, where it is one more than the queue
+    /// takes: true, and it goes without an end. False, and nothing changes, where this thread isn't the
+    /// device's home, the queue takes all that it holds or holds more than one too many, or the last piece
+    /// isn't here or isn't on this device.
+    #[tactic(auto, using(crate::proofs::Alone::alone_none))]
+    pub(crate) fn refuse_last(&mut self, links: &mut Links, dev: DevId) -> Result<bool, OutOfMemory>
+        requires { self.old.me < vec_len links.old.queues }
+        ensures acted { OnOk result (Acted self.old links.old self.new links.new) }
+        ensures tickets { OnOk result (KeepsTickets self.old → KeepsTickets self.new) }
+        ensures quiet { OnOk result (Idles (NoRefusalOn dev) self.old links.old self.new links.new) }
+        ensures sends { IfOk result (SendsBack dev self.old links.old self.new links.new) }
+        ensures alone { OnOk result (AsksNothing links.old links.new) }
+    {
+        let Some((req, k)) = refusal_due(&self.seen(links), self.setup, self.me, dev) else {
+            return Ok(false);
+        };
+        self.send_back(links, dev, req, k)?;
+        Ok(true)
+    }
+
+    /// Sends the last piece of each of the thread's base devices back, where it is one too many, and only
+    /// where there are still as many entries as there were: in a turn that did nothing else. A piece that is
+    /// too many goes back as it comes, so there is hardly ever one.
+    pub(crate) fn refuse_all(
+        &mut self,
+        links: &mut Links,
+        entries: usize,
+    ) -> Result<(), OutOfMemory>
+        requires { self.old.me < vec_len links.old.queues }
+        ensures acted { OnOk result (Acted self.old links.old self.new links.new) }
+        ensures tickets { OnOk result (KeepsTickets self.old → KeepsTickets self.new) }
+        ensures quiet { OnOk result (entries ≡ length links.old.entries → Idles NoRefusal self.old links.old self.new links.new) }
+        ensures alone { OnOk result (AsksNothing links.old links.new) }
+    {
+        for place in 0..self.part.bases.len() {
+            if entries != links.entries.len() {
+                return Ok(());
+            }
+            let Some(base) = self.part.bases.as_slice().get(place) else {
+                return Ok(());
+            };
+            let dev = base.dev;
+            self.refuse_last(links, dev)?;
+        }
+        Ok(())
     }
 
     /// Destructs a device whose home this is, once, where the thread was told to. The entry shows for

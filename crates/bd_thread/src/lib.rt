@@ -11,6 +11,7 @@ mod links;
 mod messages;
 mod requests;
 mod resting;
+mod retries;
 mod steps;
 mod thread;
 mod turn;

@@ -15,10 +15,10 @@ use crate::links::Links;
 use crate::thread::Thread;
 use bd_asked::next_line;
 use bd_base::{Act, DevId, Errno, HandleId, OutOfMemory, ReqId};
-use bd_blocks::{extents, home};
+use bd_blocks::extents;
 use bd_changes::{accepted, completed};
 use bd_due::{
-    Ending, drop_left, drop_request, ending_of, hold_pieces, piece_count, send_pieces, spend,
+    Ending, drop_left, drop_request, ending_of, hold_pieces, piece_count, send_cut, spend,
 };
 use bd_machine::{Decided, Id, Kept, Open, OpenRequest};
 use bd_msg::Ticket;
@@ -168,8 +168,8 @@ impl<'a> Thread<'a> {
 
     /// Cuts a request that may be cut (it is here on its own thread, has a range, every Let and every
     /// decision, and is neither cut nor aborted nor marked), and answers into how many pieces: they are
-    /// here, to be put to their home in order. 0 where there is no such request, and then nothing
-    /// changed.
+    /// here, to be put to their home in order, or, where pieces wait to be sent again to their base device,
+    /// to wait after those. 0 where there is no such request, and then nothing changed.
     pub fn cut(&mut self, links: &mut Links, req: ReqId) -> Result<u32, OutOfMemory>
         requires me { number_of self.old < vec_len links.old.queues }
         ensures acted { OnOk result (Acted self.old links.old self.new links.new) }
@@ -204,7 +204,7 @@ impl<'a> Thread<'a> {
         });
         self.held.hold(Id::Request(req), kept)?;
         hold_pieces(&mut self.held, setup, req, r, found.as_slice())?;
-        send_pieces(&mut self.outbox, home(setup, r.dev), req, n)?;
+        send_cut(&mut self.outbox, &mut self.retries, setup, r.dev, req, n)?;
         self.note(links, Act::Cut { req, pieces: n })?;
         Ok(n)
     }
@@ -212,7 +212,7 @@ impl<'a> Thread<'a> {
     /// Completes a request that is here, where the rules let it: on its own thread, with none of its pieces
     /// out, with no walk of its reset under way and no delay left. It fails where a piece has a fault or a
     /// failure was injected, is aborted where an abort reached it, and succeeds where every piece was served.
-    /// Its pieces that wait unsent, where it doesn't succeed, are no longer to be put. A read that succeeds
+    /// Its pieces that wait unsent, where it doesn't succeed, are no longer to be put, nor to be sent again. A read that succeeds
     /// shows the first 8 bytes and the digest of its data, and completes only where there are as many. Its
     /// ticket is spent. Else the answer is false, and nothing changed.
     pub fn complete(&mut self, links: &mut Links, req: ReqId) -> Result<bool, OutOfMemory>
@@ -241,7 +241,14 @@ impl<'a> Thread<'a> {
             status,
             shown,
         } = ending;
-        drop_left(&mut self.outbox, &self.held, req, status);
+        drop_left(
+            &mut self.outbox,
+            &mut self.retries,
+            &self.held,
+            self.setup,
+            req,
+            status,
+        );
         drop_request(&mut self.held, req, pieces);
         completed(self.alloc, &mut self.part, req);
         spend(&mut self.purse, req, status);

@@ -11,6 +11,7 @@ use bd_blocks::part_at_start;
 use bd_links::add;
 use bd_machine::Part;
 use bd_msg::Purse;
+use bd_tables::Retries;
 use bd_tokens::Tokens;
 use std::alloc::Global;
 use std::collections::VecDeque;
@@ -25,6 +26,8 @@ pub struct Thread<'a> {
     pub(crate) held: Tokens,
     // what is still to be put, and to which thread, in this order
     pub(crate) outbox: VecDeque<(u32, Token)>,
+    // for each base device, its pieces in flight, and those that wait to be sent again
+    pub(crate) retries: Retries,
     // the tickets of its open requests
     pub(crate) purse: Purse,
 }
@@ -44,6 +47,7 @@ impl<'a> Thread<'a> {
             part,
             held: Tokens::new(alloc),
             outbox: VecDeque::new(alloc),
+            retries: Retries::new(alloc),
             purse: Purse::new(alloc),
         })
     }
@@ -67,6 +71,7 @@ impl<'a> Thread<'a> {
             part: _,
             held: _,
             outbox: _,
+            retries: _,
             purse,
         } = self;
         purse.abandon();

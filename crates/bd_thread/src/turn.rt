@@ -1,10 +1,15 @@
-//! A thread's turn: messages, the work of its stores, the script, and what is still to be put.
+//! A thread's turn: messages, pieces that are sent again, the work of its stores, the script, and what is
+//! still to be put.
 ghost use Rattle.std.specs.Prelude.{◌≡◌, ◌<◌, ◌≤◌, Some, true, vec_len, IfOk, OnOk};
 ghost use Rattle.bd_thread.specs.Acted.{Acted};
 ghost use Rattle.bd_thread.specs.Seen.{number_of, setup_of};
 ghost use Rattle.bd_thread.specs.Requests.{IsAsked, IsFresh, KeepsTickets};
-ghost use Rattle.bd_thread.specs.Moves.{turned_of, AddsMore, Comes, Receives, SendsFirst, Serves};
-ghost use Rattle.bd_thread.specs.Waits.{may_send, Idles, IsFilled, NoLine, NoMessage, NoPiece, NoPieceOn, NoSubmission, NothingToPost, NothingToSend, Quiets};
+ghost use Rattle.bd_machine.specs.declared.state.Id.TheVariants as ids;
+ghost use Rattle.bd_machine.specs.Kept.{as_piece};
+ghost use Rattle.bd_tokens.specs.Tokens.{here_in};
+ghost use Rattle.bd_thread.specs.Moves.{turned_of, AddsMore, Comes, ComesPiece, Receives, SendsFirst, Serves};
+ghost use Rattle.bd_thread.specs.Sent.{may_send};
+ghost use Rattle.bd_thread.specs.Waits.{Idles, IsFilled, NoLine, NoMessage, NoPiece, NoPieceOn, NoSubmission, NothingToPost, NothingToSend, Quiets};
 ghost use Rattle.bd_thread.specs.Work.{AsksNothing};
 ghost use Rattle.bd_registry.specs.State.{rows_of};
 
@@ -12,13 +17,12 @@ use crate::links::Links;
 use crate::requests::Refused;
 use crate::thread::Thread;
 use bd_asked::{bound_to, undecided_job};
-use bd_base::{DevId, Errno, HandleId, Job, OutOfMemory, Token};
+use bd_base::{DevId, Errno, HandleId, Job, OutOfMemory, ReqId, Token};
 use bd_due::{first_due, next_ticket};
-use bd_links::is_full;
-use bd_machine::Id;
+use bd_machine::{Id, Progress};
 use bd_rules::has_range;
 use bd_user::has_room;
-use bd_view::Submission;
+use bd_view::{Submission, as_piece};
 
 /// How many messages a turn takes, pieces of a store it serves, and lines it does, at most (SPDK's
 /// batch of messages).
@@ -120,8 +124,30 @@ impl<'a> Thread<'a> {
         }
     }
 
-    // What a token that came brings about: its request completes where it was the last of its pieces, and
-    // a walk visits this thread, where the mark of a removal stops what waits.
+    // What a piece that came brings about: at its home it goes back where it is one too many; on its own
+    // thread it is back.
+    fn piece_came(&mut self, links: &mut Links, req: ReqId, k: u32) -> Result<(), OutOfMemory>
+        requires { self.old.me < vec_len links.old.queues }
+        ensures acted { OnOk result (Acted self.old links.old self.new links.new) }
+        ensures tickets { OnOk result (KeepsTickets self.old → KeepsTickets self.new) }
+        ensures came { OnOk result (ComesPiece (as_piece (here_in self.old.held.items (ids.Piece req k))) req k self.old links.old self.new links.new) }
+    {
+        let Some(piece) = as_piece(self.held.get(Id::Piece(req, k))) else {
+            return Ok(());
+        };
+        let base = piece.base;
+        match piece.progress {
+            Progress::Out => {
+                self.refuse_last(links, base)?;
+                Ok(())
+            }
+            _ => self.take_back(links, req, k),
+        }
+    }
+
+    // What a token that came brings about: a piece goes back from a full home, or is back and completes its
+    // request where it was the last of its pieces; and a walk visits this thread, where the mark of a
+    // removal stops what waits.
     fn came(&mut self, links: &mut Links, id: Id) -> Result<(), OutOfMemory>
         requires { self.old.me < vec_len links.old.queues }
         ensures acted { OnOk result (Acted self.old links.old self.new links.new) }
@@ -129,10 +155,7 @@ impl<'a> Thread<'a> {
         ensures came { OnOk result (Comes id self.old links.old self.new links.new) }
     {
         match id {
-            Id::Piece(req, _) if req.thread == self.me => {
-                self.complete(links, req)?;
-                Ok(())
-            }
+            Id::Piece(req, k) => self.piece_came(links, req, k),
             Id::Walk(walk) => {
                 self.visit(links, walk)?;
                 Ok(())
@@ -258,9 +281,7 @@ impl<'a> Thread<'a> {
         ensures { result ≡ may_send self.now links.now self.now.outbox.items }
     {
         match self.outbox.front() {
-            Some((to, what)) => {
-                !is_full(links.queues.as_slice(), *to) && self.may_put(links, *to, what)
-            }
+            Some((to, what)) => { self.may_leave(links, *to, what) }
             None => false,
         }
     }
@@ -332,7 +353,8 @@ impl<'a> Thread<'a> {
         Ok(())
     }
 
-    /// A turn: at most 8 messages, what the thread owes, at most 8 pieces of each store, at most 8 lines of
+    /// A turn: at most 8 messages, at most 8 pieces of each base device that are sent again, what the thread
+    /// owes, at most 8 pieces of each store, at most 8 lines of
     /// the script, the closes of handles whose device is being removed (after Shutdown of all) and the
     /// destructs that are due, and what is still to be put, until the queue that it goes to is full; where
     /// it did none of this, it cuts or completes the first open request that can be. `Quiet` only where
@@ -348,6 +370,7 @@ impl<'a> Thread<'a> {
     {
         let before = links.entries.len();
         self.receive_all(links)?;
+        self.retry_all(links)?;
         self.discharge_all(links)?;
         self.serve_all(links)?;
         self.command_all(links)?;
@@ -355,6 +378,7 @@ impl<'a> Thread<'a> {
         self.put_outbox(links)?;
         self.put_all_due(links)?;
         self.carry_all(links, before)?;
+        self.refuse_all(links, before)?;
         Ok(tell(before, links.entries.len()))
     }
 }

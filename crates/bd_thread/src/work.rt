@@ -36,7 +36,7 @@ impl<'a> Thread<'a> {
     }
 
     /// A turn that asks the registry for nothing, and leaves it as it is: at most 8 messages, at most 8
-    /// pieces of each store, at most 8 lines of the script as far as they submit or only end, the
+    /// pieces of each base device that are sent again, at most 8 pieces of each store, at most 8 lines of the script as far as they submit or only end, the
     /// destructs that are due, and what is still to be put, until the queue that it goes to is full;
     /// where it did none of this, it cuts or completes the first open request that can be. `Quiet` only
     /// where nothing could be done. It answers out of memory where `turn` does.
@@ -50,12 +50,14 @@ impl<'a> Thread<'a> {
     {
         let before = links.entries.len();
         self.receive_all(links)?;
+        self.retry_all(links)?;
         self.serve_all(links)?;
         self.submit_all(links)?;
         self.destruct_all(links)?;
         self.put_outbox(links)?;
         self.put_all_due(links)?;
         self.carry_all(links, before)?;
+        self.refuse_all(links, before)?;
         Ok(tell(before, links.entries.len()))
     }
 

@@ -23,7 +23,7 @@ mod words;
 use bd_base::OutOfMemory;
 use bd_devices::Devices;
 use bd_poller::Pollers;
-use bd_tables::{Retry, Tables};
+use bd_tables::{Retries, Tables};
 use std::alloc::Global;
 
 fn answer(alloc: Global, subject: &str, case: &str) -> Result<String, OutOfMemory> {
@@ -41,7 +41,7 @@ fn answer(alloc: Global, subject: &str, case: &str) -> Result<String, OutOfMemor
         "poller" => steps::told(alloc, &mut Pollers::new(alloc), case),
         "qos" => qos::answer(alloc, case),
         "report" => report::answer(alloc, case, true),
-        "retry" => steps::told(alloc, &mut Retry::new(alloc), case),
+        "retry" => steps::told(alloc, &mut Retries::new(alloc), case),
         "sums" => report::answer(alloc, case, false),
         "tables" => steps::told(alloc, &mut Tables::new(alloc), case),
         "user" => user::answer(alloc, case),

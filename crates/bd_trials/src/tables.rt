@@ -1,9 +1,9 @@
-//! Where requests wait: the table of a thread's requests by place, and the retry queue of a channel.
+//! Where requests wait: the table of a thread's requests by place, and the retry queues of its channels.
 use crate::steps::{Subject, said};
 use crate::words::{number, request, small};
 use bd_base::{DevId, HandleId, Op, OutOfMemory};
-use bd_msg::{Piece, Request};
-use bd_tables::{Place, Retry, Tables};
+use bd_msg::Request;
+use bd_tables::{Place, Retries, Tables};
 use std::alloc::Global;
 
 // A read on handle 7.
@@ -89,40 +89,49 @@ impl Subject for Tables {
     }
 }
 
-fn piece(k: u32) -> Piece {
-    Piece {
-        req: request("1"),
-        k,
-        base: DevId(0),
-        lba: 0,
-        count: 1,
-        first: 0,
-        op: Op::Read,
+// That many pieces of a base device came back with an end.
+fn landed(retries: &mut Retries, base: DevId, count: u32) {
+    for _round in 0..count {
+        retries.landed(base);
     }
 }
 
-impl Subject for Retry {
+// What a step over the channel of a base device gives.
+fn channel_step(
+    retries: &mut Retries,
+    alloc: Global,
+    base: DevId,
+    words: &[&str],
+) -> Result<String, OutOfMemory> {
+    match words {
+        ["sent", count] => retries.sent(base, small(count))?,
+        ["queue", seq, count] => retries.queue(base, request(seq), small(count))?,
+        ["landed", count] => landed(retries, base, small(count)),
+        ["refused", seq, k] => retries.refused(base, (request(seq), small(k)))?,
+        ["retried"] => retries.retried(base)?,
+        ["dropped", seq, count] => retries.dropped(base, request(seq), small(count) as usize),
+        ["waits"] => {
+            let waits = retries.waits(base);
+            return Ok(format!(in alloc; "{waits}")?);
+        }
+        _ => return said(alloc, "no such step"),
+    }
+    said(alloc, "done")
+}
+
+impl Subject for Retries {
     fn step(&mut self, alloc: Global, words: &[&str]) -> Result<String, OutOfMemory> {
         match words {
-            ["refused", k, in_flight] => {
-                self.reserve(1)?;
-                self.refused(piece(small(k)), small(in_flight));
-                said(alloc, "done")
+            ["next", place] => {
+                let next = self.next_at(small(place) as usize);
+                Ok(format!(in alloc; "{next:?}")?)
             }
-            ["queue", k] => {
-                self.reserve(1)?;
-                self.queue(piece(small(k)));
-                said(alloc, "done")
+            ["channels"] => {
+                let count = self.len();
+                Ok(format!(in alloc; "{count}")?)
             }
-            ["retry", in_flight] => {
-                let sent = self.retry(small(in_flight));
-                Ok(format!(in alloc; "{sent:?}")?)
-            }
-            ["empty"] => {
-                let empty = self.is_empty();
-                Ok(format!(in alloc; "{empty}")?)
-            }
-            _ => said(alloc, "no such step"),
+            [base, rest @ ..] => channel_step(self, alloc, DevId(small(base)), rest),
+            [] => said(alloc, "no such step"),
         }
     }
 }

@@ -32,13 +32,14 @@ returns c =
     let due : abort_due old before c.args.req c.args.cause ≡ Some r =
     sym (c.abortable.ensures ∙ ap (λ (v : View). abortable old.setup.now old.me v c.args.req c.args.cause) c.seen.ensures) ∙ c.in-Some.is in
     let part = untaken (stopped old.setup.now old.part c.args.req (Some r)) in
-    let new : Thread = record old { part = part; held = c.hold.new.self; outbox = c.drop_unsent.new.outbox } in
+    let new : Thread = record old { part = part; held = c.hold.new.self; outbox = c.drop_unsent.new.outbox; retries = c.drop_unsent.new.retries } in
     let after : Links = record before { entries = longer old.me before.entries (acts.Abort c.args.req c.args.cause) } in
     let thread = c.in_ok-note.ensures.thread ∙ ap (λ p. let n : Thread = record new { part = untaken p } in n) c.stop_waiting.ensures in
     let is : IsAborted c.args.req c.args.cause r old before new after = record {
       thread = refl;
       held = subst (λ (x : OpenRequest). Sets old.held.items c.hold.new.self.items (ids.Request c.args.req) (Some (keeps.Request x))) c.aborted.ensures c.in_ok-hold.ensures.ok;
-      outbox = c.drop_unsent.ensures;
+      outbox = c.drop_unsent.ensures.outbox;
+      retries = c.drop_unsent.ensures.retries;
       links = refl;
     } in
     record {

@@ -18,13 +18,14 @@ returns c =
     let old = c.args.self.now in
     let before = c.args.links.now in
     let n = c.in_ok-n.n in
-    let new : Thread = record old { part = untaken old.part; held = c.hold_pieces.new.tokens; outbox = c.send_pieces.new.outbox } in
+    let new : Thread = record old { part = untaken old.part; held = c.hold_pieces.new.tokens; outbox = c.send_cut.new.outbox; retries = c.send_cut.new.retries } in
     let after : Links = record before { entries = longer old.me before.entries (acts.Cut c.args.req n) } in
     let cut : IsCut c.args.req c.args.r n old before new after = record {
       pieces = c.in_ok-n.ensures ∙ ap (λ (es : List Extent). length es) c.in_ok-found.ensures;
       held = cut_held old.setup.now c.args.req c.args.r n c.as_slice.result.now old.held.items c.hold.new.self.items c.hold_pieces.new.tokens.items
           (c.as_slice.ensures ∙ c.in_ok-found.ensures) c.in_ok-hold.ensures.ok c.in_ok-hold_pieces.ensures;
-      outbox = search rules;
+      outbox = c.in_ok-send_cut.ensures.outbox;
+      retries = c.in_ok-send_cut.ensures.retries;
       thread = refl;
       links = refl;
     } in

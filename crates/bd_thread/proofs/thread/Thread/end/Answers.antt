@@ -17,12 +17,13 @@ returns c =
     let old = c.args.self.now in
     let before = c.args.links.now in
     let ending = c.args.ending in
-    let new : Thread = record old { part = untaken c.completed.new.part; held = c.drop_request.new.tokens; outbox = c.drop_left.new.outbox; purse = c.spend.new.purse } in
+    let new : Thread = record old { part = untaken c.completed.new.part; held = c.drop_request.new.tokens; outbox = c.drop_left.new.outbox; retries = c.drop_left.new.retries; purse = c.spend.new.purse } in
     let after : Links = record before { entries = longer old.me before.entries (acts.Complete c.args.req ending.status ending.shown) } in
     let done : IsCompleted c.args.req ending old before new after = record {
       part = ap untaken c.completed.ensures;
       held = c.drop_request.ensures;
-      outbox = c.drop_left.ensures;
+      outbox = c.drop_left.ensures.outbox;
+      retries = c.drop_left.ensures.retries;
       tickets = c.spend.ensures;
       thread = refl;
       links = refl;

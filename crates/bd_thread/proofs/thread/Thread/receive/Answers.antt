@@ -2,17 +2,19 @@ use Rattle.std.proofs.Common.{None, Some, refl, subst}
 use Rattle.bd_thread.specs.Sent.{Takes}
 use Rattle.bd_thread.proofs.Alone.{alone_then, comes_alone, takes_alone}
 use Rattle.bd_thread.proofs.Going.{acted_then}
-use Rattle.bd_thread.proofs.Idle.{comes_idle, idle_then, takes_idle}
+use Rattle.bd_thread.proofs.Idle.{received_more, takes_idle}
 use Rattle.bd_thread.proofs.thread.Thread.receive.Goals as goal
 
 pub returns-clause-acted : goal.returns-clause-acted
 returns-clause-acted c = acted_then _ _ _ _ _ _ c.in_ok-id.ensures.acted c.in_ok-came.ensures.acted
 
 pub returns-clause-quiet : goal.returns-clause-quiet
-returns-clause-quiet c =
-    idle_then {Q = λ t links. Unit {0}} _ _ _ _ _ _ c.in_ok-id.ensures.acted c.in_ok-came.ensures.acted (λ none here. none)
-    (takes_idle _ _ _ _ _ c.in_ok-id.ensures.takes)
-    (comes_idle _ _ _ _ _ tt c.in_ok-came.ensures.came)
+returns-clause-quiet c = λ few.
+    let o = c.args.self.now in
+    let a = c.args.links.now in
+    let m = c.take.new.self in
+    let b = c.take.new.links in
+    absurd (received_more o a m b c.came.new.self c.came.new.links c.in-Some.id (subst (Takes o a m b) c.in-Some.is c.in_ok-id.ensures.takes) c.in_ok-came.ensures.acted few)
 
 pub returns-clause-alone : goal.returns-clause-alone
 returns-clause-alone c =

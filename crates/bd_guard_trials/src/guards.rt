@@ -6,7 +6,7 @@ ghost use Rattle.bd_machine.specs.Same.{same_id};
 ghost use Rattle.bd_machine.specs.Table.{look_up};
 ghost use Rattle.bd_machine.specs.View.{is_of};
 
-use crate::setups::one_device;
+use crate::setups::limited_device;
 use bd_base::{
     AbortCause, Decision, DevId, HandleId, Op, OutOfMemory, Rates, ReqId, Setup, ThreadSet, WalkId,
     WalkKind,
@@ -297,7 +297,7 @@ fn are_refused(rt: &impl Abort, alloc: Global, setup: &Setup) {
 
 #[test]
 fn guards_of_acts_that_no_thread_makes(rt: HostRuntime) -> Result<(), Fail> {
-    let setup = one_device(rt.alloc(), 1, &[RATES])?;
+    let setup = limited_device(rt.alloc(), RATES)?;
     are_refused(&rt, rt.alloc(), &setup);
     Ok(())
 }
@@ -348,7 +348,7 @@ fn are_stopped(rt: &impl Abort, alloc: Global, setup: &Setup) -> Result<(), OutO
 
 #[test]
 fn what_a_mark_stops_and_a_drain_waits_for(rt: HostRuntime) -> Result<(), Fail> {
-    let setup = one_device(rt.alloc(), 1, &[RATES])?;
+    let setup = limited_device(rt.alloc(), RATES)?;
     are_stopped(&rt, rt.alloc(), &setup)?;
     Ok(())
 }

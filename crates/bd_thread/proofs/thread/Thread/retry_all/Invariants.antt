@@ -1,0 +1,14 @@
+use Rattle.bd_thread.specs.Acted.{Acted}
+use Rattle.bd_thread.specs.Requests.{KeepsTickets}
+use Rattle.bd_thread.specs.Waits.{Idles, NoRetryBelow}
+use Rattle.bd_thread.specs.Work.{AsksNothing}
+use Rattle.bd_thread.proofs.thread.Thread.retry_all.Given as goal
+
+-- no channel before this place may send one again
+abbrev pub invariant-loop-place : goal.invariant-loop-place
+invariant-loop-place l = record {
+  acted : Acted l.initial.self l.initial.links l.self l.links;
+  tickets : KeepsTickets l.initial.self → KeepsTickets l.self;
+  quiet : Idles (NoRetryBelow l.place) l.initial.self l.initial.links l.self l.links;
+  alone : AsksNothing l.initial.links l.links;
+}
