@@ -51,11 +51,15 @@ pub(crate) fn failing(alloc: Global) -> Result<String, OutOfMemory> {
     let Ok(mut disk) = host.open_disk("b", 4) else {
         return said(alloc, "no disk");
     };
-    let did = disk.blocks() == 2
-        && disk.write(0, b"AAAA").is_ok()
-        && disk.write(0, b"BBBB").is_err()
-        && disk.flush().is_err()
-        && disk.flush().is_ok();
+    if disk.blocks() != 2 {
+        return said(alloc, "not two blocks");
+    }
+    let did = match disk.write(0, b"AAAA") {
+        Ok(()) => {
+            disk.write(0, b"BBBB").is_err() && disk.flush().is_err() && disk.flush().is_ok()
+        }
+        Err(_) => false,
+    };
     host.close_disk("b", disk);
     let rows = rows(alloc, host.openings())?;
     Ok(format!(in alloc; "{did}; {rows}")?)
