@@ -1,6 +1,6 @@
 //! Two threads by hand, in several orders of their turns, and driven by reactors and schedules. Bytes
 //! and digests are by python.
-ghost use Rattle.std.specs.Prelude.{◌<◌, OnOk};
+ghost use Rattle.std.specs.Prelude.{◌<◌, IfOk, OnOk};
 ghost use Rattle.bd_node.specs.Whole.{IsNode};
 
 use crate::tests::setups::{PLAIN, WRITE, WRITE_9, Word, count_of, long_setup, setup};
