@@ -6,8 +6,8 @@ ghost use Rattle.bd_machine.specs.BlockMap.{path_within};
 ghost use Rattle.bd_machine.specs.Pieces.{extents, is_boundary, is_cut_at};
 ghost use Rattle.bd_machine.specs.Requests.{new_piece, op_of_piece};
 
-use bd_base::{Bytes, DevId, Fill, Op, OutOfMemory, Rows, Setup};
-use bd_machine::{Extent, OpenPiece, OpenRequest, Progress};
+use bd_base::{DevId, Fill, Op, OutOfMemory, Rows, Setup};
+use bd_machine::{Extent, OpenPiece, OpenRequest, Progress, ReadBytes};
 use bd_stack::{at, boundary_of, under};
 use std::alloc::Global;
 
@@ -134,27 +134,15 @@ pub fn new_piece(
         op: op_of_piece(k, r.injected.turned, r.op),
         progress: Progress::Held,
         end: None,
-        read: None,
+        read: ReadBytes::none(),
     })
-}
-
-fn copy_of_bytes(bytes: &Option<Bytes>) -> Result<Option<Bytes>, OutOfMemory>
-    ensures { IfOk result (λ b. b ≡ bytes.now) }
-{
-    match bytes {
-        Some(b) => {
-            let copied = b.copy()?;
-            Ok(Some(copied))
-        }
-        None => Ok(None),
-    }
 }
 
 /// An equal piece, or out of memory.
 pub fn copy_of_piece(p: &OpenPiece) -> Result<OpenPiece, OutOfMemory>
     ensures { IfOk result (λ q. q ≡ p.now) }
 {
-    let read = copy_of_bytes(&p.read)?;
+    let read = p.read.copy()?;
     Ok(OpenPiece {
         base: p.base,
         lba: p.lba,

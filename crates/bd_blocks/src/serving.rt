@@ -7,12 +7,12 @@ ghost use Rattle.bd_machine.specs.declared.state.Progress.TheVariants.{Served};
 
 use crate::bases::base_place;
 use crate::store::{change_by, read_by};
-use bd_base::{ApplyEnd, Bytes, DevId, OutOfMemory, Rows};
-use bd_machine::{Base, OpenPiece, Progress};
+use bd_base::{ApplyEnd, DevId, OutOfMemory, Rows};
+use bd_machine::{Base, OpenPiece, Progress, ReadBytes};
 use std::alloc::Global;
 
 // The piece once it was served, with the bytes that it read.
-fn ended(p: &OpenPiece, end: ApplyEnd, read: Option<Bytes>) -> OpenPiece
+fn ended(p: &OpenPiece, end: ApplyEnd, read: ReadBytes) -> OpenPiece
     ensures { result ≡ record p.now { progress = Served; end = Some end; read = read } }
 {
     OpenPiece {

@@ -6,7 +6,7 @@ ghost use Rattle.bd_machine.specs.Effect.{blocks_after, bytes_at, bytes_read, co
 ghost use Rattle.bd_machine.specs.Homes.{content_by, read_by};
 
 use bd_base::{ApplyEnd, Bytes, Fill, Op, OutOfMemory};
-use bd_machine::{Content, OpenPiece};
+use bd_machine::{Content, OpenPiece, ReadBytes};
 use bd_pages::Blocks;
 use std::alloc::Global;
 
@@ -124,13 +124,13 @@ fn bytes_at(
     content: &Content,
     lba: u64,
     count: u64,
-) -> Result<Option<Bytes>, OutOfMemory>
+) -> Result<ReadBytes, OutOfMemory>
     ensures { IfOk result (λ b. b ≡ bytes_at size content.now lba count) }
 {
     match content {
-        Content::Blocks(blocks) => Ok(Some(read_blocks(alloc, blocks, lba, count)?)),
-        Content::Zeros => Ok(Some(zeros(alloc, size, count)?)),
-        Content::Untold => Ok(None),
+        Content::Blocks(blocks) => Ok(ReadBytes::told(read_blocks(alloc, blocks, lba, count)?)),
+        Content::Zeros => Ok(ReadBytes::told(zeros(alloc, size, count)?)),
+        Content::Untold => Ok(ReadBytes::none()),
     }
 }
 
@@ -139,13 +139,13 @@ fn bytes_read(
     size: u32,
     content: &Content,
     p: &OpenPiece,
-) -> Result<Option<Bytes>, OutOfMemory>
+) -> Result<ReadBytes, OutOfMemory>
     ensures { IfOk result (λ b. b ≡ bytes_read size content.now p.now) }
 {
     if matches!(p.op, Op::Read) {
         bytes_at(alloc, size, content, p.lba, p.count)
     } else {
-        Ok(Some(Bytes::new(alloc)))
+        Ok(ReadBytes::told(Bytes::new(alloc)))
     }
 }
 
@@ -156,11 +156,11 @@ pub(crate) fn read_by(
     size: u32,
     content: &Content,
     p: &OpenPiece,
-) -> Result<Option<Bytes>, OutOfMemory>
+) -> Result<ReadBytes, OutOfMemory>
     ensures { IfOk result (λ b. b ≡ read_by end size content.now p.now) }
 {
     match end {
         ApplyEnd::Done => bytes_read(alloc, size, content, p),
-        ApplyEnd::Fault => Ok(None),
+        ApplyEnd::Fault => Ok(ReadBytes::none()),
     }
 }

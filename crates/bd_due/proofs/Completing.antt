@@ -1,5 +1,5 @@
 -- How a request completes, and what is here after it.
-use Rattle.std.proofs.Common.{◌≡◌, ℕ, suc, zero, ◌+◌, Bool, true, false, cond, not, ◌&&◌, nat_eq, nat_le, List, [], ◌∷◌, length, map, find, take, Option, Some, None, unwrap_or, refl, sym, ◌∙◌, ap, subst, eq-eqb}
+use Rattle.std.proofs.Common.{◌≡◌, ℕ, suc, zero, ◌+◌, Bool, true, false, cond, not, ◌&&◌, nat_eq, nat_le, List, [], ◌∷◌, length, map, find, take, Option, Some, None, is_none, is_some, option_map, unwrap_or, refl, sym, ◌∙◌, ap, subst, eq-eqb}
 use Rattle.std.specs.List.{list_all, range_with_len}
 use Rattle.std.specs.Cmp.Lexicographic.{pointwise}
 use Rattle.std.proofs.lemmas.Bool.{and_from, and_parts}
@@ -26,7 +26,9 @@ use Rattle.bd_machine.specs.Walks.{reset_of}
 use Rattle.bd_tokens.specs.Tokens.{here_in, Sets}
 use Rattle.bd_flight.specs.Due.{end_due, may_end}
 use Rattle.bd_due.specs.declared.completion.Ending.{Ending}
-use Rattle.bd_due.specs.Completions.{data_read, ending_in, ending_of, ends_as, gone, read_as, shown_by, shown_of}
+use Rattle.bd_due.specs.declared.completion.Showing.{Showing}
+use Rattle.bd_due.specs.declared.completion.Showing.TheVariants.{Nothing, Data, Untold}
+use Rattle.bd_due.specs.Completions.{data_read, ending_in, ending_of, ends_as, gone, read_as, shown_by, showing_of, Shows}
 
 -- ---- what it shows
 
@@ -44,14 +46,25 @@ shows_data bytes shown h =
     subst (λ (s : Shown). is_shown (Some bytes) (Some s) ≡ true) (some_is (nat_le 8 (length bytes)) full shown h)
     (and_from (pointwise nat_eq (take 8 bytes) (take 8 bytes)) (pointwise nat_eq (sha256 bytes) (sha256 bytes)) (list_self (take 8 bytes)) (list_self (sha256 bytes)))
 
-shows_all : (o : Option (List ℕ)) (shown : Shown) → shown_of o ≡ Some shown → is_shown o (Some shown) ≡ true
-shows_all None shown h = cc
-shows_all (Some bytes) shown h = shows_data bytes shown h
-
--- ---- how it completes
-
 some_of : {X : Type 0} (x y : X) → Some x ≡ Some y → x ≡ y
 some_of x y h = cc
+
+-- what is shown so is the data
+shows_all : (o : Option (List ℕ)) (showing : Showing) (shown : Option Shown) → showing_of o ≡ Some showing → Shows showing shown → is_shown o shown ≡ true
+shows_all None showing shown h shows = untold shown (subst (λ (s : Showing). Shows s shown) (sym (some_of Untold showing h)) shows)
+  where
+    untold : (shown : Option Shown) → is_some shown ≡ true → is_shown None shown ≡ true
+    untold None e = cc
+    untold (Some s) e = refl
+shows_all (Some bytes) showing shown h shows = go (shown_by bytes) refl h
+  where
+    go : (o : Option Shown) → shown_by bytes ≡ o → option_map Data o ≡ Some showing → is_shown (Some bytes) shown ≡ true
+    go None e h = cc
+    go (Some due) e h =
+        let is : shown ≡ Some due = subst (λ (s : Showing). Shows s shown) (sym (some_of (Data due) showing h)) shows in
+        ap (is_shown (Some bytes)) is ∙ shows_data bytes due e
+
+-- ---- how it completes
 
 -- what is found passes the test
 found_passes : {X : Type 0} (is : X → Bool) (xs : List X) (x : X) → find is xs ≡ Some x → is x ≡ true
@@ -66,25 +79,25 @@ found_passes is (y ∷ ys) x h = go (is y) refl h (found_passes is ys x)
 pub record IsDue (v : View) (req : ReqId) (r : OpenRequest) (n : ℕ) (status : Status) (ending : Ending) : Type 0 where
   pub number : n ≡ ending.pieces
   pub status_is : status ≡ ending.status
-  pub shown : may_show r ending.status (pieces_of v req r) ending.shown ≡ true
+  pub shown : (s : Option Shown) → Shows ending.showing s → may_show r ending.status (pieces_of v req r) s ≡ true
 
 module _ (v : View) (req : ReqId) (r : OpenRequest) (n : ℕ) (status : Status) where
-  read_due : (s : Option Shown) (ending : Ending) → shown_of (data_read v req r) ≡ s → is_read r.op && is_success status ≡ true → read_as n status s ≡ Some ending → IsDue v req r n status ending
+  read_due : (o : Option Showing) (ending : Ending) → showing_of (data_read v req r) ≡ o → is_read r.op && is_success status ≡ true → read_as n status o ≡ Some ending → IsDue v req r n status ending
   read_due None ending is read h = cc
-  read_due (Some shown) ending is read h =
-      subst (IsDue v req r n status) (some_of (record { pieces = n; status = status; shown = Some shown }) ending h) (record {
+  read_due (Some showing) ending is read h =
+      subst (IsDue v req r n status) (some_of (record { pieces = n; status = status; showing = showing }) ending h) (record {
         number = refl;
         status_is = refl;
-        shown = ap (λ b. cond b (is_shown (data_read v req r) (Some shown)) false) read ∙ shows_all (data_read v req r) shown is;
+        shown = λ s shows. ap (λ b. cond b (is_shown (data_read v req r) s) (is_none s)) read ∙ shows_all (data_read v req r) showing s is shows;
       })
 
-  due_by : (b : Bool) (ending : Ending) → is_read r.op && is_success status ≡ b → cond b (read_as n status (shown_of (data_read v req r))) (Some (record { pieces = n; status = status; shown = None })) ≡ Some ending → IsDue v req r n status ending
-  due_by true ending read h = read_due (shown_of (data_read v req r)) ending refl read h
+  due_by : (b : Bool) (ending : Ending) → is_read r.op && is_success status ≡ b → cond b (read_as n status (showing_of (data_read v req r))) (Some (record { pieces = n; status = status; showing = Nothing })) ≡ Some ending → IsDue v req r n status ending
+  due_by true ending read h = read_due (showing_of (data_read v req r)) ending refl read h
   due_by false ending read h =
-      subst (IsDue v req r n status) (some_of (record { pieces = n; status = status; shown = None }) ending h) (record {
+      subst (IsDue v req r n status) (some_of (record { pieces = n; status = status; showing = Nothing }) ending h) (record {
         number = refl;
         status_is = refl;
-        shown = ap (λ b. cond b (is_shown (data_read v req r) None) true) read;
+        shown = λ s shows. ap (λ b. cond b (is_shown (data_read v req r) s) (is_none s)) read ∙ ap is_none shows;
       })
 
 -- the request is here, each of its pieces is back, and it may complete so
@@ -95,7 +108,7 @@ pub record Ends (setup : Setup) (me : ℕ) (v : View) (req : ReqId) (ending : En
   pub back : list_all is_back (pieces_here v req ending.pieces) ≡ true
   pub may : may_complete me v req (request_here v req) ≡ true
   pub status : may_be_status setup v req request ending.status ≡ true
-  pub shown : may_show request ending.status (pieces_of v req request) ending.shown ≡ true
+  pub shown : (s : Option Shown) → Shows ending.showing s → may_show request ending.status (pieces_of v req request) s ≡ true
 
 -- a request that may complete has every piece back
 all_back : (me : ℕ) (v : View) (req : ReqId) (r : OpenRequest) → may_complete me v req (Some r) ≡ true → list_all is_back (pieces_of v req r) ≡ true

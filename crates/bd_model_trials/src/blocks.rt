@@ -162,10 +162,10 @@ fn has_read(piece: &Option<OpenPiece>, bytes: &[u8]) -> bool {
             OpenPiece {
                 progress: Progress::Served,
                 end: Some(ApplyEnd::Done),
-                read: Some(read),
+                read,
                 ..
             },
-        ) => read.as_slice() == bytes,
+        ) => read.as_told() == Some(bytes),
         _ => false,
     }
 }

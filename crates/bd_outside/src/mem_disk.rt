@@ -1,7 +1,7 @@
 //! A disk in memory.
 ghost use Rattle.std.specs.Prelude.{◌≡◌, ◌<◌, ◌≤◌, ◌*◌, Some, None, false, length, IsTrue, OnOk, OnErr};
 ghost use Rattle.bd_outside.specs.Count.{one_more};
-ghost use Rattle.bd_outside.specs.Disk.{IsInside, Reads, overwritten};
+ghost use Rattle.bd_outside.specs.Disk.{HasSameShape, IsInside, Reads};
 ghost use Rattle.bd_outside.specs.Memory.{MemoryDisk, disk_over, next_disk_call_fails, disk_call, failed_disk_call, write_call, flush_call, memory_state};
 
 use crate::disk::Disk;
@@ -142,6 +142,7 @@ impl Disk for MemDisk {
         ensures failed { OnErr result (IsTrue (next_disk_call_fails self.old) × (self.new ≡ failed_disk_call self.old)) }
         ensures same_buffer { OnErr result (to.new ≡ to.old) }
         ensures fault_count { self.old.faults ≤ self.new.faults }
+        ensures same_shape { HasSameShape (memory_state self.old) (memory_state self.new) }
     {
         self.begin_call()?;
         let at = lba as usize * self.block_size as usize;
@@ -156,6 +157,7 @@ impl Disk for MemDisk {
             × (self.new ≡ write_call self.old (lba * self.old.block_size) from.now)) }
         ensures failed { OnErr result (IsTrue (next_disk_call_fails self.old) × (self.new ≡ failed_disk_call self.old)) }
         ensures fault_count { self.old.faults ≤ self.new.faults }
+        ensures same_shape { HasSameShape (memory_state self.old) (memory_state self.new) }
     {
         self.begin_call()?;
         let at = lba as usize * self.block_size as usize;
@@ -168,6 +170,7 @@ impl Disk for MemDisk {
         ensures done { OnOk result ((next_disk_call_fails self.old ≡ false) × (self.new ≡ flush_call self.old)) }
         ensures failed { OnErr result (IsTrue (next_disk_call_fails self.old) × (self.new ≡ failed_disk_call self.old)) }
         ensures fault_count { self.old.faults ≤ self.new.faults }
+        ensures same_shape { HasSameShape (memory_state self.old) (memory_state self.new) }
         ensures flush_count { self.old.flushes ≤ self.new.flushes }
     {
         self.begin_call()?;

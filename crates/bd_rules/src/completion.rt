@@ -1,5 +1,5 @@
 //! When a request may be cut and may complete, and the data that its completion shows.
-ghost use Rattle.std.specs.Prelude.{◌≡◌, false, true, IfNone, IfOk, IfSome, Some};
+ghost use Rattle.std.specs.Prelude.{◌≡◌, false, true, option_map, IfNone, IfOk, IfSome, Some};
 ghost use Rattle.bd_machine.specs.Completion.{data_of, is_shown, is_shown_data, pieces_of, turned_if};
 ghost use Rattle.bd_machine.specs.Kept.{request_here};
 ghost use Rattle.bd_machine.specs.Requests.{has_extents, is_shown_due, may_complete, may_cut};
@@ -8,9 +8,9 @@ use crate::injections::{has_every_decision, is_at_own, is_under_way};
 use crate::kept::request_here;
 use crate::pieces::{all_back, data_of};
 use crate::resets::{is_walking, reset_of};
-use bd_base::{Bytes, Op, OutOfMemory, ReqId, Setup, Shown, Status, digest_of};
+use bd_base::{Op, OutOfMemory, ReqId, Setup, Shown, Status, digest_of};
 use bd_blocks::extents;
-use bd_machine::OpenRequest;
+use bd_machine::{OpenRequest, ReadBytes};
 use bd_view::Sees;
 use std::alloc::Global;
 
@@ -84,19 +84,6 @@ pub fn may_complete<S: Sees>(seen: &S, thread: u32, req: ReqId) -> bool
     is_whole && !is_walking(reset_of(seen.part(), req))
 }
 
-/// The bytes, with byte 0 replaced by 255 minus it where it is to be complemented.
-pub fn turned_if(turned: bool, bytes: Option<Bytes>) -> Option<Bytes>
-    ensures { result ≡ turned_if turned bytes }
-{
-    let mut items = bytes?.into_vec();
-    if turned {
-        if let Some(first) = items.first_mut() {
-            *first = 255 - *first;
-        }
-    }
-    Some(Bytes::from_vec(items))
-}
-
 /// The data that a read shows: what its pieces read in order, with byte 0 complemented where it took an
 /// odd number of corruptions; none where a part of it is untold.
 pub fn data_read<S: Sees>(
@@ -104,12 +91,12 @@ pub fn data_read<S: Sees>(
     seen: &S,
     req: ReqId,
     r: OpenRequest,
-) -> Result<Option<Bytes>, OutOfMemory>
+) -> Result<ReadBytes, OutOfMemory>
     ensures { IfOk result (λ bytes. bytes ≡ turned_if r.injected.turned (data_of (pieces_of (S.view_of seen.now) req r))) }
 {
     let n = r.pieces.unwrap_or(0);
     let bytes = data_of(alloc, seen, req, n)?;
-    Ok(turned_if(r.injected.turned, bytes))
+    Ok(bytes.turned_if(r.injected.turned))
 }
 
 // Whether the first 8 bytes and the digest are those of the data.
@@ -123,13 +110,13 @@ fn is_shown_data(bytes: &[u8], shown: &Shown) -> bool
     same_first && same_digest
 }
 
-fn is_shown(bytes: &Option<Bytes>, shown: &Option<Shown>) -> bool
-    ensures { result ≡ is_shown bytes.now shown.now }
+fn is_shown(bytes: Option<&[u8]>, shown: &Option<Shown>) -> bool
+    ensures { result ≡ is_shown (option_map (λ b. b.now) bytes) shown.now }
 {
     match (shown, bytes) {
         (None, _) => false,
         (Some(_), None) => true,
-        (Some(s), Some(b)) => is_shown_data(b.as_slice(), s),
+        (Some(s), Some(b)) => is_shown_data(b, s),
     }
 }
 
@@ -149,7 +136,7 @@ pub fn is_shown_due<S: Sees>(
     };
     if matches!(r.op, Op::Read) && matches!(status, Status::Success) {
         let bytes = data_read(alloc, seen, req, r)?;
-        Ok(is_shown(&bytes, shown))
+        Ok(is_shown(bytes.as_told(), shown))
     } else {
         Ok(shown.is_none())
     }

@@ -15,9 +15,7 @@ mod resets;
 mod statuses;
 
 pub use admission::{admit, has_range, is_device_of, is_gone, refusal_of};
-pub use completion::{
-    data_read, has_extents, is_shown_due, may_complete, may_cut, turned_if, uncut,
-};
+pub use completion::{data_read, has_extents, is_shown_due, may_complete, may_cut, uncut};
 pub use delays::{is_delay_left, is_delayed};
 pub use homes::{
     base_here, has_destructed, is_digest_due, is_told, may_apply, may_destruct, may_end, may_hold,

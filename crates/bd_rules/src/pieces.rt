@@ -6,7 +6,7 @@ ghost use Rattle.bd_machine.specs.Kept.{pieces_here};
 
 use crate::kept::piece_here;
 use bd_base::{ApplyEnd, Bytes, OutOfMemory, ReqId};
-use bd_machine::{OpenPiece, Progress};
+use bd_machine::{OpenPiece, Progress, ReadBytes};
 use bd_view::{PieceId, Sees};
 use std::alloc::Global;
 
@@ -120,39 +120,30 @@ pub fn any_unsent<S: Sees>(seen: &S, req: ReqId, n: u32) -> bool
     false
 }
 
-// The bytes that a piece read, put after others; none where they are untold.
-fn append_read(
-    so_far: Option<Bytes>,
-    piece: Option<&OpenPiece>,
-) -> Result<Option<Bytes>, OutOfMemory>
+// The bytes that a piece read, put after others; where there is no such piece, nothing.
+fn append_read(so_far: ReadBytes, piece: Option<&OpenPiece>) -> Result<ReadBytes, OutOfMemory>
     ensures { IfOk result (λ bytes. bytes ≡ both_bytes so_far (bytes_of (option_copied piece.entry))) }
 {
-    let Some(mut bytes) = so_far else {
-        return Ok(None);
-    };
     let Some(p) = piece else {
-        return Ok(None);
+        return Ok(ReadBytes::none());
     };
-    match &p.read {
-        Some(more) => {
-            bytes.append(more.as_slice())?;
-            Ok(Some(bytes))
-        }
-        None => Ok(None),
-    }
+    let mut bytes = so_far;
+    bytes.append(&p.read)?;
+    Ok(bytes)
 }
 
-/// The data of the first n pieces of a request in order; none where a part of it is untold.
+/// The data of the first n pieces of a request in order; none where a part of it is untold: then contracts see
+/// nothing of it.
 #[tactic(auto, using(crate::proofs::Left::left_from, crate::proofs::Data::both_assoc, crate::proofs::Data::both_none, crate::proofs::Data::both_end))]
 pub fn data_of<S: Sees>(
     alloc: Global,
     seen: &S,
     req: ReqId,
     n: u32,
-) -> Result<Option<Bytes>, OutOfMemory>
+) -> Result<ReadBytes, OutOfMemory>
     ensures { IfOk result (λ bytes. bytes ≡ data_of (pieces_here (S.view_of seen.now) req n)) }
 {
-    let mut bytes = Some(Bytes::new(alloc));
+    let mut bytes = ReadBytes::told(Bytes::new(alloc));
     for k in 0..n {
         bytes = append_read(bytes, piece_here(seen, PieceId { req, k }))?;
     }

@@ -2,6 +2,7 @@
 use Rattle.std.specs.Prelude.{◌≡◌, Bool, true, false, not, List, filter, Option, Some, None}
 use Rattle.bd_base.specs.declared.act.Act.TheVariants as acts
 use Rattle.bd_base.specs.declared.id.ReqId.{ReqId}
+use Rattle.bd_base.specs.declared.request.Shown.{Shown}
 use Rattle.bd_msg.specs.Purse.{without}
 use Rattle.bd_machine.specs.declared.state.Open.{Open}
 use Rattle.bd_machine.specs.declared.state.Part.{Part}
@@ -9,7 +10,7 @@ use Rattle.bd_machine.specs.Requests.{change_complete}
 use Rattle.bd_machine.specs.Same.{same_request}
 use Rattle.bd_changes.specs.Lone.{lone}
 use Rattle.bd_due.specs.declared.completion.Ending.{Ending}
-use Rattle.bd_due.specs.Completions.{ended, ending_of}
+use Rattle.bd_due.specs.Completions.{ended, ending_of, Shows}
 use Rattle.bd_due.specs.Stopping.{channels_left, left_by}
 use Rattle.bd_links.specs.Entries.{longer}
 use Rattle.bd_tokens.specs.Tokens.{here_in}
@@ -33,7 +34,9 @@ pub record IsCompleted (req : ReqId) (ending : Ending) (old : Thread) (before : 
   pub retries : new.retries ≡ channels_left old.setup.now req ending.status (here_in old.held.items) old.outbox.items old.retries
   pub tickets : new.purse.ids ≡ without req old.purse.ids
   pub thread : new ≡ record old { part = new.part; held = new.held; outbox = new.outbox; retries = new.retries; purse = new.purse }
-  pub links : after ≡ record before { entries = longer old.me before.entries (acts.Complete req ending.status ending.shown) }
+  pub shown : Option Shown
+  pub shows : Shows ending.showing shown
+  pub links : after ≡ record before { entries = longer old.me before.entries (acts.Complete req ending.status shown) }
 
 abbrev pub CompletesBy : ReqId → Thread → Links → Thread → Links → Bool → Option Ending → Type 0
 CompletesBy req old before new after done None = (done ≡ false) × (new ≡ old) × (after ≡ before)

@@ -5,7 +5,7 @@ ghost use Rattle.bd_machine.specs.Kept.{request_here};
 ghost use Rattle.bd_machine.specs.Registry.{handle_of};
 ghost use Rattle.bd_machine.specs.Requests.{may_cut};
 ghost use Rattle.bd_thread.specs.Acted.{Acted};
-ghost use Rattle.bd_due.specs.Completions.{ending_of};
+ghost use Rattle.bd_due.specs.Completions.{ending_of, Shows};
 ghost use Rattle.bd_thread.specs.Completions.{Completes, IsCompleted};
 ghost use Rattle.bd_thread.specs.Cuts.{Cuts, IsCut};
 ghost use Rattle.bd_thread.specs.Requests.{refusal, IsAccepted, IsAsked, IsFresh, IsOpened, IsRefused, KeepsTickets, Refuses};
@@ -14,11 +14,12 @@ ghost use Rattle.bd_thread.specs.Seen.{number_of, view_of};
 use crate::links::Links;
 use crate::thread::Thread;
 use bd_asked::next_line;
-use bd_base::{Act, DevId, Errno, HandleId, OutOfMemory, ReqId};
+use bd_base::{Act, DevId, Errno, HandleId, OutOfMemory, ReqId, Shown};
 use bd_blocks::extents;
 use bd_changes::{accepted, completed};
 use bd_due::{
-    Ending, drop_left, drop_request, ending_of, hold_pieces, piece_count, send_cut, spend,
+    Ending, drop_left, drop_request, ending_of, hold_pieces, piece_count, send_cut, shown_now,
+    spend,
 };
 use bd_machine::{Decided, Id, Kept, Open, OpenRequest};
 use bd_msg::Ticket;
@@ -213,7 +214,7 @@ impl<'a> Thread<'a> {
     /// out, with no walk of its reset under way and no delay left. It fails where a piece has a fault or a
     /// failure was injected, is aborted where an abort reached it, and succeeds where every piece was served.
     /// Its pieces that wait unsent, where it doesn't succeed, are no longer to be put, nor to be sent again. A read that succeeds
-    /// shows the first 8 bytes and the digest of its data, and completes only where there are as many. Its
+    /// shows the first 8 bytes and the digest of its data, and completes only where there are as many; of data that isn't told, what its disk gave. Its
     /// ticket is spent. Else the answer is false, and nothing changed.
     pub fn complete(&mut self, links: &mut Links, req: ReqId) -> Result<bool, OutOfMemory>
         requires me { number_of self.old < vec_len links.old.queues }
@@ -225,13 +226,21 @@ impl<'a> Thread<'a> {
         else {
             return Ok(false);
         };
-        self.end(links, req, ending)?;
+        let shown = shown_now(self.alloc, &self.seen(links), req, ending.showing)?;
+        self.end(links, req, ending, shown)?;
         Ok(true)
     }
 
-    // The request completes so.
-    fn end(&mut self, links: &mut Links, req: ReqId, ending: Ending) -> Result<(), OutOfMemory>
-        requires { ending_of self.old.setup.now self.old.me (view_of self.old links.old) req ≡ Some ending }
+    // The request completes so, and shows this.
+    fn end(
+        &mut self,
+        links: &mut Links,
+        req: ReqId,
+        ending: Ending,
+        shown: Option<Shown>,
+    ) -> Result<(), OutOfMemory>
+        requires due { ending_of self.old.setup.now self.old.me (view_of self.old links.old) req ≡ Some ending }
+        requires shows { Shows ending.showing shown }
         ensures acted { OnOk result (Acted self.old links.old self.new links.new) }
         ensures completed { OnOk result (IsCompleted req ending self.old links.old self.new links.new) }
         ensures tickets { OnOk result (KeepsTickets self.old → KeepsTickets self.new) }
@@ -239,7 +248,7 @@ impl<'a> Thread<'a> {
         let Ending {
             pieces,
             status,
-            shown,
+            showing: _,
         } = ending;
         drop_left(
             &mut self.outbox,

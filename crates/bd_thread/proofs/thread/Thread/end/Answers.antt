@@ -18,7 +18,7 @@ returns c =
     let before = c.args.links.now in
     let ending = c.args.ending in
     let new : Thread = record old { part = untaken c.completed.new.part; held = c.drop_request.new.tokens; outbox = c.drop_left.new.outbox; retries = c.drop_left.new.retries; purse = c.spend.new.purse } in
-    let after : Links = record before { entries = longer old.me before.entries (acts.Complete c.args.req ending.status ending.shown) } in
+    let after : Links = record before { entries = longer old.me before.entries (acts.Complete c.args.req ending.status c.args.shown) } in
     let done : IsCompleted c.args.req ending old before new after = record {
       part = ap untaken c.completed.ensures;
       held = c.drop_request.ensures;
@@ -26,9 +26,11 @@ returns c =
       retries = c.drop_left.ensures.retries;
       tickets = c.spend.ensures;
       thread = refl;
+      shown = c.args.shown;
+      shows = c.requires.shows;
       links = refl;
     } in
-    let acted = completed_acted old before new after c.args.req ending c.requires done in
+    let acted = completed_acted old before new after c.args.req ending c.requires.due done in
     record {
       acted = carried (Acted old before) new after _ _ c.in_ok-note.ensures.thread c.in_ok-note.ensures.links acted;
       completed = carried (IsCompleted c.args.req ending old before) new after _ _ c.in_ok-note.ensures.thread c.in_ok-note.ensures.links done;
