@@ -36,7 +36,7 @@ impl<D> Shelf<D> {
     pub fn put(&mut self, disks: Disks<D>)
         requires { length self.old.items < self.old.capacity }
         ensures items { self.new.items ≡ self.old.items ++ disks ∷ [] }
-        ensures capacity { self.old.capacity ≤ self.new.capacity }
+        ensures capacity { self.new.capacity ≡ self.old.capacity }
     {
         match self.threads.push_back(disks) {
             Ok(()) => (),
@@ -48,7 +48,7 @@ impl<D> Shelf<D> {
     /// changed.
     pub fn take(&mut self) -> Option<Disks<D>>
         ensures items { MatchOption result ((self.old.items ≡ []) × (self.new.items ≡ [])) (λ disks. self.old.items ≡ disks ∷ self.new.items) }
-        ensures capacity { self.old.capacity ≤ self.new.capacity }
+        ensures capacity { self.new.capacity ≡ self.old.capacity }
     {
         self.threads.pop_front()
     }
