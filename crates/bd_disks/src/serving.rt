@@ -1,5 +1,5 @@
 //! What a piece asks, done to a disk.
-ghost use Rattle.std.specs.Prelude.{◌≡◌, ◌≤◌, ◌*◌, [], length, IfOk, OnOk, OnErr};
+ghost use Rattle.std.specs.Prelude.{◌≡◌, ◌<◌, ◌≤◌, ◌+◌, ◌*◌, ◌^◌, ◌↔◌, [], length, IsTrue, IfOk, OnOk, OnErr};
 ghost use Rattle.std.specs.List.{concat};
 ghost use Rattle.bd_base.specs.declared.request.Op.TheVariants as ops;
 ghost use Rattle.bd_base.specs.declared.act.ApplyEnd.TheVariants as ends;
@@ -133,6 +133,35 @@ fn flush<D: Disk>(alloc: Global, disk: &mut D, size: u32, piece: &OpenPiece) -> 
         Ok(()) => done(Bytes::new(alloc)),
         Err(Failed) => fault(alloc),
     }
+}
+
+// Whether this many blocks from block `lba` on are among the first `blocks`.
+fn is_within(lba: u64, count: u64, blocks: u64) -> bool
+    ensures { IsTrue result ↔ (lba + count ≤ blocks) }
+{
+    match lba.checked_add(count) {
+        Some(end) => end <= blocks,
+        None => false,
+    }
+}
+
+// Whether the numbers of a piece's blocks and its length in bytes have 64 bits.
+fn has_numbers(size: u32, piece: &OpenPiece) -> bool
+    ensures { IsTrue result ↔ ((piece.now.first + piece.now.count < 2 ^ 64) × (piece.now.count * size < 2 ^ 64)) }
+{
+    piece.first.checked_add(piece.count).is_some() && piece.count.checked_mul(size as u64).is_some()
+}
+
+/// Whether `serve` may be asked to do what the piece asks: the disk has blocks of `size` bytes, at
+/// least 1, and holds the piece's blocks, and the numbers of its blocks in the request's device and
+/// its length in bytes have 64 bits.
+pub fn can_serve<D: Disk>(disk: &D, size: u32, piece: &OpenPiece) -> bool
+    ensures { IsTrue result ↔ IsInsideDisk (D.state disk.now) size piece.now }
+{
+    size == disk.block_size()
+        && size >= 1
+        && is_within(piece.lba, piece.count, disk.blocks())
+        && has_numbers(size, piece)
 }
 
 /// Does to a disk what a piece asks, by one call of the disk. A read gives the bytes of its blocks;
