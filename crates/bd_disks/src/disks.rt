@@ -5,8 +5,9 @@ ghost use Rattle.std.specs.Option.{option_map};
 ghost use Rattle.bd_disks.specs.Rows.{ChangesDisk, Does, IsInsideOne, disk_of, is_row};
 ghost use Rattle.bd_disks.specs.Serving.{IsInsideDisk};
 
-use crate::serving::{Served, can_serve, serve};
+use crate::serving::{can_serve, serve};
 use bd_base::{DevId, OutOfMemory};
+use bd_home::Given;
 use bd_machine::OpenPiece;
 use bd_outside::Disk;
 use std::alloc::Global;
@@ -97,7 +98,7 @@ fn serve_row<D: Disk>(
     row: &mut (DevId, D),
     size: u32,
     piece: &OpenPiece,
-) -> Result<Served, OutOfMemory>
+) -> Result<Given, OutOfMemory>
     requires inside { IsInsideDisk (D.state row.old.1) size piece.now }
     ensures does { IfOk result (λ s. Does size piece.now s.end s.bytes (D.state row.old.1) (D.state row.new.1)) }
     ensures same_device { row.new.0 ≡ row.old.0 }
@@ -132,7 +133,7 @@ fn serve_in<D: Disk>(
     rows: &mut [(DevId, D)],
     size: u32,
     piece: &OpenPiece,
-) -> Result<Served, OutOfMemory>
+) -> Result<Given, OutOfMemory>
     requires inside { IsInsideOne (option_map D.state (disk_of piece.now.base rows.old)) size piece.now }
     ensures does { IfOk result (λ s. ChangesDisk piece.now.base
         (λ old new. Does size piece.now s.end s.bytes (D.state old) (D.state new)) rows.old rows.new) }
@@ -163,7 +164,7 @@ impl<D: Disk> Disks<D> {
 
     /// Does to the disk of the piece's device what the piece asks, as `serve` does it to one disk.
     /// Out of memory leaves all disks as they were.
-    pub fn serve(&mut self, size: u32, piece: &OpenPiece) -> Result<Served, OutOfMemory>
+    pub fn serve(&mut self, size: u32, piece: &OpenPiece) -> Result<Given, OutOfMemory>
         requires inside { IsInsideOne (option_map D.state (disk_of piece.now.base self.old)) size piece.now }
         ensures does { IfOk result (λ s. ChangesDisk piece.now.base
             (λ old new. Does size piece.now s.end s.bytes (D.state old) (D.state new)) self.old self.new) }

@@ -8,5 +8,5 @@ mod serving;
 mod shelf;
 
 pub use disks::Disks;
-pub use serving::{Served, can_serve, serve};
+pub use serving::{can_serve, serve};
 pub use shelf::Shelf;

@@ -1,9 +1,9 @@
 -- Turns in which disks serve first.
-use Rattle.std.proofs.Common.{◌≡◌, ℕ, ◌<◌, ◌≤◌, ◌+◌, ◌-◌, ◌==◌, ◌⊎◌, inl, inr, Bool, true, false, cond, List, length, Option, Some, None, slice_get, refl, sym, ◌∙◌, ap, subst, arith, eq-eqb, eqb-true}
+use Rattle.std.proofs.Common.{◌≡◌, ℕ, ◌<◌, ◌≤◌, ◌+◌, ◌-◌, ◌==◌, ◌⊎◌, inl, inr, Bool, true, false, cond, List, [], ◌∷◌, ◌++◌, length, Option, Some, None, slice_get, refl, sym, ◌∙◌, ap, subst, arith, eq-eqb, eqb-true}
 use Rattle.std.proofs.lemmas.Bool.{cases_lt}
 use Rattle.bd_base.specs.declared.id.DevId.{DevId}
 use Rattle.bd_outside.specs.Disk.{DiskState}
-use Rattle.bd_storage.specs.Serving.{NoService, NoServiceBelow, NoServiceOn, RestsOnDisks}
+use Rattle.bd_storage.specs.Serving.{moment, AreServed, Moment, NoService, NoServiceBelow, NoServiceOf, NoServiceOn, RestsOnDisks, Serves, ServesIf, ServesOne, Still}
 use Rattle.bd_thread.specs.declared.links.Links.{Links}
 use Rattle.bd_thread.specs.declared.thread.Thread.{Thread}
 use Rattle.bd_thread.specs.declared.turn.Turned.{Turned}
@@ -17,10 +17,6 @@ use Rattle.bd_thread.proofs.Waiting.{quiet_by}
 use Rattle.bd_thread.proofs.Working.{quiet_alone_by}
 
 -- ---- disks one after the other
-
--- where nothing was added the disks are as they were
-abbrev pub Still : {D : Type 0} → Links → Links → List (DevId × D) → List (DevId × D) → Type 0
-Still before after old new = length after.entries ≤ length before.entries → new ≡ old
 
 pub still_then : {D : Type 0} (o : Thread) (a : Links) (m : Thread) (b : Links) (n : Thread) (c : Links) (x y z : List (DevId × D)) → Acted o a m b → Acted m b n c → Still a b x y → Still b c y z → Still a c x z
 still_then o a m b n c x y z g h first second few = second (omega (arith, few, grown o a m b g)) ∙ first (omega (arith, few, grown m b n c h))
@@ -121,3 +117,20 @@ rests_on_disks state disks o a m b n c turned h so first = subst (RestsOnDisks s
     go : (same : Bool) → (length a.entries == length c.entries) ≡ same → RestsOnDisks state disks o (cond same Quiet (Moved (length c.entries - length a.entries)))
     go true same = (first (let k : length a.entries ≡ length c.entries = eqb-true (length a.entries) (length c.entries) same in omega (arith, grown m b n c h))).waits
     go false same = tt
+
+-- ---- what disks did
+
+pub serves_none : {D : Type 0} (state : D → DiskState) (a : Moment D) → Serves D state a a
+serves_none {D = D} state a = record { moments = []; are = refl }
+
+are_then : {D : Type 0} (state : D → DiskState) (xs ys : List (Moment D)) (a b c : Moment D) → AreServed D state xs a b → AreServed D state ys b c → AreServed D state (xs ++ ys) a c
+are_then {D = D} state [] ys a b c g h = subst (λ (m : Moment D). AreServed D state ys m c) g h
+are_then state (x ∷ xs) ys a b c g h = (g.0, are_then state xs ys x b c g.1 h)
+
+pub serves_more : {D : Type 0} (state : D → DiskState) (a b c : Moment D) → Serves D state a b → Serves D state b c → Serves D state a c
+serves_more state a b c g h = record { moments = g.moments ++ h.moments; are = are_then state g.moments h.moments a b c g.are h.are }
+
+-- one that may have been served
+pub serves_if : {D : Type 0} (state : D → DiskState) (a b : Moment D) (done : Bool) → ServesIf D state a b done → Serves D state a b
+serves_if state a b true h = record { moments = b ∷ []; are = (h, refl) }
+serves_if state a b false h = record { moments = []; are = h }

@@ -1,6 +1,6 @@
 //! Disks serve the pieces that wait for them.
-ghost use Rattle.std.specs.Prelude.{◌≡◌, ◌<◌, ◌≤◌, length, vec_len, OnOk};
-ghost use Rattle.bd_storage.specs.Serving.{NoService, NoServiceOn};
+ghost use Rattle.std.specs.Prelude.{◌<◌, vec_len, IfOk, OnOk};
+ghost use Rattle.bd_storage.specs.Serving.{moment, NoService, NoServiceOn, Serves, ServesIf, Still};
 ghost use Rattle.bd_thread.specs.Acted.{Acted};
 ghost use Rattle.bd_thread.specs.Requests.{KeepsTickets};
 ghost use Rattle.bd_thread.specs.Seen.{number_of};
@@ -8,8 +8,7 @@ ghost use Rattle.bd_thread.specs.Waits.{Idles};
 ghost use Rattle.bd_thread.specs.Work.{AsksNothing};
 
 use bd_base::{DevId, OutOfMemory};
-use bd_disks::{Disks, Served};
-use bd_home::Given;
+use bd_disks::Disks;
 use bd_outside::Disk;
 use bd_thread::{Links, Thread};
 
@@ -29,7 +28,8 @@ fn serve_one<D: Disk>(
     ensures tickets { OnOk result (KeepsTickets thread.old → KeepsTickets thread.new) }
     ensures quiet { OnOk result (Idles (λ t _links. NoServiceOn D.state disks.old dev t) thread.old links.old thread.new links.new) }
     ensures alone { OnOk result (AsksNothing links.old links.new) }
-    ensures same { OnOk result (length links.new.entries ≤ length links.old.entries → disks.new ≡ disks.old) }
+    ensures same { OnOk result (Still links.old links.new disks.old disks.new) }
+    ensures serves { IfOk result (ServesIf D D.state (moment disks.old thread.old links.old) (moment disks.new thread.new links.new)) }
 {
     let Some(piece) = thread.next_on_disk(dev) else {
         return Ok(false);
@@ -38,8 +38,8 @@ fn serve_one<D: Disk>(
     if !disks.can_serve(size, piece) {
         return Ok(false);
     }
-    let Served { end, bytes } = disks.serve(size, piece)?;
-    thread.serve_as_given(links, dev, Given { end, bytes })
+    let given = disks.serve(size, piece)?;
+    thread.serve_as_given(links, dev, given)
 }
 
 // The disk of a device serves pieces, at most 8.
@@ -54,7 +54,8 @@ fn serve_some<D: Disk>(
     ensures tickets { OnOk result (KeepsTickets thread.old → KeepsTickets thread.new) }
     ensures quiet { OnOk result (Idles (λ t _links. NoServiceOn D.state disks.old dev t) thread.old links.old thread.new links.new) }
     ensures alone { OnOk result (AsksNothing links.old links.new) }
-    ensures same { OnOk result (length links.new.entries ≤ length links.old.entries → disks.new ≡ disks.old) }
+    ensures same { OnOk result (Still links.old links.new disks.old disks.new) }
+    ensures serves { OnOk result (Serves D D.state (moment disks.old thread.old links.old) (moment disks.new thread.new links.new)) }
 {
     for _round in 0..BATCH {
         if !serve_one(thread, links, disks, dev)? {
@@ -75,6 +76,7 @@ pub(crate) fn serve_all<D: Disk>(
     ensures tickets { OnOk result (KeepsTickets thread.old → KeepsTickets thread.new) }
     ensures quiet { OnOk result (Idles (λ t _links. NoService D.state disks.old t) thread.old links.old thread.new links.new) }
     ensures alone { OnOk result (AsksNothing links.old links.new) }
+    ensures serves { OnOk result (Serves D D.state (moment disks.old thread.old links.old) (moment disks.new thread.new links.new)) }
 {
     for place in 0..disks.len() {
         let Some(dev) = disks.device_at(place) else {

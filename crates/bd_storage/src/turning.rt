@@ -1,7 +1,7 @@
 //! Turns of a thread, in which its disks serve first.
 ghost use Rattle.std.specs.Prelude.{◌≡◌, ◌<◌, vec_len, IfOk, OnOk};
 ghost use Rattle.bd_registry.specs.State.{rows_of};
-ghost use Rattle.bd_storage.specs.Serving.{RestsOnDisks};
+ghost use Rattle.bd_storage.specs.Serving.{moment, RestsOnDisks, TurnsWith};
 ghost use Rattle.bd_thread.specs.Acted.{Acted};
 ghost use Rattle.bd_thread.specs.Moves.{AddsMore, turned_of};
 ghost use Rattle.bd_thread.specs.Requests.{KeepsTickets};
@@ -41,6 +41,7 @@ pub fn turn_with_disks<D: Disk>(
     ensures turned { IfOk result (AddsMore links.old links.new) }
     ensures quiet { IfOk result (Quiets thread.old links.old thread.new links.new) }
     ensures disks { IfOk result (RestsOnDisks D.state disks.old thread.old) }
+    ensures serves { OnOk result (TurnsWith D D.state (moment disks.old thread.old links.old) (moment disks.new thread.new links.new)) }
 {
     let before = links.entries.len();
     serve_all(thread, links, disks)?;
@@ -62,6 +63,7 @@ pub fn work_with_disks<D: Disk>(
     ensures quiet { IfOk result (QuietsAlone thread.old links.old thread.new links.new) }
     ensures alone { OnOk result (ActedAlone thread.old links.old thread.new links.new) }
     ensures disks { IfOk result (RestsOnDisks D.state disks.old thread.old) }
+    ensures serves { OnOk result (TurnsWith D D.state (moment disks.old thread.old links.old) (moment disks.new thread.new links.new)) }
 {
     let before = links.entries.len();
     serve_all(thread, links, disks)?;
