@@ -139,14 +139,14 @@ completion_idle req old before new after done h few = go (ending_of old.setup.no
   where
     go : (o : Option Ending) → ending_of old.setup.now old.me (view_of old before) req ≡ o → CompletesBy req old before new after done o → IsIdle (λ t links. ending_of t.setup.now t.me (view_of t links) req ≡ None) old before new after
     go None e k = record { thread = k.1; links = k.2; waits = e }
-    go (Some ending) e k = absurd (more old.me before after (acts.Complete req ending.status ending.shown) (ap (λ (l : Links). l.entries) k.1.links) few)
+    go (Some ending) e k = absurd (more old.me before after (acts.Complete req ending.status k.1.shown) (ap (λ (l : Links). l.entries) k.1.links) few)
 
 pub completes_idle : {P : Thread → Links → Type 0} (req : ReqId) (old : Thread) (before : Links) (new : Thread) (after : Links) (done : Bool) → P old before → Completes req old before new after done → Idles P old before new after
 completes_idle {P = P} req old before new after done p h few = go (ending_of old.setup.now old.me (view_of old before) req) h
   where
     go : (o : Option Ending) → CompletesBy req old before new after done o → IsIdle P old before new after
     go None k = record { thread = k.1; links = k.2; waits = p }
-    go (Some e) k = absurd (more old.me before after (acts.Complete req e.status e.shown) (ap (λ (l : Links). l.entries) k.1.links) few)
+    go (Some e) k = absurd (more old.me before after (acts.Complete req e.status k.1.shown) (ap (λ (l : Links). l.entries) k.1.links) few)
 
 -- ---- what a visit stops only adds entries
 
@@ -161,7 +161,7 @@ may_grow req old before new after h = go (ending_of old.setup.now old.me (view_o
   where
     go : (o : Option Ending) → CompletesBy req old before new after h.done o → length before.entries ≤ length after.entries
     go None k = same_grows before after k.2
-    go (Some e) k = longer_grows old.me before after (acts.Complete req e.status e.shown) k.1.links
+    go (Some e) k = longer_grows old.me before after (acts.Complete req e.status k.1.shown) k.1.links
 
 stop_grows : (req : ReqId) (cause : AbortCause) (old : Thread) (before : Links) (new : Thread) (after : Links) → Stops req cause old before new after → length before.entries ≤ length after.entries
 stop_grows req cause old before new after h = go (abort_due old before req cause) h
