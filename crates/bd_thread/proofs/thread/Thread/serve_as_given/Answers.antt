@@ -1,10 +1,9 @@
-use Rattle.std.proofs.Common.{◌≡◌, ℕ, Bool, true, List, Option, Some, None, refl, sym, ◌∙◌, ap}
+use Rattle.std.proofs.Common.{◌≡◌, true, List, Some, refl, sym, ◌∙◌, ap}
 use Rattle.std.specs.List.{find}
-use Rattle.std.specs.Option.{option_map}
 use Rattle.bd_base.specs.declared.act.Act.TheVariants as acts
 use Rattle.bd_machine.specs.declared.state.Base.{Base}
 use Rattle.bd_machine.specs.declared.state.Id.TheVariants as ids
-use Rattle.bd_machine.specs.Homes.{applied, is_base, is_first_at, served}
+use Rattle.bd_machine.specs.Homes.{applied, is_base, is_first_at}
 use Rattle.bd_machine.specs.Kept.{as_piece}
 use Rattle.bd_machine.specs.Table.{change_first}
 use Rattle.bd_due.specs.Serving.{may_hold, next_on_disk}
