@@ -1,7 +1,15 @@
 -- Turns in which disks serve first.
-use Rattle.std.proofs.Common.{◌≡◌, ℕ, ◌<◌, ◌≤◌, ◌+◌, ◌-◌, ◌==◌, ◌⊎◌, inl, inr, Bool, true, false, cond, List, [], ◌∷◌, ◌++◌, length, Option, Some, None, slice_get, refl, sym, ◌∙◌, ap, subst, arith, eq-eqb, eqb-true}
+use Rattle.std.proofs.Common.{◌≡◌, ℕ, zero, suc, ◌<◌, ◌≤◌, ◌+◌, ◌-◌, ◌==◌, ◌⊎◌, inl, inr, Bool, true, false, cond, List, [], ◌∷◌, ◌++◌, length, Option, Some, None, option_and_then, slice_get, Result, Ok, Err, IfOk, refl, sym, ◌∙◌, ap, subst, arith, eq-eqb, eqb-true}
+use Rattle.std.specs.Option.{option_map}
 use Rattle.std.proofs.lemmas.Bool.{cases_lt}
+use Rattle.std.proofs.lemmas.Option.{slice_get_within}
+use Rattle.bd_base.specs.declared.act.ApplyEnd.{ApplyEnd}
 use Rattle.bd_base.specs.declared.id.DevId.{DevId}
+use Rattle.bd_disks.specs.Rows.{ChangesDisk, Does}
+use Rattle.bd_machine.specs.declared.state.Id.{Id}
+use Rattle.bd_machine.specs.declared.state.Id.TheVariants as ids
+use Rattle.bd_machine.specs.declared.state.OpenPiece.{OpenPiece}
+use Rattle.bd_machine.specs.Kept.{as_piece}
 use Rattle.bd_outside.specs.Disk.{DiskState}
 use Rattle.bd_storage.specs.Serving.{moment, AreServed, Moment, NoService, NoServiceBelow, NoServiceOf, NoServiceOn, RestsOnDisks, Serves, ServesIf, ServesOne, Still}
 use Rattle.bd_thread.specs.declared.links.Links.{Links}
@@ -9,9 +17,14 @@ use Rattle.bd_thread.specs.declared.thread.Thread.{Thread}
 use Rattle.bd_thread.specs.declared.turn.Turned.{Turned}
 use Rattle.bd_thread.specs.declared.turn.Turned.TheVariants.{Moved, Quiet}
 use Rattle.bd_thread.specs.Acted.{Acted}
+use Rattle.bd_thread.specs.Disks.{disk_due, piece_on_disk, ServesAs, ServesAsBy}
 use Rattle.bd_thread.specs.Moves.{turned_of}
+use Rattle.bd_thread.specs.Seen.{block_size}
 use Rattle.bd_thread.specs.Waits.{Idles, IsIdle, IsWaiting, Quiets}
-use Rattle.bd_thread.specs.Work.{IsWaitingAlone, QuietsAlone}
+use Rattle.bd_thread.specs.Work.{ActedAlone, AsksNothing, IsWaitingAlone, QuietsAlone}
+use Rattle.bd_tokens.specs.Tokens.{here_in}
+use Rattle.bd_thread.proofs.Alone.{acted_alone, alone_then}
+use Rattle.bd_thread.proofs.Going.{acted_then}
 use Rattle.bd_thread.proofs.Idle.{grown}
 use Rattle.bd_thread.proofs.Waiting.{quiet_by}
 use Rattle.bd_thread.proofs.Working.{quiet_alone_by}
@@ -120,17 +133,97 @@ rests_on_disks state disks o a m b n c turned h so first = subst (RestsOnDisks s
 
 -- ---- what disks did
 
-pub serves_none : {D : Type 0} (state : D → DiskState) (a : Moment D) → Serves D state a a
-serves_none {D = D} state a = record { moments = []; are = refl }
+pub serves_none : {D : Type 0} (state : D → DiskState) (a : Moment D) → Serves state a a
+serves_none state a = record { moments = []; are = refl }
 
-are_then : {D : Type 0} (state : D → DiskState) (xs ys : List (Moment D)) (a b c : Moment D) → AreServed D state xs a b → AreServed D state ys b c → AreServed D state (xs ++ ys) a c
-are_then {D = D} state [] ys a b c g h = subst (λ (m : Moment D). AreServed D state ys m c) g h
+are_then : {D : Type 0} (state : D → DiskState) (xs ys : List (Moment D)) (a b c : Moment D) → AreServed state xs a b → AreServed state ys b c → AreServed state (xs ++ ys) a c
+are_then {D = D} state [] ys a b c g h = subst (λ (m : Moment D). AreServed state ys m c) g h
 are_then state (x ∷ xs) ys a b c g h = (g.0, are_then state xs ys x b c g.1 h)
 
-pub serves_more : {D : Type 0} (state : D → DiskState) (a b c : Moment D) → Serves D state a b → Serves D state b c → Serves D state a c
+pub serves_more : {D : Type 0} (state : D → DiskState) (a b c : Moment D) → Serves state a b → Serves state b c → Serves state a c
 serves_more state a b c g h = record { moments = g.moments ++ h.moments; are = are_then state g.moments h.moments a b c g.are h.are }
 
 -- one that may have been served
-pub serves_if : {D : Type 0} (state : D → DiskState) (a b : Moment D) (done : Bool) → ServesIf D state a b done → Serves D state a b
+pub serves_if : {D : Type 0} (state : D → DiskState) (a b : Moment D) (done : Bool) → ServesIf state a b done → Serves state a b
 serves_if state a b true h = record { moments = b ∷ []; are = (h, refl) }
 serves_if state a b false h = record { moments = []; are = h }
+
+-- the disk did what the piece that is next asks, and the thread took it
+pub one_served : {D E : Type 0} (state : D → DiskState) (dev : DevId) (p : OpenPiece) (end : ApplyEnd) (bytes : List ℕ) (size : ℕ) (ds ds' : List (DevId × D)) (t : Thread) (a : Links) (t' : Thread) (a' : Links) (result : Result Bool E)
+    → Some p ≡ piece_on_disk t dev
+    → size ≡ block_size t dev
+    → ChangesDisk p.base (λ old new. Does size p end bytes (state old) (state new)) ds ds'
+    → IfOk result (ServesAs dev end t a t' a')
+    → IfOk result (ServesIf state (moment ds t a) (moment ds' t' a'))
+one_served state dev p end bytes size ds ds' t a t' a' (Err e) next sized did serves = tt
+one_served {D = D} state dev p end bytes size ds ds' t a t' a' (Ok done) next sized did serves = go (disk_due t dev) refl serves
+  where
+    one : done ≡ true → ServesIf state (moment ds t a) (moment ds' t' a') done
+    one is = subst (λ (b : Bool). ServesIf state (moment ds t a) (moment ds' t' a') b) (sym is) (record {
+      dev = dev;
+      piece = p;
+      end = end;
+      bytes = bytes;
+      next = sym next;
+      did = subst (λ (n : ℕ). ChangesDisk p.base (λ old new. Does n p end bytes (state old) (state new)) ds ds') sized did;
+      says = subst (λ (b : Bool). ServesAs dev end t a t' a' b) is serves;
+    })
+
+    none : Some p ≡ None → ServesIf state (moment ds t a) (moment ds' t' a') done
+    none e = cc
+
+    go : (due : Option Id) → disk_due t dev ≡ due → ServesAsBy dev end t a t' a' done due → ServesIf state (moment ds t a) (moment ds' t' a') done
+    go None e h = none (next ∙ ap (λ (o : Option Id). option_and_then (λ (id : Id). as_piece (here_in t.held.items id)) o) e)
+    go (Some (ids.Piece req k)) e h = one h.0
+    go (Some (ids.Request req)) e h = absurd h
+    go (Some (ids.Walk walk)) e h = absurd h
+    go (Some (ids.Notice sender receiver number)) e h = absurd h
+
+-- the disk of this device, at this place, after those before it
+pub serves_at : {D : Type 0} (state : D → DiskState) (place : ℕ) (dev : DevId) (x y : List (DevId × D)) (o : Thread) (a : Links) (m : Thread) (b : Links) (n : Thread) (c : Links)
+    → Acted o a m b
+    → Acted m b n c
+    → Still a b x y
+    → Some dev ≡ option_map (λ (row : DevId × D). row.0) (slice_get y place)
+    → Idles (λ t links. NoServiceBelow place state x t) o a m b
+    → Idles (λ t links. NoServiceOn state y dev t) m b n c
+    → Idles (λ t links. NoServiceBelow (place + 1) state x t) o a n c
+serves_at {D = D} state place dev x y o a m b n c g h still at first second = go (slice_get y place) refl at
+  where
+    none : Some dev ≡ None → Idles (λ t links. NoServiceBelow (place + 1) state x t) o a n c
+    none e = cc
+
+    go : (r : Option (DevId × D)) → slice_get y place ≡ r → Some dev ≡ option_map (λ (row : DevId × D). row.0) r → Idles (λ t links. NoServiceBelow (place + 1) state x t) o a n c
+    go None e is = none is
+    go (Some row) e is = serves_below state place row x y o a m b n c g h still e first (subst (λ (d : DevId). Idles (λ t links. NoServiceOn state y d t) m b n c) (some_same is) second)
+
+-- after the last of them
+pub serves_all : {D : Type 0} (state : D → DiskState) (count : ℕ) (x : List (DevId × D)) (o : Thread) (a : Links) (n : Thread) (c : Links)
+    → length x ≤ count
+    → Idles (λ t links. NoServiceBelow count state x t) o a n c
+    → Idles (λ t links. NoService state x t) o a n c
+serves_all state count x o a n c whole first few =
+    let one : IsIdle (λ t links. NoServiceBelow count state x t) o a n c = first few in
+    record { thread = one.thread; links = one.links; waits = λ i row found. one.waits i row (omega (arith, whole, slice_get_within x i row found)) found }
+
+-- a place below their number has one
+pub serves_there : {D : Type 0} {Q : Type 0} (place : ℕ) (x y : List (DevId × D)) (a c : Links)
+    → place < length x
+    → None ≡ option_map (λ (row : DevId × D). row.0) (slice_get y place)
+    → Still a c x y
+    → length c.entries ≤ length a.entries
+    → Q
+serves_there {D = D} {Q = Q} place x y a c within none still few = go x place within (subst (λ (ds : List (DevId × D)). None ≡ option_map (λ (row : DevId × D). row.0) (slice_get ds place)) (still few) none)
+  where
+    no : {X : Type 0} {z : X} → None ≡ Some z → Q
+    no e = cc
+
+    go : (xs : List (DevId × D)) (i : ℕ) → i < length xs → None ≡ option_map (λ (row : DevId × D). row.0) (slice_get xs i) → Q
+    go [] i within none = absurd (omega (arith, within))
+    go (r ∷ rs) zero within none = no none
+    go (r ∷ rs) (suc i) within none = go rs i (omega (arith, within)) none
+
+-- where neither the disks nor the thread asked the registry, the turn didn't
+pub alone_after : (o : Thread) (a : Links) (m : Thread) (b : Links) (n : Thread) (c : Links) → Acted o a m b → AsksNothing a b → ActedAlone m b n c → ActedAlone o a n c
+alone_after o a m b n c g first h =
+    acted_alone o a n c (acted_then o a m b n c g h.acted) (alone_then a b c first (record { registry = h.registry; entries = h.acted.entries; added = h.acted.added; none_asks = h.none_asks }))

@@ -52,7 +52,7 @@ abbrev pub Still : {D : Type 0} → Links → Links → List (DevId × D) → Li
 Still before after old new = length after.entries ≤ length before.entries → new ≡ old
 
 -- the disk of a device did what the piece asks that was next there, and one Apply says so, with the end that the disk gave
-pub record ServesOne (D : Type 0) (state : D → DiskState) (before after : Moment D) : Type 0 where
+pub record ServesOne {D : Type 0} (state : D → DiskState) (before after : Moment D) : Type 0 where
   pub dev : DevId
   pub piece : OpenPiece
   pub end : ApplyEnd
@@ -62,22 +62,22 @@ pub record ServesOne (D : Type 0) (state : D → DiskState) (before after : Mome
   pub says : ServesAs dev end before.thread before.links after.thread after.links true
 
 -- a piece was served, or nothing changed
-abbrev pub ServesIf : (D : Type 0) → (D → DiskState) → Moment D → Moment D → Bool → Type 0
-ServesIf D state before after true = ServesOne D state before after
-ServesIf D state before after false = after ≡ before
+abbrev pub ServesIf : {D : Type 0} → (D → DiskState) → Moment D → Moment D → Bool → Type 0
+ServesIf state before after true = ServesOne state before after
+ServesIf state before after false = after ≡ before
 
 -- one piece after the other was served, over these moments
-abbrev pub AreServed : (D : Type 0) → (D → DiskState) → List (Moment D) → Moment D → Moment D → Type 0
-AreServed D state [] before after = after ≡ before
-AreServed D state (next ∷ more) before after = ServesOne D state before next × AreServed D state more next after
+abbrev pub AreServed : {D : Type 0} → (D → DiskState) → List (Moment D) → Moment D → Moment D → Type 0
+AreServed state [] before after = after ≡ before
+AreServed state (next ∷ more) before after = ServesOne state before next × AreServed state more next after
 
-pub record Serves (D : Type 0) (state : D → DiskState) (before after : Moment D) : Type 0 where
+pub record Serves {D : Type 0} (state : D → DiskState) (before after : Moment D) : Type 0 where
   pub moments : List (Moment D)
-  pub are : AreServed D state moments before after
+  pub are : AreServed state moments before after
 
 -- first disks served, and then the thread went on by itself
-pub record TurnsWith (D : Type 0) (state : D → DiskState) (before after : Moment D) : Type 0 where
+pub record TurnsWith {D : Type 0} (state : D → DiskState) (before after : Moment D) : Type 0 where
   pub middle : Moment D
-  pub served : Serves D state before middle
+  pub served : Serves state before middle
   pub disks : after.disks ≡ middle.disks
   pub acted : Acted middle.thread middle.links after.thread after.links

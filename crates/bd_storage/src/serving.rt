@@ -29,7 +29,7 @@ fn serve_one<D: Disk>(
     ensures quiet { OnOk result (Idles (λ t _links. NoServiceOn D.state disks.old dev t) thread.old links.old thread.new links.new) }
     ensures alone { OnOk result (AsksNothing links.old links.new) }
     ensures same { OnOk result (Still links.old links.new disks.old disks.new) }
-    ensures serves { IfOk result (ServesIf D D.state (moment disks.old thread.old links.old) (moment disks.new thread.new links.new)) }
+    ensures serves { IfOk result (ServesIf D.state (moment disks.old thread.old links.old) (moment disks.new thread.new links.new)) }
 {
     let Some(piece) = thread.next_on_disk(dev) else {
         return Ok(false);
@@ -55,7 +55,7 @@ fn serve_some<D: Disk>(
     ensures quiet { OnOk result (Idles (λ t _links. NoServiceOn D.state disks.old dev t) thread.old links.old thread.new links.new) }
     ensures alone { OnOk result (AsksNothing links.old links.new) }
     ensures same { OnOk result (Still links.old links.new disks.old disks.new) }
-    ensures serves { OnOk result (Serves D D.state (moment disks.old thread.old links.old) (moment disks.new thread.new links.new)) }
+    ensures serves { OnOk result (Serves D.state (moment disks.old thread.old links.old) (moment disks.new thread.new links.new)) }
 {
     for _round in 0..BATCH {
         if !serve_one(thread, links, disks, dev)? {
@@ -76,7 +76,7 @@ pub(crate) fn serve_all<D: Disk>(
     ensures tickets { OnOk result (KeepsTickets thread.old → KeepsTickets thread.new) }
     ensures quiet { OnOk result (Idles (λ t _links. NoService D.state disks.old t) thread.old links.old thread.new links.new) }
     ensures alone { OnOk result (AsksNothing links.old links.new) }
-    ensures serves { OnOk result (Serves D D.state (moment disks.old thread.old links.old) (moment disks.new thread.new links.new)) }
+    ensures serves { OnOk result (Serves D.state (moment disks.old thread.old links.old) (moment disks.new thread.new links.new)) }
 {
     for place in 0..disks.len() {
         let Some(dev) = disks.device_at(place) else {

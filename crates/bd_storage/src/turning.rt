@@ -1,5 +1,5 @@
 //! Turns of a thread, in which its disks serve first.
-ghost use Rattle.std.specs.Prelude.{◌≡◌, ◌<◌, vec_len, IfOk, OnOk};
+ghost use Rattle.std.specs.Prelude.{◌≡◌, ◌<◌, ◌≤◌, vec_len, IfOk, OnOk};
 ghost use Rattle.bd_registry.specs.State.{rows_of};
 ghost use Rattle.bd_storage.specs.Serving.{moment, RestsOnDisks, TurnsWith};
 ghost use Rattle.bd_thread.specs.Acted.{Acted};
@@ -41,7 +41,7 @@ pub fn turn_with_disks<D: Disk>(
     ensures turned { IfOk result (AddsMore links.old links.new) }
     ensures quiet { IfOk result (Quiets thread.old links.old thread.new links.new) }
     ensures disks { IfOk result (RestsOnDisks D.state disks.old thread.old) }
-    ensures serves { OnOk result (TurnsWith D D.state (moment disks.old thread.old links.old) (moment disks.new thread.new links.new)) }
+    ensures serves { OnOk result (TurnsWith D.state (moment disks.old thread.old links.old) (moment disks.new thread.new links.new)) }
 {
     let before = links.entries.len();
     serve_all(thread, links, disks)?;
@@ -63,7 +63,7 @@ pub fn work_with_disks<D: Disk>(
     ensures quiet { IfOk result (QuietsAlone thread.old links.old thread.new links.new) }
     ensures alone { OnOk result (ActedAlone thread.old links.old thread.new links.new) }
     ensures disks { IfOk result (RestsOnDisks D.state disks.old thread.old) }
-    ensures serves { OnOk result (TurnsWith D D.state (moment disks.old thread.old links.old) (moment disks.new thread.new links.new)) }
+    ensures serves { OnOk result (TurnsWith D.state (moment disks.old thread.old links.old) (moment disks.new thread.new links.new)) }
 {
     let before = links.entries.len();
     serve_all(thread, links, disks)?;
