@@ -4,6 +4,8 @@
 mod disks;
 mod image;
 mod serving;
+mod shelf;
 
 pub use disks::Disks;
 pub use serving::{Served, serve};
+pub use shelf::Shelf;
