@@ -1,5 +1,5 @@
 -- No command changes the number of threads.
-use Rattle.std.proofs.Common.{◌≡◌, ℕ, zero, suc, ◌+◌, Bool, true, false, cond, List, [], ◌∷◌, length, Option, None, Some, subst, refl}
+use Rattle.std.proofs.Common.{◌≡◌, ℕ, zero, suc, Bool, true, false, cond, List, [], ◌∷◌, length, Option, None, Some, subst, refl}
 use Rattle.std.specs.Bool.{⊤}
 use Rattle.std.specs.Prelude.{Result, Ok, Err, slice_get}
 use Rattle.bd_base.specs.declared.device.DevRow.{DevRow}
@@ -15,7 +15,7 @@ use Rattle.bd_machine.specs.BlockMap.{is_error}
 use Rattle.bd_machine.specs.Registry.{device_named}
 use Rattle.bd_machine.specs.Users.{dev_of}
 use Rattle.bd_building.specs.Made.{cause_of, made, registered, registered_if, with_devices, with_injection_at, with_limits_at}
-use Rattle.bd_building.specs.Progress.{Outcome, Progress, after_all, begun, configured, must_wait, nothing_yet, put_off, ready, resumed, resumed_at, settled, settled_within, stepped, then_on, with_setup, without}
+use Rattle.bd_building.specs.Progress.{Outcome, Progress, begun, must_wait, put_off, ready, resumed, resumed_at, settled, settled_within, stepped, then_on, with_setup, without}
 use Rattle.bd_building.specs.Rows.{devices_of}
 use Rattle.bd_building.specs.declared.waiter.Waiter.{Waiter}
 
@@ -100,10 +100,6 @@ stepped_runs t progress index command disk on =
     (setup_runs t progress index (made progress.setup command disk) (made_on t progress.setup command disk on)))
     (settled_runs t)
 
-all_run : (t index : ℕ) (progress : Progress) (cs : List Command) → progress.setup.threads ≡ t → Runs t (after_all index progress cs)
-all_run t index progress [] on = on
-all_run t index progress (c ∷ cs) on = then_runs t (stepped progress index c 0) (λ next. after_all (index + 1) next cs) (stepped_runs t progress index c 0 on) (λ p on. all_run t (index + 1) p cs on)
-
--- what the commands of a configuration come to is on the threads that were given
-pub configured_on : (threads : ℕ) (cs : List Command) (progress : Progress) → configured threads cs ≡ Ok progress → progress.setup.threads ≡ threads
-configured_on threads cs progress is = subst (Runs threads) is (all_run threads 0 (nothing_yet threads) cs refl)
+-- what a command comes to is on the threads that it began on
+pub stepped_on : (progress next : Progress) (index : ℕ) (command : Command) (disk : ℕ) → stepped progress index command disk ≡ Ok next → next.setup.threads ≡ progress.setup.threads
+stepped_on progress next index command disk is = subst (Runs progress.setup.threads) is (stepped_runs progress.setup.threads progress index command disk refl)

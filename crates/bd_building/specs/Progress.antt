@@ -8,6 +8,7 @@ use Rattle.bd_config.specs.declared.command.Command.{Command}
 use Rattle.bd_config.specs.declared.command.Command.TheVariants as commands
 use Rattle.bd_devices.specs.Devices.{no_devices}
 use Rattle.bd_machine.specs.Registry.{device_named}
+use Rattle.bd_building.specs.Disks.{file_of, other_disks, own_blocks}
 use Rattle.bd_building.specs.Made.{made}
 use Rattle.bd_building.specs.Rows.{base_name_of}
 use Rattle.bd_building.specs.declared.waiter.Waiter.{Waiter}
@@ -81,17 +82,18 @@ settled progress = settled_within (length progress.waiting) progress
 abbrev pub stepped : Progress → ℕ → Command → ℕ → Outcome
 stepped progress index command disk = then_on (begun progress index command disk) settled
 
--- these commands in order, of which the first has this index and none opens a file
-abbrev pub after_all : ℕ → Progress → List Command → Outcome
-after_all index progress [] = Ok progress
-after_all index progress (command ∷ commands) = then_on (stepped progress index command 0) (λ next. after_all (index + 1) next commands)
+-- these commands in order, of which the first has this index, where the disks that they open have these blocks, in order
+abbrev pub after_all : ℕ → Progress → List Command → List ℕ → Outcome
+after_all index progress [] disks = Ok progress
+after_all index progress (command ∷ commands) disks =
+    then_on (stepped progress index command (own_blocks (file_of command) disks)) (λ next. after_all (index + 1) next commands (other_disks (file_of command) disks))
 
 abbrev pub nothing_yet : ℕ → Progress
 nothing_yet threads = record { setup = no_devices threads; waiting = [] }
 
--- what the commands of a configuration come to on this number of threads, where none opens a file
-abbrev pub configured : ℕ → List Command → Outcome
-configured threads commands = after_all 0 (nothing_yet threads) commands
+-- what the commands of a configuration come to on this number of threads, where the disks that they open have these blocks, in order
+abbrev pub configured : ℕ → List Command → List ℕ → Outcome
+configured threads commands disks = after_all 0 (nothing_yet threads) commands disks
 
 -- ---- the setup
 

@@ -1,7 +1,7 @@
 //! The commands of a configuration, done one after the other.
 ghost use Rattle.std.specs.Prelude.{◌≡◌, ℕ, ◌+◌, ◌<◌, length, slice_get, IfOk, IfSome, OnOk, IsErrOf};
 ghost use Rattle.bd_base.specs.declared.request.Errno.{Errno as Cause};
-ghost use Rattle.bd_building.specs.Progress.{Progress, after_all, begun, configured, finished, nothing_yet, ready, resumed, settled, stepped, with_setup};
+ghost use Rattle.bd_building.specs.Progress.{Progress, begun, finished, nothing_yet, ready, resumed, settled, stepped, with_setup};
 ghost use Rattle.bd_building.specs.Made.{made};
 ghost use Rattle.bd_devices.specs.Registered.{AreToldApart};
 ghost use Rattle.bd_laws.specs.Standing.{StandsOnEarlier};
@@ -78,6 +78,13 @@ impl Building {
         }
     }
 
+    /// How many devices stand: the number of the next one.
+    pub fn devices(&self) -> usize
+        ensures { result ≡ length self.now.setup.devices }
+    {
+        self.devices.as_setup().devices.len()
+    }
+
     /// Does a command, whose place among the commands is this index, and then the commands that waited
     /// for what it made; a command whose base isn't there waits. A command that opens a file is given
     /// the blocks of its disk. A refusal ends the building; its index is that of the command refused,
@@ -91,6 +98,7 @@ impl Building {
     ) -> Result<Building, BuildNo>
         ensures ok { IfOk result (λ b. stepped self index command disk ≡ Ok b) }
         ensures refused { (i : ℕ) (errno : Cause) → IsErrOf result (BuildNo.Refused i errno) → stepped self index command disk ≡ Err (i, errno) }
+        ensures threads { IfOk result (λ b. b.setup.threads ≡ self.setup.threads) }
     {
         let mut building = self;
         building.begin(alloc, index, command, disk)?;
@@ -183,22 +191,4 @@ impl Building {
         }
         Ok(())
     }
-}
-
-/// Does the commands of a configuration in order, where none opens a file.
-pub fn build(alloc: Global, threads: u32, commands: Vec<Command>) -> Result<Building, BuildNo>
-    ensures ok { IfOk result (λ b. configured threads commands.items ≡ Ok b) }
-    ensures refused { (i : ℕ) (errno : Cause) → IsErrOf result (BuildNo.Refused i errno) → configured threads commands.items ≡ Err (i, errno) }
-    ensures threads { IfOk result (λ b. b.setup.threads ≡ threads) }
-{
-    let mut building = Building::new(alloc, threads);
-    let mut index = 0u32;
-    for command in commands {
-        building = building.step(alloc, index, command, 0)?;
-        let Some(next) = index.checked_add(1) else {
-            return Err(BuildNo::OutOfMemory);
-        };
-        index = next;
-    }
-    Ok(building)
 }

@@ -4,14 +4,15 @@ ghost use Rattle.bd_building.specs.Served.{first_unserved, is_served};
 
 use bd_config::Command;
 
-/// Whether the program serves what a command asks for as yet: a malloc or a null device, one that
-/// stands on another and only hands on, or what is ignored.
+/// Whether the program serves what a command asks for as yet: a malloc, a null or an aio device, one
+/// that stands on another and only hands on, or what is ignored.
 pub fn is_served(command: &Command) -> bool
     ensures { result ≡ is_served command.now }
 {
     match command {
         Command::Malloc { .. }
         | Command::Null { .. }
+        | Command::Aio { .. }
         | Command::Passthru { .. }
         | Command::Split { .. }
         | Command::PassedOver => true,

@@ -5,7 +5,7 @@ use bd_base::{
     DevRow, ErrKind, Injections, IoSet, Kind, Name, OutOfMemory, RateSet, Rates, Rows, Setup,
     Waiting,
 };
-use bd_building::{BuildNo, Building, build, first_unserved};
+use bd_building::{BuildNo, Building, first_unserved};
 use bd_config::Command;
 use std::alloc::Global;
 
@@ -107,7 +107,7 @@ fn made(alloc: Global, disk: u64, commands: Vec<Command>) -> Result<Building, Bu
     Ok(building)
 }
 
-/// The answer of a case: commands (`all`), commands where each file has a number of blocks (`disk`), or the
+/// The answer of a case: commands where no file has blocks (`all`), or each has so many (`disk`), or the
 /// first that isn't served as yet (`served`).
 pub(crate) fn answer(alloc: Global, case: &str) -> Result<String, OutOfMemory> {
     let (form, rest) = crate::words::first_word(case);
@@ -117,7 +117,7 @@ pub(crate) fn answer(alloc: Global, case: &str) -> Result<String, OutOfMemory> {
             let (disk, steps) = crate::words::first_word(rest);
             told(alloc, made(alloc, number(disk), commands(alloc, steps)?))
         }
-        _ => told(alloc, build(alloc, 1, commands(alloc, rest)?)),
+        _ => told(alloc, made(alloc, 0, commands(alloc, rest)?)),
     }
 }
 

@@ -10,9 +10,10 @@ use Rattle.bd_machine.specs.declared.state.Id.TheVariants as ids
 use Rattle.bd_machine.specs.declared.state.Kept.{Kept}
 use Rattle.bd_machine.specs.declared.state.Kept.TheVariants as keeps
 use Rattle.bd_machine.specs.declared.state.OpenPiece.{OpenPiece}
-use Rattle.bd_machine.specs.BlockMap.{depth_of, size_of}
+use Rattle.bd_machine.specs.BlockMap.{depth_of, is_aio, size_of}
 use Rattle.bd_machine.specs.Homes.{holds_at_most, is_first_at, is_home}
 use Rattle.bd_machine.specs.Kept.{as_piece}
+use Rattle.bd_machine.specs.Same.{same_dev}
 use Rattle.bd_tokens.specs.Tokens.{here_in}
 use Rattle.bd_due.specs.declared.serving.Next.{Next}
 
@@ -52,3 +53,34 @@ pub record IsNext (setup : Setup) (me : ℕ) (dev : DevId) (base : Option Base) 
   pub home : is_home setup me dev ≡ true
   pub holds : may_hold setup dev base ≡ true
   pub ready : IsReady (size_of setup dev) dev base held n
+
+-- ---- what a disk serves next
+
+abbrev pub id_if_on : DevId → ReqId × ℕ → Option OpenPiece → Option Id
+id_if_on dev q None = None
+id_if_on dev q (Some p) = cond (same_dev p.base dev) (Some (ids.Piece q.0 q.1)) None
+
+abbrev pub first_of : DevId → (Id → Option Kept) → Option (ReqId × ℕ) → Option Id
+first_of dev here None = None
+first_of dev here (Some q) = id_if_on dev q (as_piece (here (ids.Piece q.0 q.1)))
+
+-- the piece that waits first at the base, where it is here and on the device
+abbrev pub first_in : DevId → (Id → Option Kept) → Option Base → Option Id
+first_in dev here base = first_of dev here (first_at base)
+
+-- the piece that the disk of an aio device serves next for thread number `me`; the device is this one of its bases
+abbrev pub next_on_disk : Setup → ℕ → (Id → Option Kept) → DevId → Option Base → Option Id
+next_on_disk setup me here dev base = cond (is_home setup me dev && is_aio setup dev && may_hold setup dev base) (first_in dev here base) None
+
+-- it waits first at the base, is here and on the device
+pub record IsFirst (dev : DevId) (base : Option Base) (held : List (Id × Kept)) (n : Next) : Type 0 where
+  pub first : is_first_at n.req n.k base ≡ true
+  pub here : here_in held (ids.Piece n.req n.k) ≡ Some (keeps.Piece n.piece.now)
+  pub on : same_dev n.piece.now.base dev ≡ true
+
+-- it is so, the thread is the home of the device, which is an aio device, and the device's queue holds no more than it takes
+pub record IsNextOnDisk (setup : Setup) (me : ℕ) (dev : DevId) (base : Option Base) (held : List (Id × Kept)) (n : Next) : Type 0 where
+  pub home : is_home setup me dev ≡ true
+  pub aio : is_aio setup dev ≡ true
+  pub holds : may_hold setup dev base ≡ true
+  pub is_first : IsFirst dev base held n

@@ -29,7 +29,7 @@ pub use refusing::{refusal_due, refuse};
 pub use resting::{are_done_with, are_settled, is_done_with};
 pub use returning::piece_back;
 pub use sending::{begin_walk, copy_of, first_due, leave, may_take, send_off, send_on};
-pub use serving::{Next, next_due};
+pub use serving::{Next, next_due, next_on_disk};
 pub use stopping::{abortable, drop_left, drop_unsent, stop_waiting};
 pub use tickets::{next_ticket, spend};
 pub use visiting::visitor;

@@ -4,4 +4,6 @@
 
 mod serving;
 
-pub use serving::{can_serve, drop_last, first_waiting, last_waiting, serve};
+pub use serving::{
+    Given, can_serve, drop_last, first_waiting, last_waiting, serve, serve_as_given,
+};

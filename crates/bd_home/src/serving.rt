@@ -1,4 +1,4 @@
-//! Which piece waits first at a base device, and its serving; which waits last, and its leaving.
+//! Which piece waits first at a base device, and its serving, also by a disk; which waits last, and its leaving.
 ghost use Rattle.std.specs.Prelude.{◌≡◌, IfOk, OnOk, OnErr, Some, find, true};
 ghost use Rattle.std.specs.Option.{option_map};
 ghost use Rattle.bd_base.specs.declared.act.ApplyEnd.TheVariants as ends;
@@ -7,7 +7,7 @@ ghost use Rattle.bd_machine.specs.Table.{change_first};
 ghost use Rattle.bd_home.specs.Fitting.{fits, is_inside};
 ghost use Rattle.bd_home.specs.Serving.{can_serve, first_at, first_of, last_at, last_of};
 
-use bd_base::{ApplyEnd, DevId, OutOfMemory, ReqId, Rows};
+use bd_base::{ApplyEnd, Bytes, DevId, OutOfMemory, ReqId, Rows};
 use bd_blocks::{base_place, find_base};
 use bd_machine::{Base, Content, OpenPiece};
 use bd_pages::Blocks;
@@ -121,4 +121,50 @@ pub fn serve(
         unreachable!()
     };
     Ok(piece)
+}
+
+/// What the disk of an aio device did with a piece: how that ended, and the bytes that it gave, none after
+/// a fault and none of a piece that isn't a read.
+#[derive(Debug, Drop)]
+pub struct Given {
+    pub end: ApplyEnd,
+    pub bytes: Bytes,
+}
+
+// The piece, which has read these bytes of a content that isn't told, where it has read nothing else.
+fn with_untold(piece: OpenPiece, bytes: Bytes) -> OpenPiece
+    ensures { result ≡ piece }
+{
+    OpenPiece {
+        base: piece.base,
+        lba: piece.lba,
+        count: piece.count,
+        first: piece.first,
+        op: piece.op,
+        progress: piece.progress,
+        end: piece.end,
+        read: piece.read.or_untold(bytes),
+    }
+}
+
+/// The piece that waits first at the device was served by the device's disk, which gave this: the piece is
+/// out of the queue, and is given as it is then. Bytes of a content that isn't told are the disk's. Out of
+/// memory, all bases are as they were. None, and nothing changes, where the device isn't among the bases.
+pub fn serve_as_given(
+    alloc: Global,
+    bases: &mut Rows<Base>,
+    size: u32,
+    dev: DevId,
+    p: &OpenPiece,
+    given: Given,
+) -> Result<Option<OpenPiece>, OutOfMemory>
+    ensures bases { OnOk result (bases.new ≡ change_first (is_base dev) (applied given.end p.now) bases.old) }
+    ensures piece { IfOk result (λ q. q ≡ option_map (served given.end size p.now) (find (is_base dev) bases.old)) }
+    ensures err { OnErr result (bases.new ≡ bases.old) }
+{
+    let Given { end, bytes } = given;
+    match bd_blocks::serve(alloc, bases, size, dev, end, p)? {
+        Some(piece) => Ok(Some(with_untold(piece, bytes))),
+        None => Ok(None),
+    }
 }

@@ -75,6 +75,17 @@ impl ReadBytes {
         }
     }
 
+    /// The same; where it is nothing, these bytes, which aren't told. It takes no memory.
+    pub fn or_untold(self, bytes: Bytes) -> ReadBytes
+        ensures { result ≡ self }
+    {
+        if self.bytes.is_some() {
+            self
+        } else {
+            ReadBytes::untold(bytes)
+        }
+    }
+
     /// Puts what was read after it, where both have bytes; else there is nothing. They are told where all of
     /// them are. Out of memory leaves what may be.
     pub fn append(&mut self, more: &ReadBytes) -> Result<(), OutOfMemory>

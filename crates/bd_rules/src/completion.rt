@@ -111,7 +111,7 @@ fn is_shown_data(bytes: &[u8], shown: &Shown) -> bool
 }
 
 fn is_shown(bytes: Option<&[u8]>, shown: &Option<Shown>) -> bool
-    ensures { result ≡ is_shown (option_map (λ b. b.now) bytes) shown.now }
+    ensures { result ≡ is_shown (option_map (λ b. b.now) bytes.entry) shown.now }
 {
     match (shown, bytes) {
         (None, _) => false,

@@ -1,9 +1,10 @@
 -- What asks the registry for nothing.
-use Rattle.std.proofs.Common.{◌≡◌, ℕ, ◌+◌, Bool, true, false, cond, ◌&&◌, ◌==◌, List, [], ◌∷◌, ◌++◌, length, find, Option, Some, None, refl, sym, ◌∙◌, ap, append_assoc, append-nil}
+use Rattle.std.proofs.Common.{◌≡◌, ℕ, ◌+◌, Bool, true, false, cond, ◌==◌, List, [], ◌∷◌, ◌++◌, length, find, Option, Some, None, refl, sym, ◌∙◌, ap, append_assoc, append-nil}
 use Rattle.std.proofs.lemmas.List.{append_cancel_left}
 use Rattle.std.proofs.lemmas.List.Elements.{filter-append}
 use Rattle.bd_base.specs.declared.act.Act.{Act}
 use Rattle.bd_base.specs.declared.act.Act.TheVariants as acts
+use Rattle.bd_base.specs.declared.act.ApplyEnd.{ApplyEnd}
 use Rattle.bd_base.specs.declared.act.ApplyEnd.TheVariants as ends
 use Rattle.bd_base.specs.declared.act.Entry.{Entry}
 use Rattle.bd_base.specs.declared.act.Outcome.{Outcome}
@@ -40,7 +41,6 @@ use Rattle.bd_due.specs.Sending.{first_brought}
 use Rattle.bd_links.specs.Entries.{entry_at, longer}
 use Rattle.bd_links.specs.Queues.{queues_of}
 use Rattle.bd_thread.specs.declared.links.Links.{Links}
-use Rattle.bd_thread.specs.declared.requests.Refused.{Refused}
 use Rattle.bd_thread.specs.declared.thread.Thread.{Thread}
 use Rattle.bd_thread.specs.Aborts.{abort_due, Stops, StopsBy, StopsEach}
 use Rattle.bd_thread.specs.Acted.{Acted}
@@ -53,6 +53,7 @@ use Rattle.bd_thread.specs.Refusals.{refusal_now, SendsBack, SendsBackBy}
 use Rattle.bd_thread.specs.Requests.{accept_act, refuse_act, IsAccepted, IsRefused}
 use Rattle.bd_thread.specs.Seen.{view_of}
 use Rattle.bd_thread.specs.Sent.{may_put, KeepsRequests, Puts, PutsBy, Takes, TakesBy}
+use Rattle.bd_thread.specs.Disks.{IsServedAs}
 use Rattle.bd_thread.specs.Served.{Applies, ApplyAdded}
 use Rattle.bd_thread.specs.Walking.{visit_due, StopsFor, Visits, VisitsBy}
 use Rattle.bd_thread.specs.Work.{ActedAlone, AsksNothing}
@@ -129,6 +130,9 @@ applies_alone o a n c dev id keeps h = go id h.1
     go (Some (ids.Walk walk)) k = absurd k
     go (Some (ids.Notice sender receiver number)) k = absurd k
 
+pub served_as_alone : (o : Thread) (a : Links) (n : Thread) (c : Links) (req : ReqId) (k : ℕ) (dev : DevId) (end : ApplyEnd) → IsServedAs req k dev end o a n c → AsksNothing a c
+served_as_alone o a n c req k dev end s = alone_by o.me a c (acts.Apply req k dev end) refl s.links
+
 pub destructs_alone : (o : Thread) (a : Links) (n : Thread) (c : Links) (dev : DevId) (done : Bool) → KeepsRequests o a n c → Destructs o a n c dev done → AsksNothing a c
 destructs_alone o a n c dev done keeps h = go (may_device_go o a dev) (digest_due (is_malloc o.setup.now dev) (find (is_base dev) o.part.bases)) h
   where
@@ -143,7 +147,7 @@ completes_alone req o a n c h = go (ending_of o.setup.now o.me (view_of o a) req
   where
     go : (e : Option Ending) → CompletesBy req o a n c h.done e → AsksNothing a c
     go None k = alone_same a c k.2
-    go (Some e) k = alone_by o.me a c (acts.Complete req e.status e.shown) refl k.1.links
+    go (Some e) k = alone_by o.me a c (acts.Complete req e.status k.1.shown) refl k.1.links
 
 pub stops_alone : (req : ReqId) (cause : AbortCause) (o : Thread) (a : Links) (n : Thread) (c : Links) → Stops req cause o a n c → AsksNothing a c
 stops_alone req cause o a n c h = go (abort_due o a req cause) h

@@ -4,7 +4,7 @@ use Rattle.std.specs.List.{find}
 use Rattle.std.specs.Option.{option_map}
 use Rattle.std.proofs.lemmas.Bool.{and_from, and_parts}
 use Rattle.bd_base.specs.declared.act.Act.TheVariants as acts
-use Rattle.bd_base.specs.declared.act.ApplyEnd.TheVariants as ends
+use Rattle.bd_base.specs.declared.act.ApplyEnd.{ApplyEnd}
 use Rattle.bd_base.specs.declared.id.DevId.{DevId}
 use Rattle.bd_base.specs.declared.id.ReqId.{ReqId}
 use Rattle.bd_base.specs.declared.setup.Setup.{Setup}
@@ -18,10 +18,10 @@ use Rattle.bd_machine.specs.declared.state.Kept.TheVariants as keeps
 use Rattle.bd_machine.specs.declared.state.OpenPiece.{OpenPiece}
 use Rattle.bd_machine.specs.declared.state.Part.{Part}
 use Rattle.bd_machine.specs.declared.state.Registry.{Registry}
-use Rattle.bd_machine.specs.BlockMap.{home, row_of, size_of}
+use Rattle.bd_machine.specs.BlockMap.{home, is_aio, row_of, size_of}
 use Rattle.bd_machine.specs.Kept.{as_piece}
 use Rattle.bd_machine.specs.Guards.{noted}
-use Rattle.bd_machine.specs.Homes.{applied, change_applied, is_base, is_first_at, is_home, is_on_base, served}
+use Rattle.bd_machine.specs.Homes.{applied, change_applied, is_base, is_done_or, is_first_at, is_home, is_on_base, served}
 use Rattle.bd_machine.specs.Same.{same_id, same_dev}
 use Rattle.bd_machine.specs.Table.{change_first}
 use Rattle.bd_turns.specs.Local.{Local, carried_local}
@@ -31,10 +31,14 @@ use Rattle.bd_thread.specs.Seen.{local_at, untaken}
 use Rattle.bd_due.specs.Serving.{may_hold}
 use Rattle.bd_thread.proofs.Going.{Steps, steps, still_shut}
 
+-- a base that can serve a piece is the piece's own
+pub serves_own : (size : ℕ) (dev : DevId) (base : Option Base) (q : OpenPiece) → can_serve size dev base q ≡ true → same_dev q.base dev ≡ true
+serves_own size dev base q ready = (and_parts (fits_at size base q) (same_dev q.base dev) ready).1
+
 pub at_home : (setup : Setup) (t : ℕ) (dev : DevId) → is_home setup t dev ≡ true → home setup dev ≡ t
 at_home setup t dev h = eqb-true (home setup dev) t (and_parts (is_some (row_of setup dev)) (home setup dev == t) h).1
 
-module _ (setup : Setup) (t : ℕ) (part : Part) (here : Id → Option Kept) (registry : Registry) (shut : Bool) (stamp : ℕ) (queues : ℕ → List Message) (req : ReqId) (k : ℕ) (dev : DevId) where
+module _ (setup : Setup) (t : ℕ) (part : Part) (here : Id → Option Kept) (registry : Registry) (shut : Bool) (stamp : ℕ) (queues : ℕ → List Message) (req : ReqId) (k : ℕ) (dev : DevId) (end : ApplyEnd) where
   abbrev pub more_here : OpenPiece → Id → Option Kept
   more_here p = λ j. cond (same_id (Piece req k) j) (Some (keeps.Piece p)) (here j)
 
@@ -52,26 +56,27 @@ module _ (setup : Setup) (t : ℕ) (part : Part) (here : Id → Option Kept) (re
       → here (Piece req k) ≡ Some (keeps.Piece q)
       → same_dev q.base dev ≡ true
       → may_hold setup dev (Some b) ≡ true
-      → Steps setup t (local_at t part here registry shut stamp queues) (acts.Apply req k dev ends.Done)
-      (after_apply (change_first (is_base dev) (applied ends.Done q) part.bases) (more_here (served ends.Done (size_of setup dev) q b)))
-  apply_one q b home-is found first is on holds =
+      → is_done_or (is_aio setup dev) end ≡ true
+      → Steps setup t (local_at t part here registry shut stamp queues) (acts.Apply req k dev end)
+      (after_apply (change_first (is_base dev) (applied end q) part.bases) (more_here (served end (size_of setup dev) q b)))
+  apply_one q b home-is found first is on holds allowed =
       let l : Local = local_at t part here registry shut stamp queues in
-      let l' : Local = after_apply (change_first (is_base dev) (applied ends.Done q) part.bases) (more_here (served ends.Done (size_of setup dev) q b)) in
-      let step : Option Kept → Option Base → Local = λ o c. carried_local setup t l (entry_at t (stamp + 1) (acts.Apply req k dev ends.Done)) (noted None (change_applied l.view req k dev ends.Done (size_of setup dev) (as_piece o) c)) in
+      let l' : Local = after_apply (change_first (is_base dev) (applied end q) part.bases) (more_here (served end (size_of setup dev) q b)) in
+      let step : Option Kept → Option Base → Local = λ o c. carried_local setup t l (entry_at t (stamp + 1) (acts.Apply req k dev end)) (noted None (change_applied l.view req k dev end (size_of setup dev) (as_piece o) c)) in
       let at : Bool = home setup dev == t in
       let is_next : Bool = at && is_first_at req k (find (is_base dev) part.bases) in
       let is_on : Bool = is_on_base dev (as_piece (here (Piece req k))) in
-      steps setup t l l' (acts.Apply req k dev ends.Done) refl refl (
+      steps setup t l l' (acts.Apply req k dev end) refl refl (
         and_from (is_next && is_on) (may_hold setup dev (find (is_base dev) part.bases))
             (and_from is_next is_on
             (and_from at (is_first_at req k (find (is_base dev) part.bases)) (eq-eqb (home setup dev) t home-is) (ap (is_first_at req k) found ∙ first))
             (ap (λ (o : Option Kept). is_on_base dev (as_piece o)) is ∙ on))
             (ap (may_hold setup dev) found ∙ holds),
-        (refl, tt),
+        (allowed, tt),
       )
       (ap (λ (o : Option Kept). step o (find (is_base dev) part.bases)) is
       ∙ ap (step (Some (keeps.Piece q))) found
-      ∙ ap (λ (s : Bool). local_at t (untaken (part_with (change_first (is_base dev) (applied ends.Done q) part.bases))) (more_here (served ends.Done (size_of setup dev) q b)) registry s (stamp + 1) queues) (still_shut shut))
+      ∙ ap (λ (s : Bool). local_at t (untaken (part_with (change_first (is_base dev) (applied end q) part.bases))) (more_here (served end (size_of setup dev) q b)) registry s (stamp + 1) queues) (still_shut shut))
 
   apply_of : (c : Option Base) (q : OpenPiece) (size : ℕ) (piece : OpenPiece) (bases : List Base) (more : Id → Option Kept)
       → find (is_base dev) part.bases ≡ c
@@ -79,22 +84,23 @@ module _ (setup : Setup) (t : ℕ) (part : Part) (here : Id → Option Kept) (re
       → size ≡ size_of setup dev
       → is_first_at req k c ≡ true
       → here (Piece req k) ≡ Some (keeps.Piece q)
-      → can_serve size dev c q ≡ true
+      → same_dev q.base dev ≡ true
       → may_hold setup dev c ≡ true
-      → bases ≡ change_first (is_base dev) (applied ends.Done q) part.bases
-      → option_map (served ends.Done size q) c ≡ Some piece
+      → is_done_or (is_aio setup dev) end ≡ true
+      → bases ≡ change_first (is_base dev) (applied end q) part.bases
+      → option_map (served end size q) c ≡ Some piece
       → more ≡ more_here piece
-      → Steps setup t (local_at t part here registry shut stamp queues) (acts.Apply req k dev ends.Done) (after_apply bases more)
-  apply_of None q size piece bases more found home-is size-is first is ready holds bases-are piece-is more-is = cc
-  apply_of (Some b) q size piece bases more found home-is size-is first is ready holds bases-are piece-is more-is =
+      → Steps setup t (local_at t part here registry shut stamp queues) (acts.Apply req k dev end) (after_apply bases more)
+  apply_of None q size piece bases more found home-is size-is first is on holds allowed bases-are piece-is more-is = cc
+  apply_of (Some b) q size piece bases more found home-is size-is first is on holds allowed bases-are piece-is more-is =
       let l : Local = local_at t part here registry shut stamp queues in
-      let act = acts.Apply req k dev ends.Done in
-      let all : List Base = change_first (is_base dev) (applied ends.Done q) part.bases in
-      let kept : more_here (served ends.Done (size_of setup dev) q b) ≡ more =
-      ap (λ (n : ℕ). more_here (served ends.Done n q b)) (sym size-is) ∙ ap more_here (some_same piece-is) ∙ sym more-is in
+      let act = acts.Apply req k dev end in
+      let all : List Base = change_first (is_base dev) (applied end q) part.bases in
+      let kept : more_here (served end (size_of setup dev) q b) ≡ more =
+      ap (λ (n : ℕ). more_here (served end n q b)) (sym size-is) ∙ ap more_here (some_same piece-is) ∙ sym more-is in
       subst (λ (m : Id → Option Kept). Steps setup t l act (after_apply bases m)) kept
-      (subst (λ (bs : List Base). Steps setup t l act (after_apply bs (more_here (served ends.Done (size_of setup dev) q b)))) (sym bases-are)
-      (apply_one q b home-is found first is (and_parts (fits_at size (Some b) q) (same_dev q.base dev) ready).1 holds))
+      (subst (λ (bs : List Base). Steps setup t l act (after_apply bs (more_here (served end (size_of setup dev) q b)))) (sym bases-are)
+      (apply_one q b home-is found first is on holds allowed))
     where
       some_same : {X : Type 0} {x y : X} → Some x ≡ Some y → x ≡ y
       some_same e = cc
@@ -105,10 +111,11 @@ module _ (setup : Setup) (t : ℕ) (part : Part) (here : Id → Option Kept) (re
       → size ≡ size_of setup dev
       → is_first_at req k (find (is_base dev) part.bases) ≡ true
       → here (Piece req k) ≡ Some (keeps.Piece q)
-      → can_serve size dev (find (is_base dev) part.bases) q ≡ true
+      → same_dev q.base dev ≡ true
       → may_hold setup dev (find (is_base dev) part.bases) ≡ true
-      → bases ≡ change_first (is_base dev) (applied ends.Done q) part.bases
-      → option_map (served ends.Done size q) (find (is_base dev) part.bases) ≡ Some piece
+      → is_done_or (is_aio setup dev) end ≡ true
+      → bases ≡ change_first (is_base dev) (applied end q) part.bases
+      → option_map (served end size q) (find (is_base dev) part.bases) ≡ Some piece
       → more ≡ more_here piece
-      → Steps setup t (local_at t part here registry shut stamp queues) (acts.Apply req k dev ends.Done) (after_apply bases more)
+      → Steps setup t (local_at t part here registry shut stamp queues) (acts.Apply req k dev end) (after_apply bases more)
   apply_steps q size piece bases more = apply_of (find (is_base dev) part.bases) q size piece bases more refl

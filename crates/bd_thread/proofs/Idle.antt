@@ -1,5 +1,5 @@
 -- What adds no entry changes nothing.
-use Rattle.std.proofs.Common.{◌≡◌, ℕ, ◌≤◌, Bool, true, false, ◌==◌, List, [], ◌∷◌, length, is_some, Option, Some, None, Result, Ok, Err, OnOk, IfOk, refl, sym, ◌∙◌, ap, subst, arith, find}
+use Rattle.std.proofs.Common.{◌≡◌, ℕ, ◌≤◌, Bool, true, false, List, [], ◌∷◌, length, is_some, Option, Some, None, Result, Ok, Err, OnOk, IfOk, refl, sym, ◌∙◌, ap, subst, arith, find}
 use Rattle.std.proofs.lemmas.List.{length-append}
 use Rattle.bd_base.specs.declared.act.Act.{Act}
 use Rattle.bd_base.specs.declared.act.Act.TheVariants as acts
@@ -9,7 +9,6 @@ use Rattle.bd_base.specs.declared.event.RegEvent.{RegEvent}
 use Rattle.bd_base.specs.declared.event.RegEvent.TheVariants as events
 use Rattle.bd_base.specs.declared.id.DevId.{DevId}
 use Rattle.bd_base.specs.declared.id.ReqId.{ReqId}
-use Rattle.bd_base.specs.declared.id.WalkId.{WalkId}
 use Rattle.bd_base.specs.declared.request.AbortCause.{AbortCause}
 use Rattle.bd_base.specs.declared.request.AbortCause.TheVariants.{Removed}
 use Rattle.bd_base.specs.declared.request.WalkKind.{WalkKind}
@@ -17,10 +16,8 @@ use Rattle.bd_base.specs.declared.request.WalkKind.TheVariants as kinds
 use Rattle.bd_machine.specs.declared.state.Between.{Between}
 use Rattle.bd_machine.specs.declared.state.Handle.{Handle}
 use Rattle.bd_machine.specs.declared.state.Id.{Id}
-use Rattle.bd_machine.specs.declared.state.Id.TheVariants as ids
 use Rattle.bd_machine.specs.declared.state.Open.{Open}
 use Rattle.bd_machine.specs.declared.state.OpenRequest.{OpenRequest}
-use Rattle.bd_machine.specs.declared.state.OpenWalk.{OpenWalk}
 use Rattle.bd_machine.specs.BlockMap.{is_malloc}
 use Rattle.bd_machine.specs.Homes.{is_base}
 use Rattle.bd_machine.specs.Kept.{request_here}
@@ -46,7 +43,7 @@ use Rattle.bd_thread.specs.Lines.{claim_asked, close_asked, open_asked, outcome_
 use Rattle.bd_thread.specs.Seen.{view_of}
 use Rattle.bd_due.specs.Sending.{first_brought}
 use Rattle.bd_thread.specs.Sent.{may_put, Puts, PutsBy, Takes, TakesBy}
-use Rattle.bd_thread.specs.Walking.{visit_due, StopsFor, Visits, VisitsBy}
+use Rattle.bd_thread.specs.Walking.{StopsFor}
 use Rattle.bd_thread.specs.Waits.{Idles, IsIdle, NoDestructOn, NoHandleOn, NoLine, NoMessage, NoRemovalOn, NoSubmission}
 use Rattle.bd_links.proofs.Longer.{length-longer}
 use Rattle.bd_thread.proofs.Going.{acted_then}
@@ -139,14 +136,14 @@ completion_idle req old before new after done h few = go (ending_of old.setup.no
   where
     go : (o : Option Ending) → ending_of old.setup.now old.me (view_of old before) req ≡ o → CompletesBy req old before new after done o → IsIdle (λ t links. ending_of t.setup.now t.me (view_of t links) req ≡ None) old before new after
     go None e k = record { thread = k.1; links = k.2; waits = e }
-    go (Some ending) e k = absurd (more old.me before after (acts.Complete req ending.status ending.shown) (ap (λ (l : Links). l.entries) k.1.links) few)
+    go (Some ending) e k = absurd (more old.me before after (acts.Complete req ending.status k.1.shown) (ap (λ (l : Links). l.entries) k.1.links) few)
 
 pub completes_idle : {P : Thread → Links → Type 0} (req : ReqId) (old : Thread) (before : Links) (new : Thread) (after : Links) (done : Bool) → P old before → Completes req old before new after done → Idles P old before new after
 completes_idle {P = P} req old before new after done p h few = go (ending_of old.setup.now old.me (view_of old before) req) h
   where
     go : (o : Option Ending) → CompletesBy req old before new after done o → IsIdle P old before new after
     go None k = record { thread = k.1; links = k.2; waits = p }
-    go (Some e) k = absurd (more old.me before after (acts.Complete req e.status e.shown) (ap (λ (l : Links). l.entries) k.1.links) few)
+    go (Some e) k = absurd (more old.me before after (acts.Complete req e.status k.1.shown) (ap (λ (l : Links). l.entries) k.1.links) few)
 
 -- ---- what a visit stops only adds entries
 
@@ -161,7 +158,7 @@ may_grow req old before new after h = go (ending_of old.setup.now old.me (view_o
   where
     go : (o : Option Ending) → CompletesBy req old before new after h.done o → length before.entries ≤ length after.entries
     go None k = same_grows before after k.2
-    go (Some e) k = longer_grows old.me before after (acts.Complete req e.status e.shown) k.1.links
+    go (Some e) k = longer_grows old.me before after (acts.Complete req e.status k.1.shown) k.1.links
 
 stop_grows : (req : ReqId) (cause : AbortCause) (old : Thread) (before : Links) (new : Thread) (after : Links) → Stops req cause old before new after → length before.entries ≤ length after.entries
 stop_grows req cause old before new after h = go (abort_due old before req cause) h

@@ -22,3 +22,4 @@ pub mod Retrying
 pub mod Alone
 pub mod Wanted
 pub mod Working
+mod OnDisk

@@ -18,3 +18,4 @@ pub mod Endings
 pub mod Resting
 pub mod Waits
 pub mod Work
+pub mod Disks

@@ -1,10 +1,12 @@
 -- What a thread and the links show, as the local rules see it.
 use Rattle.std.specs.Prelude.{ℕ, Bool, List, length, filter, Option, None}
+use Rattle.bd_base.specs.declared.id.DevId.{DevId}
 use Rattle.bd_base.specs.declared.setup.Setup.{Setup}
 use Rattle.bd_machine.specs.declared.state.Id.{Id}
 use Rattle.bd_machine.specs.declared.state.Kept.{Kept}
 use Rattle.bd_machine.specs.declared.state.Part.{Part}
 use Rattle.bd_machine.specs.declared.state.Registry.{Registry}
+use Rattle.bd_machine.specs.BlockMap.{size_of}
 use Rattle.bd_machine.specs.Registry.{references}
 use Rattle.bd_machine.specs.View.{View, is_of}
 use Rattle.bd_turns.specs.declared.queue.Message.{Message}
@@ -49,3 +51,7 @@ number_of t = t.me
 
 abbrev pub setup_of : Thread → Setup
 setup_of t = t.setup.now
+
+-- the bytes of a block of a device
+abbrev pub block_size : Thread → DevId → ℕ
+block_size t dev = size_of t.setup.now dev

@@ -2,6 +2,7 @@
 #![tactic(auto)]
 
 mod aborts;
+mod disks;
 mod duties;
 mod ending;
 mod homes;

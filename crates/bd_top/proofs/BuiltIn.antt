@@ -1,18 +1,26 @@
 -- The built-in configuration is read as what it is meant to be, and makes its devices.
-use Rattle.std.proofs.Common.{◌≡◌, ℕ, List, [], ◌∷◌, Option, None, Some, codes, refl}
+use Rattle.std.proofs.Common.{◌≡◌, ◌∙◌, ℕ, inl, inr, List, [], ◌∷◌, Option, None, Some, codes, string_bytes, ap, subst, sym, refl}
 use Rattle.std.specs.Prelude.{ℤ, Result, Ok, Err}
 use Rattle.serde_json.specs.Data.{Data, null}
 use Rattle.serde_json.specs.Read.{read}
 use Rattle.serde_json.proofs.OnLiterals.{serde_json_on_literals}
 use Rattle.bd_base.specs.declared.request.Errno.{Errno}
 use Rattle.bd_building.specs.Progress.{Progress, configured, nothing_yet}
+use Rattle.bd_building.specs.Served.{first_unserved}
 use Rattle.bd_config.specs.Config.{IsConfig, HasShape, AsksFor}
+use Rattle.bd_config.proofs.Exact.{config_once}
 use Rattle.bd_config.specs.Shape.{subsystems_of}
 use Rattle.bd_config.specs.declared.command.Command.{Command}
 use Rattle.bd_config.specs.declared.command.Command.TheVariants.{Malloc, Passthru}
+use Rattle.bd_outside.specs.File.{Told}
+use Rattle.bd_outside.specs.Host.{HostState}
 use Rattle.bd_top.specs.declared.configure.ConfigureNo.{ConfigureNo}
 use Rattle.bd_top.specs.declared.configure.ConfigureNo.TheVariants.{OutOfMemory, Text, Shape, Method}
-use Rattle.bd_top.specs.Configure.{Configures, ConfigureCause}
+use Rattle.bd_top.specs.declared.fault.Fault.{Fault}
+use Rattle.bd_top.specs.declared.fault.Fault.TheVariants as faults
+use Rattle.bd_top.specs.Configure.{CauseBy, Configures, IsRefused, NotRefused}
+use Rattle.bd_top.specs.Disks.{AreDisksOf, Opens}
+use Rattle.bd_top.specs.Opening.{AreDone, DoingCause}
 use Rattle.bd_top.specs.Exercise.{built_in}
 use Rattle.bd_top.proofs.ConfigureLemmas.{nothing_wrong}
 use Rattle.bd_top.proofs.InForm.{text_is_no_memory, shape_is_no_memory, method_is_no_memory}
@@ -56,23 +64,70 @@ devices_or other (Ok devices) = devices
 devices_or other (Err refusal) = other
 
 abbrev devices : ℕ → Progress
-devices threads = devices_or (nothing_yet threads) (configured threads commands)
+devices threads = devices_or (nothing_yet threads) (configured threads commands [])
 
-made : (threads : ℕ) → configured threads commands ≡ Ok (devices threads)
+made : (threads : ℕ) → configured threads commands [] ≡ Ok (devices threads)
 made threads = refl
 
-configures : (threads : ℕ) → Configures threads built_in (devices threads)
-configures threads = record { commands = commands; asks = is_config; served = refl; made = made threads }
+never : (index : ℕ) (code : ℤ) → NotRefused commands index code → ⊥
+never index code refused = refused
 
--- nothing but want of memory keeps it from making them
-pub nothing_wrong_with_it : (threads : ℕ) (why : ConfigureNo) → ConfigureCause threads built_in why → why ≡ OutOfMemory
-nothing_wrong_with_it threads why cause = nothing_wrong threads built_in (devices threads) why (configures threads) cause
+-- nothing but want of memory keeps it from being read as its commands
+pub nothing_wrong_with_it : (why : ConfigureNo) → CauseBy NotRefused built_in why → why ≡ OutOfMemory
+nothing_wrong_with_it why cause = nothing_wrong NotRefused built_in commands is_config refl never why cause
 
-pub is_text : (threads : ℕ) → ConfigureCause threads built_in Text → ⊥
-is_text threads cause = text_is_no_memory (nothing_wrong_with_it threads Text cause)
+pub is_text : CauseBy NotRefused built_in Text → ⊥
+is_text cause = text_is_no_memory (nothing_wrong_with_it Text cause)
 
-pub has_shape : (threads place : ℕ) → ConfigureCause threads built_in (Shape place) → ⊥
-has_shape threads place cause = shape_is_no_memory place (nothing_wrong_with_it threads (Shape place) cause)
+pub has_shape : (place : ℕ) → CauseBy NotRefused built_in (Shape place) → ⊥
+has_shape place cause = shape_is_no_memory place (nothing_wrong_with_it (Shape place) cause)
 
-pub has_commands : (threads index : ℕ) (code : ℤ) → ConfigureCause threads built_in (Method index code) → ⊥
-has_commands threads index code cause = method_is_no_memory index code (nothing_wrong_with_it threads (Method index code) cause)
+pub has_commands : (index : ℕ) (code : ℤ) → CauseBy NotRefused built_in (Method index code) → ⊥
+has_commands index code cause = method_is_no_memory index code (nothing_wrong_with_it (Method index code) cause)
+
+-- ---- its commands
+
+no_disks : (told : List ℕ → Told) (disks : List ℕ) → AreDisksOf told commands disks → disks ≡ []
+no_disks told disks are = are.1.1
+
+-- its commands open no file, and make the devices
+pub makes : (told : List ℕ → Told) (threads : ℕ) (read : List Command) (devices : Progress) → IsConfig built_in read → first_unserved read ≡ None → AreDone told threads read devices → Configures threads built_in [] devices
+makes told threads read devices asks served done =
+    let same : read ≡ commands = config_once built_in read commands asks is_config in
+    let are : AreDisksOf told commands done.disks = subst (λ (cs : List Command). AreDisksOf told cs done.disks) same done.may in
+    record {
+      commands = read;
+      asks = asks;
+      served = served;
+      made = ap (configured threads read) (sym (no_disks told done.disks are)) ∙ done.is;
+    }
+
+refused_never : (told : List ℕ → Told) (threads index : ℕ) (code : ℤ) → IsRefused threads told commands index code → ⊥
+refused_never told threads index code is =
+    let none : is.disks ≡ [] = no_disks told is.disks is.may in
+    let both : ◌≡◌ {A = Result Progress (ℕ × Errno)} (Ok (devices threads)) (Err (index, is.errno)) = sym (made threads) ∙ ap (configured threads commands) (sym none) ∙ is.first in
+    absurd (cc)
+
+opens_none : (name : List ℕ) → Opens commands name → ⊥
+opens_none name (inl is) = is
+opens_none name (inr (inl is)) = is
+opens_none name (inr (inr is)) = is
+
+module _ (old new : HostState) (threads : ℕ) where
+  only_memory_of : (fault : Fault) → DoingCause old new (Opens commands) (IsRefused threads old.told commands) fault → fault ≡ faults.OutOfMemory
+  only_memory_of faults.Usage cause = absurd cause
+  only_memory_of (faults.NoFile name) cause = absurd (opens_none (string_bytes name) cause.0)
+  only_memory_of (faults.TooLong name) cause = absurd cause
+  only_memory_of (faults.ReadFault name) cause = absurd (opens_none (string_bytes name) cause.0)
+  only_memory_of faults.ConfigText cause = absurd cause
+  only_memory_of (faults.ConfigShape place) cause = absurd cause
+  only_memory_of (faults.Method index code) cause = absurd (refused_never old.told threads index code cause)
+  only_memory_of (faults.JobText line) cause = absurd cause
+  only_memory_of faults.WriteFault cause = absurd cause
+  only_memory_of faults.OutOfMemory cause = refl
+
+  -- nothing but want of memory keeps them from being done
+  pub is_done : (read : List Command) (fault : Fault) → IsConfig built_in read → DoingCause old new (Opens read) (IsRefused threads old.told read) fault → fault ≡ faults.OutOfMemory
+  is_done read fault asks cause =
+      let P : List Command → Type 0 = λ cs. DoingCause old new (Opens cs) (IsRefused threads old.told cs) fault in
+      only_memory_of fault (subst P (config_once built_in read commands asks is_config) cause)

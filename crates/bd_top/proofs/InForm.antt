@@ -16,12 +16,11 @@ use Rattle.bd_top.specs.declared.configure.ConfigureNo.TheVariants as config_nos
 use Rattle.bd_top.specs.declared.fault.Fault.{Fault}
 use Rattle.bd_top.specs.declared.fault.Fault.TheVariants as faults
 use Rattle.bd_top.specs.Built.{lines_in, AreBuilt, is_built_line, is_not_built_at, IsFirstNotBuilt}
-use Rattle.bd_building.specs.Progress.{Progress}
-use Rattle.bd_top.specs.Configure.{Configures, ConfigureCause}
+use Rattle.bd_top.specs.Configure.{ConfiguresAnyhow, ConfigureCause, IsRefused}
 use Rattle.bd_top.specs.Files.{IsRead, IsTooLong, max_file}
 use Rattle.bd_top.specs.Run.{AreInForm, AreFilesInForm, IsAskedInForm, Cause, FileCause, IsDue, IsNoScript, IsNoText, IsNotSupported, IsOutside, NothingFails}
 use Rattle.bd_top.specs.Words.{Arguments, Asked, Run, asked_of}
-use Rattle.bd_top.proofs.ConfigureLemmas.{nothing_wrong}
+use Rattle.bd_top.proofs.ConfigureLemmas.{nothing_wrong, not_refused}
 
 -- ---- what is read of a file that is told
 
@@ -33,10 +32,11 @@ read_told t file bytes e read =
 
 -- ---- no other fault
 
-config_inside : (threads : ℕ) (t : Told) (file : List ℕ) (devices : Progress) (why : ConfigureNo) → t ≡ Content file → Configures threads file devices → IsOutside threads t why → why ≡ config_nos.OutOfMemory
-config_inside threads t file devices why e means out =
-    let P : List ℕ → Type 0 = λ bytes. ConfigureCause threads bytes why in
-    nothing_wrong threads file devices why means (subst P (read_told t file out.bytes e out.read) out.outside)
+config_inside : (threads : ℕ) (told : List ℕ → Told) (t : Told) (file : List ℕ) (why : ConfigureNo) → t ≡ Content file → ConfiguresAnyhow threads told file → IsOutside threads told t why → why ≡ config_nos.OutOfMemory
+config_inside threads told t file why e means out =
+    let P : List ℕ → Type 0 = λ bytes. ConfigureCause threads told bytes why in
+    nothing_wrong (IsRefused threads told) file means.commands means.asks means.served (λ index code. not_refused threads told means.commands index code means.made) why
+    (subst P (read_told t file out.bytes e out.read) out.outside)
 
 -- a fault of a configuration's bytes isn't out of memory
 pub text_is_no_memory : config_nos.Text ≡ config_nos.OutOfMemory → ⊥
@@ -101,8 +101,8 @@ module _ (asked : Arguments) (old new : HostState) (before after : SinkState) (f
   none_too_long name (inr due) long = not_too_long (old.told name) form.jobs (ap old.told due.0 ∙ form.jobs_told) form.jobs_short long
 
   -- nothing is wrong with the bytes of the configuration
-  config_gives_none : (why : ConfigureNo) → IsOutside asked.playing.threads (old.told asked.config) why → why ≡ config_nos.OutOfMemory
-  config_gives_none why out = config_inside asked.playing.threads (old.told asked.config) form.config form.devices why form.config_told form.config_means out
+  config_gives_none : (why : ConfigureNo) → IsOutside asked.playing.threads old.told (old.told asked.config) why → why ≡ config_nos.OutOfMemory
+  config_gives_none why out = config_inside asked.playing.threads old.told (old.told asked.config) form.config why form.config_told form.config_means out
 
   -- nor with those of the script
   script_gives_none : (line : ℕ) → IsNoScript asked.playing.threads (old.told asked.jobs) line → ⊥

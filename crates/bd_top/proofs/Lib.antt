@@ -2,8 +2,10 @@ pub mod Answers
 pub mod BuiltIn
 pub mod BuiltLemmas
 pub mod ConfigureLemmas
+pub mod FileCauses
 pub mod FileLemmas
 pub mod Histories
 pub mod InForm
 pub mod OneCause
+pub mod Opening
 pub mod Wrong

@@ -1,4 +1,4 @@
--- Of the causes of one configuration that is refused there is one, and so of those of one script.
+-- Of the causes of one configuration that is refused there is one.
 use Rattle.std.proofs.Common.{◌≡◌, ℕ, ◌+◌, ◌⊎◌, inl, inr, Bool, true, false, List, [], ◌∷◌, Option, None, Some, refl, sym, ◌∙◌, ap, subst}
 use Rattle.std.specs.Prelude.{ℤ, ◌&&◌, if◌then◌else◌, Result, Ok, Err}
 use Rattle.std.specs.List.{list_all}
@@ -11,9 +11,10 @@ use Rattle.bd_config.specs.Shape.{subsystems_of, is_subsystem}
 use Rattle.bd_config.proofs.Exact.{config_once, config_has_shape, config_has_commands}
 use Rattle.bd_config.specs.declared.command.Command.{Command}
 use Rattle.bd_building.specs.Served.{first_unserved}
+use Rattle.bd_outside.specs.File.{Told}
 use Rattle.bd_top.specs.declared.configure.ConfigureNo.{ConfigureNo}
 use Rattle.bd_top.specs.declared.configure.ConfigureNo.TheVariants.{OutOfMemory, Text, Shape, Method}
-use Rattle.bd_top.specs.Configure.{ConfigureCause, IsUnserved, IsRefused, IsUndone}
+use Rattle.bd_top.specs.Configure.{CauseBy, IsUnserved, IsRefused, IsRefusedAnyhow, IsUndone}
 
 -- the same index and the same code
 abbrev Same : ℕ → ℤ → ℕ → ℤ → Type 0
@@ -73,57 +74,61 @@ err_or other (Err y) = y
 one_err : {X Y : Type 0} (r : Result X Y) (y z : Y) → r ≡ Err y → r ≡ Err z → y ≡ z
 one_err r y z p q = ap (err_or y) (sym p ∙ q)
 
-abbrev Undone : ℕ → List Command → ℕ → ℤ → Type 0
-Undone threads commands i c = IsUnserved commands i c ⊎ ((first_unserved commands ≡ None) × IsRefused threads commands i c)
+json_of : (Refused : List Command → ℕ → ℤ → Type 0) (bytes : List ℕ) (i : ℕ) (c : ℤ) → CauseBy Refused bytes (Method i c) → (value : Data) × IsJson bytes value
+json_of Refused bytes i c (inl p) = (p.value, p.json)
+json_of Refused bytes i c (inr p) = (p.asks.value, p.asks.json)
 
-undone_here : (threads : ℕ) (commands : List Command) (i j : ℕ) (c d : ℤ) → Undone threads commands i c → Undone threads commands j d → Same i c j d
-undone_here threads commands i j c d (inl p) (inl q) =
-    let same : i ≡ j = one_of _ i j p.first q.first in
-    let code : c ≡ d = p.is ∙ sym q.is in
-    cc
-undone_here threads commands i j c d (inl p) (inr q) = absurd (none_is_some _ i q.0 p.first)
-undone_here threads commands i j c d (inr p) (inl q) = absurd (none_is_some _ j p.0 q.first)
-undone_here threads commands i j c d (inr p) (inr q) =
-    let same : ◌≡◌ {A = ℕ × Errno} (i, p.1.errno) (j, q.1.errno) = one_err _ (i, p.1.errno) (j, q.1.errno) p.1.first q.1.first in
+no_shape : (Refused : List Command → ℕ → ℤ → Type 0) (bytes : List ℕ) (n i : ℕ) (c : ℤ) → IsShapeNo bytes n → CauseBy Refused bytes (Method i c) → ⊥
+no_shape Refused bytes n i c p (inl q) = shape_or_method bytes n i c p q
+no_shape Refused bytes n i c p (inr q) = config_has_shape bytes q.commands n q.asks p
+
+-- two refusals of one list of commands are one, whatever blocks its disks have in the one of them
+pub refused_once : (threads : ℕ) (told : List ℕ → Told) (commands : List Command) (i j : ℕ) (c d : ℤ) → IsRefusedAnyhow threads told commands i c → IsRefused threads told commands j d → Same i c j d
+refused_once threads told commands i j c d p q =
+    let same : ◌≡◌ {A = ℕ × Errno} (i, p.errno) (j, q.errno) = one_err _ (i, p.errno) (j, q.errno) (p.first q.disks q.may) q.first in
     let index : i ≡ j = ap (λ (r : ℕ × Errno). r.0) same in
-    let code : c ≡ d = p.1.is ∙ ap (λ (r : ℕ × Errno). minus (number_of r.1)) same ∙ sym q.1.is in
+    let code : c ≡ d = p.is ∙ ap (λ (r : ℕ × Errno). minus (number_of r.1)) same ∙ sym q.is in
     cc
 
-undone_once : (threads : ℕ) (bytes : List ℕ) (i j : ℕ) (c d : ℤ) → IsUndone threads bytes i c → IsUndone threads bytes j d → Same i c j d
-undone_once threads bytes i j c d p q =
-    undone_here threads p.commands i j c d p.why (subst (λ commands. Undone threads commands j d) (config_once bytes q.commands p.commands q.asks p.asks) q.why)
+module _ (P Q : List Command → ℕ → ℤ → Type 0) (once : (commands : List Command) (i j : ℕ) (c d : ℤ) → P commands i c → Q commands j d → Same i c j d) where
+  undone_here : (commands : List Command) (i j : ℕ) (c d : ℤ) → IsUnserved commands i c ⊎ ((first_unserved commands ≡ None) × P commands i c)
+      → IsUnserved commands j d ⊎ ((first_unserved commands ≡ None) × Q commands j d) → Same i c j d
+  undone_here commands i j c d (inl p) (inl q) =
+      let same : i ≡ j = one_of _ i j p.first q.first in
+      let code : c ≡ d = p.is ∙ sym q.is in
+      cc
+  undone_here commands i j c d (inl p) (inr q) = absurd (none_is_some _ i q.0 p.first)
+  undone_here commands i j c d (inr p) (inl q) = absurd (none_is_some _ j p.0 q.first)
+  undone_here commands i j c d (inr p) (inr q) = once commands i j c d p.1 q.1
 
--- ---- one cause
+  undone_once : (bytes : List ℕ) (i j : ℕ) (c d : ℤ) → IsUndone P bytes i c → IsUndone Q bytes j d → Same i c j d
+  undone_once bytes i j c d p q =
+      let R : List Command → Type 0 = λ commands. IsUnserved commands j d ⊎ ((first_unserved commands ≡ None) × Q commands j d) in
+      undone_here p.commands i j c d p.why (subst R (config_once bytes q.commands p.commands q.asks p.asks) q.why)
 
-same_method : (i j : ℕ) (c d : ℤ) → Same i c j d → Method i c ≡ Method j d
-same_method i j c d e = ap (λ (r : ℕ × ℤ). Method r.0 r.1) e
+  -- ---- one cause
 
-json_of : (threads : ℕ) (bytes : List ℕ) (i : ℕ) (c : ℤ) → ConfigureCause threads bytes (Method i c) → (value : Data) × IsJson bytes value
-json_of threads bytes i c (inl p) = (p.value, p.json)
-json_of threads bytes i c (inr p) = (p.asks.value, p.asks.json)
+  same_method : (i j : ℕ) (c d : ℤ) → Same i c j d → Method i c ≡ Method j d
+  same_method i j c d e = ap (λ (r : ℕ × ℤ). Method r.0 r.1) e
 
-no_shape : (threads : ℕ) (bytes : List ℕ) (n i : ℕ) (c : ℤ) → IsShapeNo bytes n → ConfigureCause threads bytes (Method i c) → ⊥
-no_shape threads bytes n i c p (inl q) = shape_or_method bytes n i c p q
-no_shape threads bytes n i c p (inr q) = config_has_shape bytes q.commands n q.asks p
+  method_cause_once : (bytes : List ℕ) (i j : ℕ) (c d : ℤ) → CauseBy P bytes (Method i c) → CauseBy Q bytes (Method j d) → Same i c j d
+  method_cause_once bytes i j c d (inl p) (inl q) = method_once bytes i j c d p q
+  method_cause_once bytes i j c d (inl p) (inr q) = absurd (config_has_commands bytes q.commands i c q.asks p)
+  method_cause_once bytes i j c d (inr p) (inl q) = absurd (config_has_commands bytes p.commands j d p.asks q)
+  method_cause_once bytes i j c d (inr p) (inr q) = undone_once bytes i j c d p q
 
-method_cause_once : (threads : ℕ) (bytes : List ℕ) (i j : ℕ) (c d : ℤ) → ConfigureCause threads bytes (Method i c) → ConfigureCause threads bytes (Method j d) → Same i c j d
-method_cause_once threads bytes i j c d (inl p) (inl q) = method_once bytes i j c d p q
-method_cause_once threads bytes i j c d (inl p) (inr q) = absurd (config_has_commands bytes q.commands i c q.asks p)
-method_cause_once threads bytes i j c d (inr p) (inl q) = absurd (config_has_commands bytes p.commands j d p.asks q)
-method_cause_once threads bytes i j c d (inr p) (inr q) = undone_once threads bytes i j c d p q
-
--- two causes of one configuration are one, but for want of memory
-pub one_cause : (threads : ℕ) (bytes : List ℕ) (a b : ConfigureNo) → ConfigureCause threads bytes a → ConfigureCause threads bytes b → (a ≡ b) ⊎ ((a ≡ OutOfMemory) ⊎ (b ≡ OutOfMemory))
-one_cause threads bytes OutOfMemory b p q = inr (inl refl)
-one_cause threads bytes Text OutOfMemory p q = inr (inr refl)
-one_cause threads bytes Text Text p q = inl refl
-one_cause threads bytes Text (Shape n) p q = absurd (p q.value q.json)
-one_cause threads bytes Text (Method i c) p q = let json = json_of threads bytes i c q in absurd (p json.0 json.1)
-one_cause threads bytes (Shape m) OutOfMemory p q = inr (inr refl)
-one_cause threads bytes (Shape m) Text p q = absurd (q p.value p.json)
-one_cause threads bytes (Shape m) (Shape n) p q = inl (ap Shape (shape_once bytes m n p q))
-one_cause threads bytes (Shape m) (Method i c) p q = absurd (no_shape threads bytes m i c p q)
-one_cause threads bytes (Method i c) OutOfMemory p q = inr (inr refl)
-one_cause threads bytes (Method i c) Text p q = let json = json_of threads bytes i c p in absurd (q json.0 json.1)
-one_cause threads bytes (Method i c) (Shape n) p q = absurd (no_shape threads bytes n i c q p)
-one_cause threads bytes (Method i c) (Method j d) p q = inl (same_method i j c d (method_cause_once threads bytes i j c d p q))
+  -- two causes of one configuration are one, but for want of memory
+  pub one_cause : (bytes : List ℕ) (a b : ConfigureNo) → CauseBy P bytes a → CauseBy Q bytes b → (a ≡ b) ⊎ ((a ≡ OutOfMemory) ⊎ (b ≡ OutOfMemory))
+  one_cause bytes OutOfMemory b p q = inr (inl refl)
+  one_cause bytes Text OutOfMemory p q = inr (inr refl)
+  one_cause bytes Text Text p q = inl refl
+  one_cause bytes Text (Shape n) p q = absurd (p q.value q.json)
+  one_cause bytes Text (Method i c) p q = let json = json_of Q bytes i c q in absurd (p json.0 json.1)
+  one_cause bytes (Shape m) OutOfMemory p q = inr (inr refl)
+  one_cause bytes (Shape m) Text p q = absurd (q p.value p.json)
+  one_cause bytes (Shape m) (Shape n) p q = inl (ap Shape (shape_once bytes m n p q))
+  one_cause bytes (Shape m) (Method i c) p q = absurd (no_shape Q bytes m i c p q)
+  one_cause bytes (Method i c) OutOfMemory p q = inr (inr refl)
+  one_cause bytes (Method i c) Text p q = let json = json_of P bytes i c p in absurd (q json.0 json.1)
+  one_cause bytes (Method i c) (Shape n) p q = absurd (no_shape P bytes n i c q p)
+  one_cause bytes (Method i c) (Method j d) p q = inl (same_method i j c d (method_cause_once bytes i j c d p q))

@@ -9,6 +9,7 @@ use Rattle.std.proofs.lemmas.List.{take-append-drop, take-take}
 use Rattle.bd_base.specs.declared.act.Entry.{Entry}
 use Rattle.bd_base.specs.declared.job.Line.{Line}
 use Rattle.bd_base.specs.declared.job.Script.{Script}
+use Rattle.bd_config.specs.Config.{IsConfig}
 use Rattle.bd_jobs.specs.ScriptGrammar.{commands_from, commands_of, scripts_of, IsFirstOutside, text_lines}
 use Rattle.bd_jobs.proofs.ReadLemmas.{from-append, from-none}
 use Rattle.bd_outside.specs.File.{Told, Content}
@@ -20,14 +21,14 @@ use Rattle.bd_top.specs.declared.configure.ConfigureNo.TheVariants as config_nos
 use Rattle.bd_top.specs.declared.fault.Fault.{Fault}
 use Rattle.bd_top.specs.declared.fault.Fault.TheVariants as faults
 use Rattle.bd_top.specs.Built.{lines_in, is_built_line, is_not_built_at, is_built_before, IsFirstNotBuilt}
-use Rattle.bd_top.specs.Configure.{Configures, ConfigureCause}
+use Rattle.bd_top.specs.Configure.{ConfigureCause, ConfigureCauseAnyhow, IsRefused, IsRefusedAnyhow}
 use Rattle.bd_top.specs.Fault.{config_fault}
 use Rattle.bd_top.specs.Files.{IsTooLong}
 use Rattle.bd_top.specs.Run.{AreFilesPlayed, Cause, FileCause, IsConfigWrong, IsConfigured, IsDevices, IsDone, IsDue, IsMeant, IsNoScript, IsNoText, IsNotSupported, IsOutside, IsScriptWrong, IsWrong, NothingFails}
 use Rattle.bd_top.specs.Words.{Arguments, Asked, Run, asked_of}
-use Rattle.bd_top.proofs.ConfigureLemmas.{nothing_wrong}
+use Rattle.bd_top.proofs.ConfigureLemmas.{nothing_wrong, not_refused, not_refused_anyhow}
 use Rattle.bd_top.proofs.InForm.{not_usage, read_told, not_too_long, none_outside, script_inside, script_supported, text_is_no_memory, shape_is_no_memory, method_is_no_memory}
-use Rattle.bd_top.proofs.OneCause.{one_cause}
+use Rattle.bd_top.proofs.OneCause.{one_cause, refused_once}
 
 -- an error, of which this is known
 pub of_error : {T E : Type 0} (Q : T → Type 0) (P : E → Type 0) (r : Result T E) → IsErr r → IfErr r P → MatchResult r Q P
@@ -111,20 +112,17 @@ line_once threads m n t file e (inr p) (inr q) = supported_once threads m n t fi
 
 -- ---- one thing
 
-same_fault : (threads : ℕ) (config : List ℕ) (why given : ConfigureNo) → ConfigureCause threads config why → ¬ (why ≡ config_nos.OutOfMemory) → ConfigureCause threads config given
+same_fault : (threads : ℕ) (told : List ℕ → Told) (config : List ℕ) (why given : ConfigureNo) → ConfigureCauseAnyhow threads told config why → ¬ (why ≡ config_nos.OutOfMemory) → ConfigureCause threads told config given
     → (config_fault given ≡ config_fault why) ⊎ (config_fault given ≡ faults.OutOfMemory)
-same_fault threads config why given cause known other = go (one_cause threads config why given cause other)
+same_fault threads told config why given cause known other = go (one_cause (IsRefusedAnyhow threads told) (IsRefused threads told) (refused_once threads told) config why given cause other)
   where
     go : (why ≡ given) ⊎ ((why ≡ config_nos.OutOfMemory) ⊎ (given ≡ config_nos.OutOfMemory)) → (config_fault given ≡ config_fault why) ⊎ (config_fault given ≡ faults.OutOfMemory)
     go (inl e) = inl (sym (ap config_fault e))
     go (inr (inl e)) = absurd (known e)
     go (inr (inr e)) = inr (ap config_fault e)
 
-outside_bytes : (threads : ℕ) (t : Told) (config : List ℕ) (why : ConfigureNo) → t ≡ Content config → IsOutside threads t why → ConfigureCause threads config why
-outside_bytes threads t config why e out = subst (λ (bytes : List ℕ). ConfigureCause threads bytes why) (read_told t config out.bytes e out.read) out.outside
-
-devices_bytes : (threads : ℕ) (t : Told) (config : List ℕ) (devices : Progress) → t ≡ Content config → IsDevices threads t devices → Configures threads config devices
-devices_bytes threads t config devices e is = subst (λ (bytes : List ℕ). Configures threads bytes devices) (read_told t config is.bytes e is.read) is.means
+outside_bytes : (threads : ℕ) (told : List ℕ → Told) (t : Told) (config : List ℕ) (why : ConfigureNo) → t ≡ Content config → IsOutside threads told t why → ConfigureCause threads told config why
+outside_bytes threads told t config why e out = subst (λ (bytes : List ℕ). ConfigureCause threads told bytes why) (read_told t config out.bytes e out.read) out.outside
 
 module _ (words : List (List ℕ)) (host : HostState) (fault : Fault) (wrong : IsWrong words host fault) where
   abbrev threads : ℕ
@@ -137,17 +135,23 @@ module _ (words : List (List ℕ)) (host : HostState) (fault : Fault) (wrong : I
   jobs_told = host.told wrong.arguments.jobs
 
   -- a configuration that makes devices isn't what is wrong
-  no_devices : (devices : Progress) → IsConfigWrong threads wrong.config fault → IsDevices threads config_told devices → ⊥
-  no_devices devices bad is = bad.known (nothing_wrong threads wrong.config devices bad.why (devices_bytes threads config_told wrong.config devices wrong.told is) bad.cause)
+  no_devices : (devices : Progress) → IsConfigWrong threads host.told wrong.config fault → IsDevices threads host.told config_told devices → ⊥
+  no_devices devices bad is =
+      let P : List ℕ → Type 0 = λ bytes. IsConfig bytes is.means.commands in
+      bad.known
+      (nothing_wrong (IsRefusedAnyhow threads host.told) wrong.config is.means.commands (subst P (read_told config_told wrong.config is.bytes wrong.told is.read) is.means.asks) is.means.served
+      (λ index code. not_refused_anyhow threads host.told is.means.commands index code is.disks devices is.opened is.means.made) bad.why bad.cause)
 
   -- of a configuration that makes devices the bytes have no cause
-  no_cause : (why : ConfigureNo) → IsScriptWrong threads wrong.config jobs_told fault → IsOutside threads config_told why → why ≡ config_nos.OutOfMemory
-  no_cause why bad out = nothing_wrong threads wrong.config bad.devices why bad.means (outside_bytes threads config_told wrong.config why wrong.told out)
+  no_cause : (why : ConfigureNo) → IsScriptWrong threads host.told wrong.config jobs_told fault → IsOutside threads host.told config_told why → why ≡ config_nos.OutOfMemory
+  no_cause why bad out =
+      nothing_wrong (IsRefused threads host.told) wrong.config bad.means.commands bad.means.asks bad.means.served
+      (λ index code. not_refused threads host.told bad.means.commands index code bad.means.made) why (outside_bytes threads host.told config_told wrong.config why wrong.told out)
 
-  of_config : (given : ConfigureNo) → (given ≡ config_nos.OutOfMemory → ⊥) → IsOutside threads config_told given → config_fault given ≡ fault
+  of_config : (given : ConfigureNo) → (given ≡ config_nos.OutOfMemory → ⊥) → IsOutside threads host.told config_told given → config_fault given ≡ fault
   of_config given some out = go wrong.wrong
     where
-      one : (bad : IsConfigWrong threads wrong.config fault) → (config_fault given ≡ config_fault bad.why) ⊎ (config_fault given ≡ faults.OutOfMemory) → config_fault given ≡ fault
+      one : (bad : IsConfigWrong threads host.told wrong.config fault) → (config_fault given ≡ config_fault bad.why) ⊎ (config_fault given ≡ faults.OutOfMemory) → config_fault given ≡ fault
       one bad (inl e) = e ∙ sym bad.is
       one bad (inr e) = absurd (some (memory given e))
         where
@@ -157,24 +161,24 @@ module _ (words : List (List ℕ)) (host : HostState) (fault : Fault) (wrong : I
           memory (config_nos.Shape place) e = absurd (cc)
           memory (config_nos.Method index code) e = absurd (cc)
 
-      go : IsConfigWrong threads wrong.config fault ⊎ IsScriptWrong threads wrong.config jobs_told fault → config_fault given ≡ fault
-      go (inl bad) = one bad (same_fault threads wrong.config bad.why given bad.cause bad.known (outside_bytes threads config_told wrong.config given wrong.told out))
+      go : IsConfigWrong threads host.told wrong.config fault ⊎ IsScriptWrong threads host.told wrong.config jobs_told fault → config_fault given ≡ fault
+      go (inl bad) = one bad (same_fault threads host.told wrong.config bad.why given bad.cause bad.known (outside_bytes threads host.told config_told wrong.config given wrong.told out))
       go (inr bad) = absurd (some (no_cause given bad out))
 
-  of_script : (line : ℕ) → IsConfigured threads config_told → IsNoScript threads jobs_told line → faults.JobText line ≡ fault
+  of_script : (line : ℕ) → IsConfigured threads host.told config_told → IsNoScript threads jobs_told line → faults.JobText line ≡ fault
   of_script line made outside = go wrong.wrong
     where
-      go : IsConfigWrong threads wrong.config fault ⊎ IsScriptWrong threads wrong.config jobs_told fault → faults.JobText line ≡ fault
+      go : IsConfigWrong threads host.told wrong.config fault ⊎ IsScriptWrong threads host.told wrong.config jobs_told fault → faults.JobText line ≡ fault
       go (inl bad) = absurd (no_devices made.0 bad made.1)
-      go (inr bad) = ap faults.JobText (line_once threads line bad.line jobs_told bad.bytes bad.told outside bad.first) ∙ sym bad.is
+      go (inr bad) = ap faults.JobText (line_once threads line bad.line jobs_told bad.bytes bad.told_jobs outside bad.first) ∙ sym bad.is
 
   too_long : (name : List ℕ) → IsDue host wrong.arguments.config wrong.arguments.jobs threads name → IsTooLong (host.told name) → ⊥
   too_long name (inl e) long = not_too_long (host.told name) wrong.config (ap host.told e ∙ wrong.told) wrong.short long
   too_long name (inr due) long = go wrong.wrong
     where
-      go : IsConfigWrong threads wrong.config fault ⊎ IsScriptWrong threads wrong.config jobs_told fault → ⊥
+      go : IsConfigWrong threads host.told wrong.config fault ⊎ IsScriptWrong threads host.told wrong.config jobs_told fault → ⊥
       go (inl bad) = no_devices due.1.0 bad due.1.1
-      go (inr bad) = not_too_long (host.told name) bad.bytes (ap host.told due.0 ∙ bad.told) bad.short long
+      go (inr bad) = not_too_long (host.told name) bad.bytes (ap host.told due.0 ∙ bad.told_jobs) bad.short long
 
   module _ (new : HostState) (before after : SinkState) (quiet : NothingFails host new before after) where
     of_file : (given : Fault) → FileCause host new wrong.arguments.config wrong.arguments.jobs threads given → (given ≡ fault) ⊎ (given ≡ faults.OutOfMemory)
@@ -214,13 +218,13 @@ module _ (words : List (List ℕ)) (host : HostState) (fault : Fault) (wrong : I
     not_played : (trace : List Entry) (report : List ℕ) → AreFilesPlayed wrong.arguments host.told trace report → ⊥
     not_played trace report played = go played.meant wrong.wrong
       where
-        of_jobs : (bad : IsScriptWrong threads wrong.config jobs_told fault) (setup : IsMeant threads config_told jobs_told played.setup) → IsNoScript threads jobs_told bad.line → ⊥
-        of_jobs bad meant (inl out) = script_inside threads jobs_told bad.bytes meant.scripts bad.line bad.told
-            (ap (scripts_of threads) (sym (read_told jobs_told bad.bytes meant.of_jobs.bytes bad.told meant.of_jobs.read)) ∙ meant.of_jobs.means) out
-        of_jobs bad meant (inr out) = script_supported threads jobs_told bad.bytes meant.scripts bad.line bad.told
-            (ap (scripts_of threads) (sym (read_told jobs_told bad.bytes meant.of_jobs.bytes bad.told meant.of_jobs.read)) ∙ meant.of_jobs.means) meant.of_jobs.built out
+        of_jobs : (bad : IsScriptWrong threads host.told wrong.config jobs_told fault) (setup : IsMeant threads host.told config_told jobs_told played.setup) → IsNoScript threads jobs_told bad.line → ⊥
+        of_jobs bad meant (inl out) = script_inside threads jobs_told bad.bytes meant.scripts bad.line bad.told_jobs
+            (ap (scripts_of threads) (sym (read_told jobs_told bad.bytes meant.of_jobs.bytes bad.told_jobs meant.of_jobs.read)) ∙ meant.of_jobs.means) out
+        of_jobs bad meant (inr out) = script_supported threads jobs_told bad.bytes meant.scripts bad.line bad.told_jobs
+            (ap (scripts_of threads) (sym (read_told jobs_told bad.bytes meant.of_jobs.bytes bad.told_jobs meant.of_jobs.read)) ∙ meant.of_jobs.means) meant.of_jobs.built out
 
-        go : IsMeant threads config_told jobs_told played.setup → IsConfigWrong threads wrong.config fault ⊎ IsScriptWrong threads wrong.config jobs_told fault → ⊥
+        go : IsMeant threads host.told config_told jobs_told played.setup → IsConfigWrong threads host.told wrong.config fault ⊎ IsScriptWrong threads host.told wrong.config jobs_told fault → ⊥
         go meant (inl bad) = no_devices meant.devices bad meant.of_config
         go meant (inr bad) = of_jobs bad meant bad.first
 

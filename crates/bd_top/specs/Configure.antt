@@ -8,15 +8,25 @@ use Rattle.bd_config.specs.Config.{IsJson, IsConfig, IsShapeNo, IsMethodNo}
 use Rattle.bd_config.specs.declared.command.Command.{Command}
 use Rattle.bd_building.specs.Progress.{Progress, configured}
 use Rattle.bd_building.specs.Served.{first_unserved}
+use Rattle.bd_outside.specs.File.{Told}
 use Rattle.bd_top.specs.declared.configure.ConfigureNo.{ConfigureNo}
 use Rattle.bd_top.specs.declared.configure.ConfigureNo.TheVariants.{OutOfMemory, Text, Shape, Method}
+use Rattle.bd_top.specs.Disks.{AreDisksOf}
 
 -- the bytes are a configuration whose commands are all served, and come to these devices
-pub record Configures (threads : ℕ) (bytes : List ℕ) (devices : Progress) : Type 0 where
+-- where the disks that they open have these blocks, in order
+pub record Configures (threads : ℕ) (bytes : List ℕ) (disks : List ℕ) (devices : Progress) : Type 0 where
   pub commands : List Command
   pub asks : IsConfig bytes commands
   pub served : first_unserved commands ≡ None
-  pub made : configured threads commands ≡ Ok devices
+  pub made : configured threads commands disks ≡ Ok devices
+
+-- the same, whatever blocks the disks may have by what the host tells of their files; the devices may differ by them
+pub record ConfiguresAnyhow (threads : ℕ) (told : List ℕ → Told) (bytes : List ℕ) : Type 0 where
+  pub commands : List Command
+  pub asks : IsConfig bytes commands
+  pub served : first_unserved commands ≡ None
+  pub made : (disks : List ℕ) → AreDisksOf told commands disks → (devices : Progress) × (configured threads commands disks ≡ Ok devices)
 
 -- the bytes are the text of no JSON value
 abbrev pub IsNoJson : List ℕ → Type 0
@@ -29,17 +39,30 @@ pub record IsUnserved (commands : List Command) (index : ℕ) (code : ℤ) : Typ
   pub first : first_unserved commands ≡ Some index
   pub is : code ≡ not_supported
 
--- of these commands the one of this index is the first that is refused as they are done, with the number of this errno below zero
-pub record IsRefused (threads : ℕ) (commands : List Command) (index : ℕ) (code : ℤ) : Type 0 where
+-- of these commands the one of this index is the first that is refused as they are done, with the number of this errno below zero,
+-- where their disks have blocks that they may have
+pub record IsRefused (threads : ℕ) (told : List ℕ → Told) (commands : List Command) (index : ℕ) (code : ℤ) : Type 0 where
+  pub disks : List ℕ
+  pub may : AreDisksOf told commands disks
   pub errno : Errno
-  pub first : configured threads commands ≡ Err (index, errno)
+  pub first : configured threads commands disks ≡ Err (index, errno)
   pub is : code ≡ minus (number_of errno)
 
--- the bytes are a configuration, and this command is the first that isn't served; or all are, and it is the first that is refused
-pub record IsUndone (threads : ℕ) (bytes : List ℕ) (index : ℕ) (code : ℤ) : Type 0 where
+-- the same, whatever blocks their disks may have
+pub record IsRefusedAnyhow (threads : ℕ) (told : List ℕ → Told) (commands : List Command) (index : ℕ) (code : ℤ) : Type 0 where
+  pub errno : Errno
+  pub first : (disks : List ℕ) → AreDisksOf told commands disks → configured threads commands disks ≡ Err (index, errno)
+  pub is : code ≡ minus (number_of errno)
+
+-- no command is refused: none is done yet
+abbrev pub NotRefused : List Command → ℕ → ℤ → Type 0
+NotRefused commands index code = ⊥
+
+-- the bytes are a configuration, and this command is the first that isn't served; or all are, and it is refused so
+pub record IsUndone (Refused : List Command → ℕ → ℤ → Type 0) (bytes : List ℕ) (index : ℕ) (code : ℤ) : Type 0 where
   pub commands : List Command
   pub asks : IsConfig bytes commands
-  pub why : IsUnserved commands index code ⊎ ((first_unserved commands ≡ None) × IsRefused threads commands index code)
+  pub why : IsUnserved commands index code ⊎ ((first_unserved commands ≡ None) × Refused commands index code)
 
 -- ---- causes
 
@@ -57,16 +80,18 @@ UnservedCause commands Text = ⊥
 UnservedCause commands (Shape place) = ⊥
 UnservedCause commands (Method index code) = IsUnserved commands index code
 
--- why commands that are all served aren't done
-abbrev pub DoingCause : ℕ → List Command → ConfigureNo → Type 0
-DoingCause threads commands OutOfMemory = Unit {0}
-DoingCause threads commands Text = ⊥
-DoingCause threads commands (Shape place) = ⊥
-DoingCause threads commands (Method index code) = IsRefused threads commands index code
+-- why bytes configure no devices: no text; a wrong shape; the first command that can't be read; else the first that can't be done,
+-- which is one that isn't served or is refused so
+abbrev pub CauseBy : (List Command → ℕ → ℤ → Type 0) → List ℕ → ConfigureNo → Type 0
+CauseBy Refused bytes OutOfMemory = Unit {0}
+CauseBy Refused bytes Text = IsNoJson bytes
+CauseBy Refused bytes (Shape place) = IsShapeNo bytes place
+CauseBy Refused bytes (Method index code) = IsMethodNo bytes index code ⊎ IsUndone Refused bytes index code
 
--- why bytes configure no devices: no text; a wrong shape; the first command that can't be read; else the first that can't be done
-abbrev pub ConfigureCause : ℕ → List ℕ → ConfigureNo → Type 0
-ConfigureCause threads bytes OutOfMemory = Unit {0}
-ConfigureCause threads bytes Text = IsNoJson bytes
-ConfigureCause threads bytes (Shape place) = IsShapeNo bytes place
-ConfigureCause threads bytes (Method index code) = IsMethodNo bytes index code ⊎ IsUndone threads bytes index code
+-- why bytes configure no devices, where disks have blocks that they may have by what the host tells
+abbrev pub ConfigureCause : ℕ → (List ℕ → Told) → List ℕ → ConfigureNo → Type 0
+ConfigureCause threads told bytes no = CauseBy (IsRefused threads told) bytes no
+
+-- why they configure none, whatever blocks the disks may have
+abbrev pub ConfigureCauseAnyhow : ℕ → (List ℕ → Told) → List ℕ → ConfigureNo → Type 0
+ConfigureCauseAnyhow threads told bytes no = CauseBy (IsRefusedAnyhow threads told) bytes no

@@ -7,6 +7,8 @@ use Rattle.bd_top.specs.declared.configure.ConfigureNo.{ConfigureNo}
 use Rattle.bd_top.specs.declared.configure.ConfigureNo.TheVariants as config_nos
 use Rattle.bd_top.specs.declared.files.ReadNo.{ReadNo}
 use Rattle.bd_top.specs.declared.files.ReadNo.TheVariants as nos
+use Rattle.bd_top.specs.declared.inputs.ScriptNo.{ScriptNo}
+use Rattle.bd_top.specs.declared.inputs.ScriptNo.TheVariants as script_nos
 
 abbrev pub status_of : Fault → ℕ
 status_of (TooLong name) = 1
@@ -40,6 +42,13 @@ IsFaultOf name nos.TooLong (TooLong text) = string_bytes text ≡ name
 IsFaultOf name nos.Failed (ReadFault text) = string_bytes text ≡ name
 IsFaultOf name why OutOfMemory = Unit {0}
 IsFaultOf name why _ = ⊥
+
+-- the fault of a script's file of this name that gives no scripts, or out of memory
+abbrev pub IsScriptFault : List ℕ → ScriptNo → Fault → Type 0
+IsScriptFault name (script_nos.File why) fault = IsFaultOf name why fault
+IsScriptFault name (script_nos.Text line) fault = fault ≡ JobText line
+IsScriptFault name (script_nos.NotBuilt line) fault = fault ≡ JobText line
+IsScriptFault name script_nos.OutOfMemory fault = fault ≡ OutOfMemory
 
 -- the fault of a configuration whose bytes configure no devices
 abbrev pub config_fault : ConfigureNo → Fault

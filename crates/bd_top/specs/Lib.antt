@@ -1,8 +1,10 @@
 pub mod Built
 pub mod Configure
+pub mod Disks
 pub mod Exercise
 pub mod Fault
 pub mod Files
+pub mod Opening
 pub mod Run
 pub mod Setup
 pub mod Words

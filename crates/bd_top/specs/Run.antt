@@ -12,6 +12,9 @@ use Rattle.bd_machine.specs.Lines.{GoesAsFar}
 use Rattle.bd_machine.specs.Run.{IsCompleteRun}
 use Rattle.bd_machine.specs.Users.{dev_of}
 use Rattle.bd_building.specs.Progress.{Progress}
+use Rattle.bd_building.specs.Served.{first_unserved}
+use Rattle.bd_config.specs.Config.{IsConfig}
+use Rattle.bd_config.specs.declared.command.Command.{Command}
 use Rattle.bd_jobs.specs.Generated.{generated}
 use Rattle.bd_jobs.specs.ScriptGrammar.{scripts_of, IsFirstOutside}
 use Rattle.bd_outside.specs.File.{Told, IsAbsent, Content}
@@ -22,12 +25,11 @@ use Rattle.bd_top.specs.declared.fault.Fault.{Fault}
 use Rattle.bd_top.specs.declared.fault.Fault.TheVariants.{Usage, NoFile, TooLong, ReadFault, ConfigText, ConfigShape, Method, JobText, WriteFault, OutOfMemory}
 use Rattle.bd_top.specs.declared.configure.ConfigureNo.{ConfigureNo}
 use Rattle.bd_top.specs.declared.configure.ConfigureNo.TheVariants as config_nos
-use Rattle.bd_top.specs.declared.inputs.DevicesNo.{DevicesNo}
-use Rattle.bd_top.specs.declared.inputs.DevicesNo.TheVariants as devices_nos
 use Rattle.bd_top.specs.declared.inputs.ScriptNo.{ScriptNo}
 use Rattle.bd_top.specs.declared.inputs.ScriptNo.TheVariants as script_nos
 use Rattle.bd_top.specs.Built.{lines_in, AreBuilt, IsFirstNotBuilt}
-use Rattle.bd_top.specs.Configure.{Configures, ConfigureCause}
+use Rattle.bd_top.specs.Configure.{Configures, ConfiguresAnyhow, ConfigureCause, ConfigureCauseAnyhow}
+use Rattle.bd_top.specs.Disks.{AreDisksOf, Opens}
 use Rattle.bd_top.specs.Exercise.{IsExercise}
 use Rattle.bd_top.specs.Fault.{config_fault}
 use Rattle.bd_top.specs.Files.{IsRead, IsTooLong, max_file, ReadCause, AppendsPrefix}
@@ -56,11 +58,14 @@ AreAfterLastClose setup trace = (dev : DevId) (before : List Entry) (e : Entry) 
 
 -- ---- Ok
 
--- the bytes of the configuration make these devices for this number of threads, as far as the host tells its file
-pub record IsDevices (threads : ℕ) (config : Told) (devices : Progress) : Type 0 where
+-- the bytes of the configuration make these devices for this number of threads, as far as the host tells its file,
+-- with the disks that were opened, which have as many blocks as the host tells of their files
+pub record IsDevices (threads : ℕ) (told : List ℕ → Told) (config : Told) (devices : Progress) : Type 0 where
   pub bytes : List ℕ
   pub read : IsRead config bytes
-  pub means : Configures threads bytes devices
+  pub disks : List ℕ
+  pub means : Configures threads bytes disks devices
+  pub opened : AreDisksOf told means.commands disks
 
 -- the bytes of the script give these scripts of this number of threads, and each of their commands is carried out
 pub record IsScript (threads : ℕ) (jobs : Told) (scripts : List Script) : Type 0 where
@@ -70,10 +75,10 @@ pub record IsScript (threads : ℕ) (jobs : Told) (scripts : List Script) : Type
   pub built : AreBuilt (lines_in scripts)
 
 -- the two files mean this setup: the devices of the one, the scripts of the other
-pub record IsMeant (threads : ℕ) (config jobs : Told) (setup : Setup) : Type 0 where
+pub record IsMeant (threads : ℕ) (told : List ℕ → Told) (config jobs : Told) (setup : Setup) : Type 0 where
   pub devices : Progress
   pub scripts : List Script
-  pub of_config : IsDevices threads config devices
+  pub of_config : IsDevices threads told config devices
   pub of_jobs : IsScript threads jobs scripts
   pub is : setup ≡ setup_of threads devices scripts
 
@@ -103,7 +108,7 @@ pub record IsPlayed (setup : Setup) (full : Bool) (trace : List Entry) (report :
 -- the two files were played, with a full report
 pub record AreFilesPlayed (arguments : Arguments) (told : List ℕ → Told) (trace : List Entry) (report : List ℕ) : Type 0 where
   pub setup : Setup
-  pub meant : IsMeant arguments.playing.threads (told arguments.config) (told arguments.jobs) setup
+  pub meant : IsMeant arguments.playing.threads told (told arguments.config) (told arguments.jobs) setup
   pub played : IsPlayed setup true trace report
 
 -- the built-in configuration was played with the generated script, with a report that isn't full
@@ -134,27 +139,37 @@ pub record IsRun (words : List (List ℕ)) (host : HostState) (trace : List Entr
 -- ---- faults
 
 -- the bytes of the configuration make some devices, as far as the host tells its file
-abbrev pub IsConfigured : ℕ → Told → Type 0
-IsConfigured threads config = (devices : Progress) × IsDevices threads config devices
+abbrev pub IsConfigured : ℕ → (List ℕ → Told) → Told → Type 0
+IsConfigured threads told config = (devices : Progress) × IsDevices threads told config devices
 
 -- the bytes of the configuration make no devices, and this is why
-pub record IsOutside (threads : ℕ) (config : Told) (why : ConfigureNo) : Type 0 where
+pub record IsOutside (threads : ℕ) (told : List ℕ → Told) (config : Told) (why : ConfigureNo) : Type 0 where
   pub bytes : List ℕ
   pub read : IsRead config bytes
-  pub outside : ConfigureCause threads bytes why
+  pub outside : ConfigureCause threads told bytes why
+
+-- the bytes of the configuration ask for these commands, which are all served, as far as the host tells its file
+pub record AreCommands (config : Told) (commands : List Command) : Type 0 where
+  pub bytes : List ℕ
+  pub read : IsRead config bytes
+  pub asks : IsConfig bytes commands
+  pub served : first_unserved commands ≡ None
+
+-- the bytes of the configuration ask for a disk over the file of this name
+abbrev pub AsksForDisk : Told → List ℕ → Type 0
+AsksForDisk config name = (commands : List Command) × AreCommands config commands × Opens commands name
 
 -- the line of this number is the first of the script outside the grammar; or each is inside, and it is the first whose command isn't carried out
 abbrev pub IsNoScript : ℕ → Told → ℕ → Type 0
 IsNoScript threads jobs line = IsNoText threads jobs line ⊎ IsNotSupported threads jobs line
 
--- the file of this name was due: the configuration first, and the script only once the configuration makes its devices
+-- the file of this name was due to be read: the configuration first, and the script only once the configuration makes its devices
 abbrev pub IsDue : HostState → List ℕ → List ℕ → ℕ → List ℕ → Type 0
-IsDue host config jobs threads name = (name ≡ config) ⊎ ((name ≡ jobs) × IsConfigured threads (host.told config))
+IsDue host config jobs threads name = (name ≡ config) ⊎ ((name ≡ jobs) × IsConfigured threads host.told (host.told config))
 
--- why a configuration makes no devices
-abbrev pub DevicesCause : HostState → HostState → List ℕ → ℕ → DevicesNo → Type 0
-DevicesCause old new config threads (devices_nos.File why) = ReadCause old new config why
-DevicesCause old new config threads (devices_nos.Outside why) = IsOutside threads (old.told config) why
+-- the file of this name was due to be read, or to be opened as a disk of the configuration
+abbrev pub IsWanted : HostState → List ℕ → List ℕ → ℕ → List ℕ → Type 0
+IsWanted host config jobs threads name = IsDue host config jobs threads name ⊎ AsksForDisk (host.told config) name
 
 -- why a file gives no scripts of this number of threads
 abbrev pub ScriptCause : HostState → HostState → List ℕ → ℕ → ScriptNo → Type 0
@@ -163,17 +178,18 @@ ScriptCause old new jobs threads (script_nos.Text line) = IsNoText threads (old.
 ScriptCause old new jobs threads (script_nos.NotBuilt line) = IsNotSupported threads (old.told jobs) line
 ScriptCause old new jobs threads script_nos.OutOfMemory = Unit {0}
 
--- the fault comes from one of two files: the configuration, or where that makes its devices the script of this number of threads
+-- the fault comes from one of two files: the configuration, or where that makes its devices the script of this number of threads;
+-- or from a file that the configuration asks to be opened as a disk
 abbrev pub FileCause : HostState → HostState → List ℕ → List ℕ → ℕ → Fault → Type 0
 FileCause old new config jobs threads Usage = ⊥
 FileCause old new config jobs threads (NoFile name) =
-    IsDue old config jobs threads (string_bytes name) × IsAbsent (old.told (string_bytes name)) × Misses old new (string_bytes name)
+    IsWanted old config jobs threads (string_bytes name) × IsAbsent (old.told (string_bytes name)) × Misses old new (string_bytes name)
 FileCause old new config jobs threads (TooLong name) = IsDue old config jobs threads (string_bytes name) × IsTooLong (old.told (string_bytes name))
-FileCause old new config jobs threads (ReadFault name) = IsDue old config jobs threads (string_bytes name) × FailsAt old new (string_bytes name)
-FileCause old new config jobs threads ConfigText = IsOutside threads (old.told config) config_nos.Text
-FileCause old new config jobs threads (ConfigShape place) = IsOutside threads (old.told config) (config_nos.Shape place)
-FileCause old new config jobs threads (Method index code) = IsOutside threads (old.told config) (config_nos.Method index code)
-FileCause old new config jobs threads (JobText line) = IsConfigured threads (old.told config) × IsNoScript threads (old.told jobs) line
+FileCause old new config jobs threads (ReadFault name) = IsWanted old config jobs threads (string_bytes name) × FailsAt old new (string_bytes name)
+FileCause old new config jobs threads ConfigText = IsOutside threads old.told (old.told config) config_nos.Text
+FileCause old new config jobs threads (ConfigShape place) = IsOutside threads old.told (old.told config) (config_nos.Shape place)
+FileCause old new config jobs threads (Method index code) = IsOutside threads old.told (old.told config) (config_nos.Method index code)
+FileCause old new config jobs threads (JobText line) = IsConfigured threads old.told (old.told config) × IsNoScript threads (old.told jobs) line
 FileCause old new config jobs threads WriteFault = ⊥
 FileCause old new config jobs threads OutOfMemory = Unit {0}
 
@@ -214,13 +230,13 @@ Cause words old new before after (JobText line) = IsOfFiles words old new (JobTe
 
 -- ---- what is in form
 
--- the host tells a configuration in the one file, and in the other a script that is carried out
+-- the host tells a configuration in the one file, which makes devices whatever blocks its disks may have, and in the other
+-- a script that is carried out. Where it tells the disks' files too, their blocks are those of the files
 pub record AreFilesInForm (arguments : Arguments) (host : HostState) : Type 0 where
   pub config : List ℕ
   pub config_told : host.told arguments.config ≡ Content config
   pub config_short : length config ≤ max_file
-  pub devices : Progress
-  pub config_means : Configures arguments.playing.threads config devices
+  pub config_means : ConfiguresAnyhow arguments.playing.threads host.told config
   pub jobs : List ℕ
   pub jobs_told : host.told arguments.jobs ≡ Content jobs
   pub jobs_short : length jobs ≤ max_file
@@ -248,19 +264,19 @@ NamesNoFile (Generate numbers threads) = Unit {0}
 
 -- ---- files of which one is outside its form
 
--- the bytes of a configuration make no devices, and the fault says why
-pub record IsConfigWrong (threads : ℕ) (config : List ℕ) (fault : Fault) : Type 0 where
+-- the bytes of a configuration make no devices, whatever blocks its disks may have, and the fault says why
+pub record IsConfigWrong (threads : ℕ) (told : List ℕ → Told) (config : List ℕ) (fault : Fault) : Type 0 where
   pub why : ConfigureNo
-  pub cause : ConfigureCause threads config why
+  pub cause : ConfigureCauseAnyhow threads told config why
   pub known : ¬ (why ≡ config_nos.OutOfMemory)
   pub is : fault ≡ config_fault why
 
--- the bytes of a configuration make devices, the script is told, and the fault names its first line that is wrong
-pub record IsScriptWrong (threads : ℕ) (config : List ℕ) (jobs : Told) (fault : Fault) : Type 0 where
-  pub devices : Progress
-  pub means : Configures threads config devices
+-- the bytes of a configuration make devices, whatever blocks its disks may have, the script is told, and the fault names its
+-- first line that is wrong
+pub record IsScriptWrong (threads : ℕ) (told : List ℕ → Told) (config : List ℕ) (jobs : Told) (fault : Fault) : Type 0 where
+  pub means : ConfiguresAnyhow threads told config
   pub bytes : List ℕ
-  pub told : jobs ≡ Content bytes
+  pub told_jobs : jobs ≡ Content bytes
   pub short : length bytes ≤ max_file
   pub line : ℕ
   pub first : IsNoScript threads jobs line
@@ -273,7 +289,8 @@ pub record IsWrong (words : List (List ℕ)) (host : HostState) (fault : Fault) 
   pub config : List ℕ
   pub told : host.told arguments.config ≡ Content config
   pub short : length config ≤ max_file
-  pub wrong : IsConfigWrong arguments.playing.threads config fault ⊎ IsScriptWrong arguments.playing.threads config (host.told arguments.jobs) fault
+  pub wrong : IsConfigWrong arguments.playing.threads host.told config fault
+      ⊎ IsScriptWrong arguments.playing.threads host.told config (host.told arguments.jobs) fault
 
 -- ---- what doesn't fail
 

@@ -1,15 +1,14 @@
-//! The devices that a configuration makes, or the first thing that is wrong with it.
-ghost use Rattle.std.specs.Prelude.{◌≡◌, List, Some, Ok, IfOk, IfErr};
+//! The commands of a configuration, or the first thing that is wrong with it.
+ghost use Rattle.std.specs.Prelude.{◌≡◌, List, None, Some, IfOk, IfErr};
 ghost use Rattle.bd_base.specs.Errno.{number_of};
 ghost use Rattle.bd_config.specs.Commands.{minus};
 ghost use Rattle.bd_config.specs.Config.{IsConfig};
 ghost use Rattle.bd_config.specs.declared.command.Command.{Command as Asked};
-ghost use Rattle.bd_building.specs.Progress.{configured};
 ghost use Rattle.bd_building.specs.Served.{first_unserved};
-ghost use Rattle.bd_top.specs.Configure.{Configures, ConfigureCause, CommandsCause, UnservedCause, DoingCause};
+ghost use Rattle.bd_top.specs.Configure.{CauseBy, CommandsCause, NotRefused, UnservedCause};
 
 use bd_base::Errno;
-use bd_building::{BuildNo, Building, build, first_unserved};
+use bd_building::first_unserved;
 use bd_config::{Command, ConfigNo, read_config};
 use std::alloc::Global;
 
@@ -25,8 +24,8 @@ pub(crate) enum ConfigureNo {
     Method { index: u32, code: i32 },
 }
 
-// An errno as the code of a refusal: its number below zero.
-fn code_of(errno: Errno) -> i32
+/// An errno as the code of a refusal: its number below zero.
+pub(crate) fn code_of(errno: Errno) -> i32
     ensures { result ≡ minus (number_of errno) }
 {
     match errno {
@@ -68,32 +67,17 @@ fn unserved(place: usize) -> ConfigureNo
     }
 }
 
-// Does commands that are all served.
-fn doing(alloc: Global, threads: u32, commands: Vec<Command>) -> Result<Building, ConfigureNo>
-    ensures ok { IfOk result (λ devices. configured threads commands.items ≡ Ok devices) }
-    ensures cause { IfErr result (DoingCause threads commands.items) }
-{
-    match build(alloc, threads, commands) {
-        Ok(devices) => Ok(devices),
-        Err(BuildNo::OutOfMemory) => Err(ConfigureNo::OutOfMemory),
-        Err(BuildNo::Refused { index, errno }) => Err(ConfigureNo::Method {
-            index,
-            code: code_of(errno),
-        }),
-    }
-}
-
-/// The devices that a configuration makes for this number of threads. What is wrong is looked for in
-/// this order: its text; its shape; commands that can't be read; commands that aren't served as yet;
-/// what the commands come to, one after the other.
-#[tactic(auto, using(crate::proofs::ConfigureLemmas::read_cause, crate::proofs::ConfigureLemmas::unserved_cause, crate::proofs::ConfigureLemmas::doing_cause))]
-pub(crate) fn configure(alloc: Global, threads: u32, bytes: &[u8]) -> Result<Building, ConfigureNo>
-    ensures ok { IfOk result (Configures threads bytes.now) }
-    ensures cause { IfErr result (ConfigureCause threads bytes.now) }
+/// The commands of a configuration, which are all served. What is wrong is looked for in this order:
+/// its text; its shape; commands that can't be read; commands that aren't served as yet.
+#[tactic(auto, using(crate::proofs::ConfigureLemmas::read_cause, crate::proofs::ConfigureLemmas::unserved_cause))]
+pub(crate) fn commands_of(alloc: Global, bytes: &[u8]) -> Result<Vec<Command>, ConfigureNo>
+    ensures ok { IfOk result (λ commands. IsConfig bytes.now commands.items) }
+    ensures served { IfOk result (λ commands. first_unserved commands.items ≡ None) }
+    ensures cause { IfErr result (CauseBy NotRefused bytes.now) }
 {
     let commands = commands(alloc, bytes)?;
     match first_unserved(commands.as_slice()) {
-        None => doing(alloc, threads, commands),
+        None => Ok(commands),
         Some(place) => Err(unserved(place)),
     }
 }

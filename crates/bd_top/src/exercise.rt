@@ -1,32 +1,58 @@
 //! The built-in configuration, and the setup of an exercise.
-ghost use Rattle.std.specs.Prelude.{◌≡◌, ◌≤◌, Some, IfOk};
+ghost use Rattle.std.specs.Prelude.{◌≡◌, ◌<◌, ◌≤◌, [], length, None, Some, IfOk};
+ghost use Rattle.bd_building.specs.Served.{first_unserved};
+ghost use Rattle.bd_config.specs.Config.{IsConfig};
 ghost use Rattle.bd_jobs.specs.Generated.{generated};
 ghost use Rattle.bd_jobs.specs.ScriptGrammar.{scripts_of};
 ghost use Rattle.bd_top.specs.Configure.{Configures};
 ghost use Rattle.bd_top.specs.Exercise.{built_in, IsExercise};
 
-use crate::configure::{ConfigureNo, configure};
-use crate::setup::setup_of;
-use bd_base::{OutOfMemory, Rows, Script, Setup};
-use bd_building::Building;
+use crate::configure::{ConfigureNo, commands_of};
+use crate::devices::{Opened, open_devices};
+use crate::disks::close_all;
+use crate::fault::Fault;
+use crate::setup::{Ready, setup_of};
+use bd_base::{OutOfMemory, Rows, Script};
+use bd_config::Command;
 use bd_jobs::{JobNo, generate, read_jobs};
+use bd_outside::Host;
 use std::alloc::Global;
 
 /// A malloc device `M` of 1,024 blocks of 512 bytes, and a passthru device `P` over it.
 const BUILT_IN: &str =
     "{\"subsystems\":[{\"subsystem\":\"bdev\",\"config\":[{\"method\":\"bdev_malloc_create\",\"params\":{\"name\":\"M\",\"num_blocks\":1024,\"block_size\":512}},{\"method\":\"bdev_passthru_create\",\"params\":{\"base_bdev_name\":\"M\",\"name\":\"P\"}}]}]}";
 
-// The devices of the built-in configuration, for this number of threads.
+// The commands of the built-in configuration.
 #[tactic(auto, using(crate::proofs::BuiltIn::is_text, crate::proofs::BuiltIn::has_shape, crate::proofs::BuiltIn::has_commands))]
-fn devices(alloc: Global, threads: u32) -> Result<Building, OutOfMemory>
-    ensures { IfOk result (Configures threads built_in) }
+fn commands(alloc: Global) -> Result<Vec<Command>, OutOfMemory>
+    ensures config { IfOk result (λ commands. IsConfig built_in commands.items) }
+    ensures served { IfOk result (λ commands. first_unserved commands.items ≡ None) }
 {
-    match configure(alloc, threads, BUILT_IN.as_bytes()) {
-        Ok(devices) => Ok(devices),
+    match commands_of(alloc, BUILT_IN.as_bytes()) {
+        Ok(commands) => Ok(commands),
         Err(ConfigureNo::OutOfMemory) => Err(OutOfMemory),
         Err(ConfigureNo::Text) => unreachable!(),
         Err(ConfigureNo::Shape(_)) => unreachable!(),
         Err(ConfigureNo::Method { .. }) => unreachable!(),
+    }
+}
+
+// The devices of the built-in configuration, for this number of threads. It opens no file of the host.
+#[tactic(auto, using(crate::proofs::BuiltIn::is_done, crate::proofs::BuiltIn::makes))]
+fn devices<H: Host>(
+    alloc: Global,
+    host: &mut H,
+    threads: u32,
+) -> Result<Opened<H::Disk>, OutOfMemory>
+    requires { 0 < threads }
+    ensures devices { IfOk result (λ o. Configures threads built_in [] o.devices) }
+    ensures threads { IfOk result (λ o. length o.disks ≡ threads) }
+{
+    let commands = commands(alloc)?;
+    match open_devices(alloc, host, threads, commands) {
+        Ok(opened) => Ok(opened),
+        Err(Fault::OutOfMemory) => Err(OutOfMemory),
+        Err(_) => unreachable!(),
     }
 }
 
@@ -45,17 +71,26 @@ fn scripts(alloc: Global, numbers: u32, threads: u32) -> Result<Rows<Script>, Ou
 }
 
 /// The setup of the built-in configuration with the generated script of 1 to 500 numbers for each thread.
-pub(crate) fn exercise_setup(
+pub(crate) fn exercise_setup<H: Host>(
     alloc: Global,
+    host: &mut H,
     numbers: u32,
     threads: u32,
-) -> Result<Setup, OutOfMemory>
+) -> Result<Ready<H::Disk>, OutOfMemory>
     requires numbers { numbers ≤ 500 }
+    requires some { 0 < threads }
     requires threads { threads ≤ 16 }
-    ensures setup { IfOk result (IsExercise numbers threads) }
-    ensures threads { IfOk result (λ setup. setup.threads ≡ threads) }
+    ensures setup { IfOk result (λ r. IsExercise numbers threads r.setup) }
+    ensures threads { IfOk result (λ r. r.setup.threads ≡ threads) }
+    ensures disks { IfOk result (λ r. length r.disks ≡ threads) }
 {
-    let devices = devices(alloc, threads)?;
     let scripts = scripts(alloc, numbers, threads)?;
-    setup_of(alloc, threads, devices, scripts)
+    let Opened { devices, disks } = devices(alloc, host, threads)?;
+    match setup_of(alloc, threads, devices, scripts) {
+        Ok(setup) => Ok(Ready { setup, disks }),
+        Err(OutOfMemory) => {
+            close_all(host, disks);
+            Err(OutOfMemory)
+        }
+    }
 }

@@ -3,8 +3,10 @@ ghost use Rattle.std.specs.Prelude.{◌≡◌, ◌≤◌, length, IfOk, IfErr, O
 ghost use Rattle.std.specs.Io.KnownBytes.{Appends};
 ghost use Rattle.bd_outside.specs.Host.{IsLater};
 ghost use Rattle.bd_outside.specs.Sink.{Fails, StaysUntold};
+ghost use Rattle.bd_top.specs.Fault.{IsFaultOf};
 ghost use Rattle.bd_top.specs.Files.{IsRead, ReadCause, AppendsPrefix};
 
+use crate::fault::Fault;
 use bd_base::{Bytes, OutOfMemory};
 use bd_outside::{Failed, Host, HostNo, Sink};
 use std::alloc::{AllocError, Global};
@@ -15,7 +17,7 @@ const MAX_FILE: usize = 8_388_608;
 // How many bytes are asked for at once.
 const CHUNK: usize = 65_536;
 
-/// Why a file wasn't read.
+/// Why a file wasn't read, or wasn't opened.
 #[derive(Clone, Copy, Debug, PartialEq, Eq)]
 pub(crate) enum ReadNo {
     /// There is no such file.
@@ -35,6 +37,21 @@ impl From<OutOfMemory> for ReadNo {
 
     fn from(_e: OutOfMemory) -> ReadNo {
         ReadNo::OutOfMemory
+    }
+}
+
+/// The fault of a file of this name that wasn't read, or wasn't opened.
+pub(crate) fn fault_of(alloc: Global, name: &str, no: ReadNo) -> Fault
+    ensures { IsFaultOf name.now no result }
+{
+    let Ok(name) = String::from_str(alloc, name) else {
+        return Fault::OutOfMemory;
+    };
+    match no {
+        ReadNo::Absent => Fault::NoFile(name),
+        ReadNo::TooLong => Fault::TooLong(name),
+        ReadNo::Failed => Fault::ReadFault(name),
+        ReadNo::OutOfMemory => Fault::OutOfMemory,
     }
 }
 

@@ -1,48 +1,71 @@
-//! The two files of a run, and what they mean.
-ghost use Rattle.std.specs.Prelude.{◌≡◌, IfOk, IfErr};
+//! The two files of a run, the disks that the configuration opens, and what they mean.
+ghost use Rattle.std.specs.Prelude.{◌≡◌, ◌<◌, ℕ, List, length, IfOk, IfErr};
 ghost use Rattle.bd_outside.specs.Host.{IsLater};
-ghost use Rattle.bd_top.specs.Fault.{IsFaultOf, config_fault};
-ghost use Rattle.bd_top.specs.Run.{IsDevices, IsScript, IsMeant, DevicesCause, ScriptCause, FileCause};
+ghost use Rattle.bd_top.specs.Fault.{IsScriptFault, config_fault};
+ghost use Rattle.bd_top.specs.Run.{AreCommands, IsDevices, IsScript, IsMeant, ScriptCause, FileCause};
 
 use crate::built::first_not_built;
-use crate::configure::{ConfigureNo, configure};
+use crate::configure::{ConfigureNo, commands_of};
+use crate::devices::{Opened, open_devices};
+use crate::disks::close_all;
 use crate::fault::Fault;
-use crate::files::{ReadNo, read_file};
-use crate::setup::setup_of;
-use bd_base::{OutOfMemory, Rows, Script, Setup};
-use bd_building::Building;
+use crate::files::{ReadNo, fault_of, read_file};
+use crate::setup::{Ready, setup_of};
+use bd_base::{OutOfMemory, Rows, Script};
+use bd_config::Command;
 use bd_jobs::{JobNo, read_jobs};
 use bd_outside::Host;
 use std::alloc::Global;
 
-/// Why a configuration gives no devices.
-#[derive(Clone, Copy, Debug, PartialEq, Eq)]
-pub(crate) enum DevicesNo {
-    /// Its file wasn't read.
-    File(ReadNo),
-    /// Its bytes configure none.
-    Outside(ConfigureNo),
+// The fault of a configuration whose bytes ask for no commands that are served.
+fn config_fault(no: ConfigureNo) -> Fault
+    ensures { result ≡ config_fault no }
+{
+    match no {
+        ConfigureNo::OutOfMemory => Fault::OutOfMemory,
+        ConfigureNo::Text => Fault::ConfigText,
+        ConfigureNo::Shape(place) => Fault::ConfigShape(place),
+        ConfigureNo::Method { index, code } => Fault::Method { index, code },
+    }
 }
 
-// The devices that a configuration makes for this number of threads.
-fn devices<H: Host>(
+// Reads the commands of a configuration.
+#[tactic(auto, using(crate::proofs::FileCauses::of_bytes, crate::proofs::FileCauses::of_config))]
+fn read_commands<H: Host>(
     alloc: Global,
     host: &mut H,
     name: &str,
-    threads: u32,
-) -> Result<Building, DevicesNo>
-    ensures devices { IfOk result (IsDevices threads ((H.state host.old).told name.now)) }
-    ensures cause { IfErr result (DevicesCause (H.state host.old) (H.state host.new) name.now threads) }
+) -> Result<Vec<Command>, Fault>
+    ensures commands { IfOk result (λ commands. AreCommands ((H.state host.old).told name.now) commands.items) }
+    ensures cause { (jobs : List ℕ) (threads : ℕ) → IfErr result (FileCause (H.state host.old) (H.state host.new) name.now jobs threads) }
     ensures later { IsLater (H.state host.old) (H.state host.new) }
 {
     let bytes = match read_file(alloc, host, name) {
         Ok(bytes) => bytes,
-        Err(no) => return Err(DevicesNo::File(no)),
+        Err(no) => return Err(fault_of(alloc, name, no)),
     };
-    match configure(alloc, threads, bytes.as_slice()) {
-        Ok(devices) => Ok(devices),
-        Err(no) => Err(DevicesNo::Outside(no)),
+    match commands_of(alloc, bytes.as_slice()) {
+        Ok(commands) => Ok(commands),
+        Err(no) => Err(config_fault(no)),
     }
+}
+
+// The devices that a configuration makes for this number of threads, with the disks that it opens.
+#[tactic(auto, using(crate::proofs::FileCauses::of_doing, crate::proofs::FileLemmas::later_then))]
+fn read_devices<H: Host>(
+    alloc: Global,
+    host: &mut H,
+    name: &str,
+    threads: u32,
+) -> Result<Opened<H::Disk>, Fault>
+    requires { 0 < threads }
+    ensures devices { IfOk result (λ o. IsDevices threads (H.state host.old).told ((H.state host.old).told name.now) o.devices) }
+    ensures threads { IfOk result (λ o. length o.disks ≡ threads) }
+    ensures cause { (jobs : List ℕ) → IfErr result (FileCause (H.state host.old) (H.state host.new) name.now jobs threads) }
+    ensures later { IsLater (H.state host.old) (H.state host.new) }
+{
+    let commands = read_commands(alloc, host, name)?;
+    open_devices(alloc, host, threads, commands)
 }
 
 /// Why a file gives no scripts.
@@ -83,60 +106,48 @@ fn scripts<H: Host>(
     }
 }
 
-// The fault of a file of this name that wasn't read.
-fn fault_of(alloc: Global, name: &str, no: ReadNo) -> Fault
-    ensures { IsFaultOf name.now no result }
+// The fault of a script's file that gives no scripts.
+fn script_fault(alloc: Global, name: &str, no: ScriptNo) -> Fault
+    ensures { IsScriptFault name.now no result }
 {
-    let Ok(name) = String::from_str(alloc, name) else {
-        return Fault::OutOfMemory;
-    };
     match no {
-        ReadNo::Absent => Fault::NoFile(name),
-        ReadNo::TooLong => Fault::TooLong(name),
-        ReadNo::Failed => Fault::ReadFault(name),
-        ReadNo::OutOfMemory => Fault::OutOfMemory,
+        ScriptNo::File(no) => fault_of(alloc, name, no),
+        ScriptNo::Text(line) => Fault::JobText(line),
+        ScriptNo::NotBuilt(line) => Fault::JobText(line),
+        ScriptNo::OutOfMemory => Fault::OutOfMemory,
     }
 }
 
-// The fault of a configuration whose bytes configure no devices.
-fn config_fault(no: ConfigureNo) -> Fault
-    ensures { result ≡ config_fault no }
-{
-    match no {
-        ConfigureNo::OutOfMemory => Fault::OutOfMemory,
-        ConfigureNo::Text => Fault::ConfigText,
-        ConfigureNo::Shape(place) => Fault::ConfigShape(place),
-        ConfigureNo::Method { index, code } => Fault::Method { index, code },
-    }
-}
-
-/// Reads the two files, the configuration first; the script is one of this number of threads. They mean
-/// the setup that a run of them begins from.
+/// Reads the two files, the configuration first, whose disks are opened; the script is one of this
+/// number of threads. They mean the setup that a run of them begins from. Any fault closes all disks.
+#[tactic(auto, using(crate::proofs::FileCauses::of_script))]
 pub(crate) fn read_setup<H: Host>(
     alloc: Global,
     host: &mut H,
     config: &str,
     jobs: &str,
     threads: u32,
-) -> Result<Setup, Fault>
-    ensures setup { IfOk result (IsMeant threads ((H.state host.old).told config.now) ((H.state host.old).told jobs.now)) }
-    ensures threads { IfOk result (λ setup. setup.threads ≡ threads) }
+) -> Result<Ready<H::Disk>, Fault>
+    requires { 0 < threads }
+    ensures setup { IfOk result (λ r. IsMeant threads (H.state host.old).told ((H.state host.old).told config.now)
+        ((H.state host.old).told jobs.now) r.setup) }
+    ensures threads { IfOk result (λ r. r.setup.threads ≡ threads) }
+    ensures disks { IfOk result (λ r. length r.disks ≡ threads) }
     ensures cause { IfErr result (FileCause (H.state host.old) (H.state host.new) config.now jobs.now threads) }
 {
-    let devices = match devices(alloc, host, config, threads) {
-        Ok(devices) => devices,
-        Err(DevicesNo::File(no)) => return Err(fault_of(alloc, config, no)),
-        Err(DevicesNo::Outside(no)) => return Err(config_fault(no)),
-    };
+    let Opened { devices, disks } = read_devices(alloc, host, config, threads)?;
     let scripts = match scripts(alloc, host, jobs, threads) {
         Ok(scripts) => scripts,
-        Err(ScriptNo::File(no)) => return Err(fault_of(alloc, jobs, no)),
-        Err(ScriptNo::Text(line)) => return Err(Fault::JobText(line)),
-        Err(ScriptNo::NotBuilt(line)) => return Err(Fault::JobText(line)),
-        Err(ScriptNo::OutOfMemory) => return Err(Fault::OutOfMemory),
+        Err(no) => {
+            close_all(host, disks);
+            return Err(script_fault(alloc, jobs, no));
+        }
     };
     match setup_of(alloc, threads, devices, scripts) {
-        Ok(setup) => Ok(setup),
-        Err(OutOfMemory) => Err(Fault::OutOfMemory),
+        Ok(setup) => Ok(Ready { setup, disks }),
+        Err(OutOfMemory) => {
+            close_all(host, disks);
+            Err(Fault::OutOfMemory)
+        }
     }
 }

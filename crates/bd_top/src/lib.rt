@@ -3,6 +3,8 @@
 
 mod built;
 mod configure;
+mod devices;
+mod disks;
 mod exercise;
 mod fault;
 mod files;

@@ -2,9 +2,16 @@
 ghost use Rattle.std.specs.Prelude.{◌≡◌, IfOk};
 ghost use Rattle.bd_top.specs.Setup.{setup_of};
 
+use crate::disks::OpenDisks;
 use bd_base::{OutOfMemory, Rows, Script, Setup};
 use bd_building::Building;
 use std::alloc::Global;
+
+/// A setup, and the disks of its devices.
+pub(crate) struct Ready<D> {
+    pub setup: Setup,
+    pub disks: OpenDisks<D>,
+}
 
 /// This number of threads with these scripts, over the devices of a configuration.
 pub(crate) fn setup_of(

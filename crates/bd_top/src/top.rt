@@ -1,21 +1,24 @@
 //! The top call.
-ghost use Rattle.std.specs.Prelude.{◌≡◌, ◌<◌, ◌≤◌, ◌⊎◌, map, string_bytes, IfOk, IfErr, MatchResult, None, Some, Err};
+ghost use Rattle.std.specs.Prelude.{◌≡◌, ◌<◌, ◌≤◌, ◌⊎◌, length, map, string_bytes, IfOk, IfErr, MatchResult, None, Some, Err};
 ghost use Rattle.bd_outside.specs.Sink.{StaysUntold};
 ghost use Rattle.bd_top.specs.declared.fault.Fault.{Fault as Refusal};
 ghost use Rattle.bd_top.specs.Run.{IsPlayed, AreFilesPlayed, IsExercised, IsGenerated, IsDone, IsRun, FileCause, AskedCause, Cause, AreInForm, IsWrong, NamesNoFile, NothingFails, WritesNothing};
 ghost use Rattle.bd_top.specs.Words.{Asked as Meant, seen, seen_arguments, asked_of, IsInRange, IsThreadCount};
 
+use crate::disks::{close_all, close_shelf};
 use crate::exercise::exercise_setup;
 use crate::fault::Fault;
 use crate::files::write_all;
 use crate::inputs::read_setup;
+use crate::setup::Ready;
 use crate::words::{Arguments, Asked, Playing, parse};
-use bd_base::{OutOfMemory, Setup};
+use bd_base::OutOfMemory;
 use bd_jobs::generate;
 use bd_node::{Drive, History, play};
-use bd_outside::{Clock, Failed, Gate, Host, Sink};
+use bd_outside::{Clock, Failed, Gate, Host, MemHost, Sink};
 use bd_report::report::report;
 use std::alloc::Global;
+use std::marker::Send;
 use std::sync::Wait;
 use std::thread::Threads;
 
@@ -34,19 +37,34 @@ struct Done {
     text: Vec<u8>,
 }
 
-// Plays the scripts of a setup as the drive has it, and makes the report.
-fn play_and_report<R: AllocGlobal + Threads + Wait + Sync, G: Gate + Sync>(
+// Plays the scripts of a setup over its disks as the drive has it, makes the report, and closes the
+// disks, however that ends.
+fn play_and_report<R: AllocGlobal + Threads + Wait + Sync, H: Host, G: Gate + Sync>(
     rt: &R,
-    setup: &Setup,
+    host: &mut H,
+    ready: Ready<H::Disk>,
     drive: Drive,
     gate: &G,
     full: bool,
 ) -> Result<Done, OutOfMemory>
-    requires { 0 < setup.now.threads }
-    ensures { IfOk result (λ done. IsPlayed setup.now full done.trace done.text.items) }
+where
+    H::Disk: Send,
+    requires some { 0 < ready.setup.threads }
+    requires disks { length ready.disks ≡ ready.setup.threads }
+    ensures played { IfOk result (λ done. IsPlayed ready.setup full done.trace done.text.items) }
 {
-    let trace = play(rt, rt.alloc(), setup, drive, gate)?;
-    let text = report(rt.alloc(), setup, trace.entries(), full)?;
+    let Ready { setup, disks } = ready;
+    let (names, shelf) = match disks.shelve(rt.alloc()) {
+        Ok(shelved) => shelved,
+        Err(disks) => {
+            close_all(host, disks);
+            return Err(OutOfMemory);
+        }
+    };
+    let (played, shelf) = play(rt, rt.alloc(), &setup, shelf, drive, gate);
+    close_shelf(host, names.as_slice(), shelf);
+    let trace = played?;
+    let text = report(rt.alloc(), &setup, trace.entries(), full)?;
     Ok(Done { trace, text })
 }
 
@@ -57,6 +75,8 @@ fn run_files<R: AllocGlobal + Threads + Wait + Sync, H: Host, G: Gate + Sync>(
     host: &mut H,
     gate: &G,
 ) -> Result<Done, Fault>
+where
+    H::Disk: Send,
     requires { IsThreadCount arguments.playing.threads }
     ensures done { IfOk result (λ done. AreFilesPlayed (seen_arguments arguments.entry) (H.state host.old).told done.trace done.text.items) }
     ensures cause { IfErr result
@@ -67,14 +87,15 @@ fn run_files<R: AllocGlobal + Threads + Wait + Sync, H: Host, G: Gate + Sync>(
         jobs,
         playing,
     } = arguments;
-    let setup = read_setup(rt.alloc(), host, config, jobs, playing.threads)?;
-    match play_and_report(rt, &setup, playing.drive, gate, true) {
+    let ready = read_setup(rt.alloc(), host, config, jobs, playing.threads)?;
+    match play_and_report(rt, host, ready, playing.drive, gate, true) {
         Ok(done) => Ok(done),
         Err(OutOfMemory) => Err(Fault::OutOfMemory),
     }
 }
 
-// Plays the built-in configuration with the generated script.
+// Plays the built-in configuration with the generated script. They open no file, so a host without
+// files serves.
 fn exercise<R: AllocGlobal + Threads + Wait + Sync, G: Gate + Sync>(
     rt: &R,
     numbers: u32,
@@ -85,8 +106,10 @@ fn exercise<R: AllocGlobal + Threads + Wait + Sync, G: Gate + Sync>(
     requires threads { IsThreadCount playing.threads }
     ensures { IfOk result (λ done. IsExercised numbers playing.threads done.trace done.text.items) }
 {
-    let setup = exercise_setup(rt.alloc(), numbers, playing.threads)?;
-    play_and_report(rt, &setup, playing.drive, gate, false)
+    let alloc = rt.alloc();
+    let mut host = MemHost::new(alloc, Vec::new(alloc), 0, Vec::new(alloc))?;
+    let ready = exercise_setup(alloc, &mut host, numbers, playing.threads)?;
+    play_and_report(rt, &mut host, ready, playing.drive, gate, false)
 }
 
 // Makes the generated script.
@@ -109,6 +132,8 @@ fn do_asked<R: AllocGlobal + Threads + Wait + Sync, H: Host, G: Gate + Sync>(
     host: &mut H,
     gate: &G,
 ) -> Result<Done, Fault>
+where
+    H::Disk: Send,
     requires { IsInRange (seen asked) }
     ensures done { IfOk result (λ done. IsDone (seen asked.entry) (H.state host.old).told done.trace done.text.items) }
     ensures cause { IfErr result (AskedCause (seen asked.entry) (H.state host.old) (H.state host.new)) }
@@ -131,10 +156,15 @@ fn do_asked<R: AllocGlobal + Threads + Wait + Sync, H: Host, G: Gate + Sync>(
 /// a turn; or they take turns by the schedule that the number of `--schedule` seeds. `generate N` writes
 /// the generated script for as many threads as `--threads` says, and plays nothing.
 ///
+/// The file of each aio device is opened as a disk just before its command is done, and all disks are
+/// closed before this returns, whatever it returns.
+///
 /// Faults are looked for in this order: the words; the configuration's file, its text, its shape, its
-/// commands as they are read, as they are served and as they are done; the script's file, its grammar,
-/// and commands that aren't carried out; the output. `cause` says when each comes: a file's fault names
-/// the file that was due, and the script is due only once the configuration makes its devices.
+/// commands as they are read and as they are served; then command after command, the file that it opens
+/// and how it is done; the script's file, its grammar, and commands that aren't carried out; the output.
+/// `cause` says when each comes: a file's fault names a file that was due, and the script is due only
+/// once the configuration makes its devices. A disk that fails while it serves is no fault of this call:
+/// the request that it failed at ends so.
 #[tactic(auto, using(crate::proofs::Answers::of_asked, crate::proofs::Answers::names_none, crate::proofs::InForm::only_memory, crate::proofs::Wrong::only_this, crate::proofs::Wrong::not_done))]
 pub fn run<R: AllocGlobal + Threads + Wait + Sync, H: Host, K: Sink, C: Clock, G: Gate + Sync>(
     rt: &R,
@@ -144,6 +174,8 @@ pub fn run<R: AllocGlobal + Threads + Wait + Sync, H: Host, K: Sink, C: Clock, G
     _clock: &C,
     gate: &G,
 ) -> Result<Ran, Fault>
+where
+    H::Disk: Send,
     ensures run { IfOk result (λ r. IsRun (map string_bytes words.now) (H.state host.old) r.trace (K.state out.old) (K.state out.new)) }
     ensures status { IfOk result (λ r. r.status ≡ 0) }
     ensures usage { asked_of (map string_bytes words.now) ≡ None → result ≡ Err Fault.Usage }

@@ -10,6 +10,7 @@ use bd_real::{Output, SystemClock, SystemHost};
 use bd_top::{Fault, run};
 use std::env;
 use std::io::{self, ErrorKind};
+use std::marker::Send;
 use std::process::ExitCode;
 use std::rt::Runtime;
 use std::sync::Wait;
@@ -65,7 +66,10 @@ fn print<R: Runtime>(rt: &R, text: &str) -> Result<u8, Fault> {
 fn do_asked<R: Runtime + AllocGlobal + Threads + Wait + Sync>(
     rt: &R,
     words: &[String],
-) -> Result<u8, Fault> {
+) -> Result<u8, Fault>
+where
+    R::File: Send,
+{
     let mut host = SystemHost::new(rt.alloc(), rt);
     let mut out = Output::new(io::writer(rt));
     let clock = SystemClock::new(rt);
@@ -74,7 +78,10 @@ fn do_asked<R: Runtime + AllocGlobal + Threads + Wait + Sync>(
 }
 
 // Does what the command line asks for, and gives the status to end with.
-fn serve<R: Runtime + AllocGlobal + Threads + Wait + Sync>(rt: &R) -> Result<u8, Fault> {
+fn serve<R: Runtime + AllocGlobal + Threads + Wait + Sync>(rt: &R) -> Result<u8, Fault>
+where
+    R::File: Send,
+{
     let words = words(rt)?;
     match words.as_slice() {
         [word] if word.as_str() == "--help" => print(rt, HELP),

@@ -1,5 +1,5 @@
 //! The whole call over files and output in memory.
-use bd_base::{Bytes, Name};
+use bd_base::{Bytes, Name, Rows};
 use bd_outside::{MemHost, MemSink, OpenGate, StillClock};
 use bd_top::{Fault, Ran, run};
 use std::alloc::Global;
@@ -49,7 +49,8 @@ fn words_of(alloc: Global, words: &[&str]) -> Result<Vec<String>, Fail> {
     Ok(list)
 }
 
-fn ran_on<R: AllocGlobal + Threads + Wait + Sync>(
+/// Runs these words, after `run`, over a host.
+pub(crate) fn ran_on<R: AllocGlobal + Threads + Wait + Sync>(
     rt: &R,
     words: &[&str],
     host: &mut MemHost,
@@ -72,4 +73,32 @@ pub(crate) fn ran<R: AllocGlobal + Threads + Wait + Sync>(
 ) -> Result<Result<Ran, Fault>, Fail> {
     let mut host = host(rt.alloc(), script, fails)?;
     ran_on(rt, words, &mut host, out)
+}
+
+const DISK_CONFIG: &str =
+    "{\"subsystems\":[{\"subsystem\":\"bdev\",\"config\":[{\"method\":\"bdev_aio_create\",\"params\":{\"name\":\"A\",\"filename\":\"disk\",\"block_size\":512}}]}]}";
+
+// The calls of a file's disk that fail.
+fn disk_fails(alloc: Global, name: &str, fails: &[u64]) -> Result<Vec<(Name, Rows<u64>)>, Fail> {
+    let mut rows = Vec::new(alloc);
+    let calls = Vec::from_slice(alloc, fails)?;
+    rows.push((
+        Name::from_slice(alloc, name.as_bytes())?,
+        Rows::from_vec(calls),
+    ))?;
+    Ok(rows)
+}
+
+/// A host with a configuration `c` of the aio device A over the file `disk` of 8 blocks of 512 bytes, and this
+/// script `j`. It opens one disk, whose calls of these numbers fail.
+pub(crate) fn disk_host(alloc: Global, script: &str, fails: &[u64]) -> Result<MemHost, Fail> {
+    let mut files = Vec::new(alloc);
+    add(alloc, &mut files, "c", DISK_CONFIG)?;
+    add(alloc, &mut files, "j", script)?;
+    files.push((
+        Name::from_slice(alloc, b"disk")?,
+        Bytes::zeros(alloc, 4096)?,
+    ))?;
+    let host = MemHost::new(alloc, files, 1, Vec::new(alloc))?;
+    Ok(host.with_disk_fails(disk_fails(alloc, "disk", fails)?))
 }

@@ -1,8 +1,8 @@
 //! The whole call over files and output in memory: what the program's own tests can't bring about.
 //! Expected digests, and which thread a schedule begins with, were computed by another program,
 //! from the rules alone.
-use crate::tests::outside::{FIRST, ran};
-use bd_outside::MemSink;
+use crate::tests::outside::{FIRST, disk_host, ran, ran_on};
+use bd_outside::{MemHost, MemSink};
 use bd_top::Fault;
 use std::alloc::Global;
 use std::test::Fail;
@@ -91,5 +91,63 @@ fn a_schedule_says_who_begins(rt: HostRuntime) -> Result<(), Fail> {
         };
         assert!(rt; first == Some(thread), "schedule {schedule}: {first:?}");
     }
+    Ok(())
+}
+
+// Reads of four blocks of a disk, one after the other.
+const READS: &str =
+    "0 open h A r\n0 read h 0 1\n0 wait\n0 read h 1 1\n0 wait\n0 read h 2 1\n0 wait\n0 read h 3 1\n0 wait\n0 close h\n";
+
+// How each of them ends where the disk's third call fails.
+const ENDS: [(&str, &str); 4] = [
+    ("job 2 ", "job 2 0 read success"),
+    ("job 4 ", "job 4 0 read success"),
+    ("job 6 ", "job 6 0 read failed"),
+    ("job 8 ", "job 8 0 read success"),
+];
+
+// How often the one disk of a host was closed, and the faults that it had then.
+fn closed(host: &MemHost) -> (usize, u64) {
+    match host.openings() {
+        [opening] => match &opening.closing {
+            Some(closing) => (1, closing.faults),
+            None => (0, 0),
+        },
+        _ => (0, 0),
+    }
+}
+
+// A disk that fails at one call fails one request, and no more; and it is closed in the end.
+#[test]
+fn failing_disk(rt: HostRuntime) -> Result<(), Fail> {
+    let alloc = rt.alloc();
+    let mut host = disk_host(alloc, READS, &[3])?;
+    let mut out = MemSink::new(alloc, 10_000)?;
+    let ran = ran_on(&rt, &["c", "j"], &mut host, &mut out)?;
+    assert!(rt; ran.is_ok());
+    let report = String::from_utf8(Vec::from_slice(alloc, out.bytes())?)?;
+    for (line, end) in ENDS {
+        let ended = report
+            .as_str()
+            .lines()
+            .any(|text| text.starts_with(line) && text.starts_with(end));
+        assert!(rt; ended, "{report}");
+    }
+    assert!(rt; closed(&host) == (1, 1));
+    Ok(())
+}
+
+// Where the script's file is missing the disk is closed too.
+#[test]
+fn a_disk_is_closed_after_a_fault(rt: HostRuntime) -> Result<(), Fail> {
+    let alloc = rt.alloc();
+    let mut host = disk_host(alloc, READS, &[])?;
+    let mut out = MemSink::new(alloc, 10_000)?;
+    let fault = match ran_on(&rt, &["c", "x"], &mut host, &mut out)? {
+        Ok(_) => String::new(alloc),
+        Err(fault) => format!(in alloc; "{fault}, status {}", fault.status())?,
+    };
+    assert!(rt; fault.as_bytes() == b"no file: x, status 3", "{fault}");
+    assert!(rt; closed(&host) == (1, 0));
     Ok(())
 }

@@ -1,0 +1,143 @@
+//! The devices of a configuration's commands, and the disks that these open.
+ghost use Rattle.std.specs.Prelude.{◌≡◌, ◌<◌, length, IfOk, IfErr};
+ghost use Rattle.bd_building.specs.Disks.{file_of};
+ghost use Rattle.bd_outside.specs.Host.{IsLater};
+ghost use Rattle.bd_top.specs.Configure.{IsRefused};
+ghost use Rattle.bd_top.specs.Disks.{IsNamed, MayGive, Opens};
+ghost use Rattle.bd_top.specs.Opening.{AreDone, DoingCause, IsBuildFault, IsStep, IsStepRefused, NeverRefused};
+
+use crate::configure::code_of;
+use crate::disks::{OpenDisks, close_all};
+use crate::fault::Fault;
+use crate::files::{ReadNo, fault_of};
+use bd_building::{BuildNo, Building};
+use bd_config::Command;
+use bd_outside::{Disk, Host, HostNo};
+use std::alloc::Global;
+use std::str;
+
+/// The devices that commands made, and the disks that they opened.
+pub(crate) struct Opened<D> {
+    pub devices: Building,
+    pub disks: OpenDisks<D>,
+}
+
+// Opens the file that a command asks for as the disk of the device of this number, and says how many
+// blocks it has; 0 where the command opens none. A name that is no text and blocks without bytes, for
+// which no configuration asks, answer out of memory.
+fn open_for<H: Host>(
+    alloc: Global,
+    host: &mut H,
+    disks: &mut OpenDisks<H::Disk>,
+    dev: usize,
+    command: &Command,
+) -> Result<u64, Fault>
+    requires { 0 < length disks.old }
+    ensures blocks { IfOk result (MayGive (H.state host.old).told (file_of command.now)) }
+    ensures cause { IfErr result (DoingCause (H.state host.old) (H.state host.new) (IsNamed (file_of command.now)) NeverRefused) }
+    ensures later { IsLater (H.state host.old) (H.state host.new) }
+    ensures threads { length disks.new ≡ length disks.old }
+{
+    let Command::Aio { file, size, .. } = command else {
+        return Ok(0);
+    };
+    let (Ok(name), Ok(dev)) = (str::from_utf8(file.as_slice()), u32::try_from(dev)) else {
+        return Err(Fault::OutOfMemory);
+    };
+    let Ok(kept) = String::from_str(alloc, name) else {
+        return Err(Fault::OutOfMemory);
+    };
+    if *size == 0 {
+        return Err(Fault::OutOfMemory);
+    }
+    let disk = match host.open_disk(name, *size) {
+        Ok(disk) => disk,
+        Err(HostNo::Absent) => return Err(fault_of(alloc, name, ReadNo::Absent)),
+        Err(HostNo::Failed) => return Err(fault_of(alloc, name, ReadNo::Failed)),
+    };
+    let blocks = disk.blocks();
+    match disks.add(dev, kept, disk) {
+        Ok(()) => Ok(blocks),
+        Err(disk) => {
+            host.close_disk(name, disk);
+            Err(Fault::OutOfMemory)
+        }
+    }
+}
+
+// The fault of a command that is refused, or out of memory.
+fn build_fault(no: BuildNo) -> Fault
+    ensures { IsBuildFault no result }
+{
+    match no {
+        BuildNo::OutOfMemory => Fault::OutOfMemory,
+        BuildNo::Refused { index, errno } => Fault::Method {
+            index,
+            code: code_of(errno),
+        },
+    }
+}
+
+// Opens the disk of a command, and does it. Any fault closes all disks.
+fn do_command<H: Host>(
+    alloc: Global,
+    host: &mut H,
+    opened: Opened<H::Disk>,
+    index: u32,
+    command: Command,
+) -> Result<Opened<H::Disk>, Fault>
+    requires { 0 < length opened.disks }
+    ensures done { IfOk result (λ o. IsStep (H.state host.old).told opened.devices index command o.devices) }
+    ensures cause { IfErr result (DoingCause (H.state host.old) (H.state host.new) (IsNamed (file_of command))
+        (IsStepRefused (H.state host.old).told opened.devices index command)) }
+    ensures later { IsLater (H.state host.old) (H.state host.new) }
+    ensures threads { IfOk result (λ o. length o.disks ≡ length opened.disks) }
+{
+    let Opened { devices, disks } = opened;
+    let mut disks = disks;
+    let blocks = match open_for(alloc, host, &mut disks, devices.devices(), &command) {
+        Ok(blocks) => blocks,
+        Err(fault) => {
+            close_all(host, disks);
+            return Err(fault);
+        }
+    };
+    match devices.step(alloc, index, command, blocks) {
+        Ok(devices) => Ok(Opened { devices, disks }),
+        Err(no) => {
+            close_all(host, disks);
+            Err(build_fault(no))
+        }
+    }
+}
+
+/// Does commands one after the other, the disk of each opened just before. Any fault closes all disks.
+pub(crate) fn open_devices<H: Host>(
+    alloc: Global,
+    host: &mut H,
+    threads: u32,
+    commands: Vec<Command>,
+) -> Result<Opened<H::Disk>, Fault>
+    requires { 0 < threads }
+    ensures done { IfOk result (λ o. AreDone (H.state host.old).told threads commands.items o.devices) }
+    ensures cause { IfErr result (DoingCause (H.state host.old) (H.state host.new) (Opens commands.items)
+        (IsRefused threads (H.state host.old).told commands.items)) }
+    ensures later { IsLater (H.state host.old) (H.state host.new) }
+    ensures threads { IfOk result (λ o. length o.disks ≡ threads) }
+{
+    let mut opened = Opened {
+        devices: Building::new(alloc, threads),
+        disks: OpenDisks::none(alloc, threads)?,
+    };
+    let mut index = 0u32;
+    for command in commands {
+        opened = do_command(alloc, host, opened, index, command)?;
+        let Some(next) = index.checked_add(1) else {
+            let Opened { devices: _, disks } = opened;
+            close_all(host, disks);
+            return Err(Fault::OutOfMemory);
+        };
+        index = next;
+    }
+    Ok(opened)
+}
