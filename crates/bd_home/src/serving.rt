@@ -123,7 +123,8 @@ pub fn serve(
     Ok(piece)
 }
 
-/// What the disk of an aio device did with a piece: how that ended, and the bytes that it gave.
+/// What the disk of an aio device did with a piece: how that ended, and the bytes that it gave, none after
+/// a fault and none of a piece that isn't a read.
 #[derive(Debug, Drop)]
 pub struct Given {
     pub end: ApplyEnd,

@@ -1,5 +1,5 @@
 -- What asks the registry for nothing.
-use Rattle.std.proofs.Common.{◌≡◌, ℕ, ◌+◌, Bool, true, false, cond, ◌&&◌, ◌==◌, List, [], ◌∷◌, ◌++◌, length, find, Option, Some, None, refl, sym, ◌∙◌, ap, append_assoc, append-nil}
+use Rattle.std.proofs.Common.{◌≡◌, ℕ, ◌+◌, Bool, true, false, cond, ◌==◌, List, [], ◌∷◌, ◌++◌, length, find, Option, Some, None, refl, sym, ◌∙◌, ap, append_assoc, append-nil}
 use Rattle.std.proofs.lemmas.List.{append_cancel_left}
 use Rattle.std.proofs.lemmas.List.Elements.{filter-append}
 use Rattle.bd_base.specs.declared.act.Act.{Act}
@@ -41,7 +41,6 @@ use Rattle.bd_due.specs.Sending.{first_brought}
 use Rattle.bd_links.specs.Entries.{entry_at, longer}
 use Rattle.bd_links.specs.Queues.{queues_of}
 use Rattle.bd_thread.specs.declared.links.Links.{Links}
-use Rattle.bd_thread.specs.declared.requests.Refused.{Refused}
 use Rattle.bd_thread.specs.declared.thread.Thread.{Thread}
 use Rattle.bd_thread.specs.Aborts.{abort_due, Stops, StopsBy, StopsEach}
 use Rattle.bd_thread.specs.Acted.{Acted}

@@ -1,5 +1,5 @@
 -- Apply by a disk, by the local rules.
-use Rattle.std.proofs.Common.{◌≡◌, ℕ, ◌≤◌, Bool, true, false, cond, List, length, Option, Some, None, refl, sym, ◌∙◌, ap, subst}
+use Rattle.std.proofs.Common.{◌≡◌, ℕ, Bool, true, false, cond, List, length, Option, Some, None, refl, sym, ◌∙◌, ap, subst}
 use Rattle.std.specs.List.{find}
 use Rattle.std.specs.Option.{option_map}
 use Rattle.bd_base.specs.declared.act.Act.TheVariants as acts
@@ -15,7 +15,7 @@ use Rattle.bd_machine.specs.declared.state.Kept.TheVariants as keeps
 use Rattle.bd_machine.specs.declared.state.OpenPiece.{OpenPiece}
 use Rattle.bd_machine.specs.BlockMap.{is_aio, size_of}
 use Rattle.bd_machine.specs.Homes.{applied, is_base, is_done_or, is_first_at, is_home, served}
-use Rattle.bd_machine.specs.Same.{same_dev}
+use Rattle.bd_machine.specs.Same.{same_dev, same_id}
 use Rattle.bd_machine.specs.Table.{change_first}
 use Rattle.bd_links.specs.Queues.{queues_of}
 use Rattle.bd_tokens.specs.Tokens.{here_in}
@@ -77,3 +77,22 @@ serves_none_as old before dev end none = subst (ServesAsBy dev end old before ol
 -- where one is, it is served
 pub serves_one_as : (old : Thread) (before : Links) (new : Thread) (after : Links) (req : ReqId) (k : ℕ) (dev : DevId) (end : ApplyEnd) → disk_due old dev ≡ Some (ids.Piece req k) → IsServedAs req k dev end old before new after → ServesAs dev end old before new after true
 serves_one_as old before new after req k dev end due s = subst (ServesAsBy dev end old before new after true) (sym due) (refl, s)
+
+-- ---- what is kept of it
+
+kept_of : (f : Base → OpenPiece) (o : Option Base) (p : OpenPiece) → option_map f o ≡ Some p → Some (keeps.Piece p) ≡ option_map (λ b. keeps.Piece (f b)) o
+kept_of f None p h = cc
+kept_of f (Some b) p h = ap (option_map keeps.Piece) (sym h)
+
+-- the piece that was served is kept
+pub held_by : (req : ReqId) (k : ℕ) (dev : DevId) (end : ApplyEnd) (t : Thread) (p : OpenPiece) (piece : OpenPiece) (size : ℕ) (now : Id → Option Kept)
+    → size ≡ size_of t.setup.now dev
+    → option_map (served end size p) (find (is_base dev) t.part.bases) ≡ Some piece
+    → now ≡ (λ j. cond (same_id (ids.Piece req k) j) (Some (keeps.Piece piece)) (here_in t.held.items j))
+    → now ≡ held_as req k end (size_of t.setup.now dev) p (find (is_base dev) t.part.bases) (here_in t.held.items)
+held_by req k dev end t p piece size now size-is is held =
+    let base = find (is_base dev) t.part.bases in
+    let here : Id → Option Kept = here_in t.held.items in
+    held
+    ∙ ap (λ (o : Option Kept). λ (j : Id). cond (same_id (ids.Piece req k) j) o (here j)) (kept_of (served end size p) base piece is)
+    ∙ ap (λ (n : ℕ). held_as req k end n p base here) size-is

@@ -19,7 +19,6 @@ use Rattle.bd_rules.specs.Homes.{may_refuse}
 use Rattle.bd_turns.specs.declared.queue.Message.{Message}
 use Rattle.bd_turns.specs.Local.{Local}
 use Rattle.bd_due.specs.Refusing.{here_refused, if_refused, refusal_due}
-use Rattle.bd_links.specs.Entries.{longer}
 use Rattle.bd_links.specs.Queues.{queues_of}
 use Rattle.bd_tokens.specs.Tokens.{here_in}
 use Rattle.bd_thread.specs.declared.links.Links.{Links}

@@ -1,5 +1,5 @@
 -- Where no piece that waits may be sent again.
-use Rattle.std.proofs.Common.{◌≡◌, ◌⊎◌, inl, inr, ℕ, zero, suc, ◌+◌, ◌<◌, ◌≤◌, Bool, true, false, ◌==◌, List, [], ◌∷◌, length, slice_get, Option, Some, None, refl, sym, ◌∙◌, ap, subst, arith}
+use Rattle.std.proofs.Common.{◌≡◌, ◌⊎◌, inl, inr, ℕ, zero, suc, ◌+◌, ◌<◌, ◌≤◌, Bool, true, false, ◌==◌, List, [], ◌∷◌, length, slice_get, Option, Some, None, refl, sym, ap, subst, arith}
 use Rattle.std.proofs.lemmas.Bool.{cases_lt}
 use Rattle.bd_base.specs.declared.id.ReqId.{ReqId}
 use Rattle.bd_machine.specs.declared.state.OpenPiece.{OpenPiece}
@@ -12,7 +12,7 @@ use Rattle.bd_thread.specs.declared.thread.Thread.{Thread}
 use Rattle.bd_thread.specs.Acted.{Acted}
 use Rattle.bd_thread.specs.Moves.{ComesAs, ComesOwn, ComesPiece}
 use Rattle.bd_thread.specs.Retries.{may_go_again, may_retry, Retries, RetriesBy}
-use Rattle.bd_thread.specs.Waits.{Idles, IsIdle, NoRetry, NoRetryAt, NoRetryBelow}
+use Rattle.bd_thread.specs.Waits.{Idles, NoRetry, NoRetryAt, NoRetryBelow}
 use Rattle.bd_thread.proofs.Idle.{idle_so, idle_then}
 
 -- the one at this place can send none either

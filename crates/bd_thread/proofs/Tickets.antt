@@ -1,5 +1,5 @@
 -- The tickets of a thread's open requests.
-use Rattle.std.proofs.Common.{◌≡◌, ◌↔◌, ℕ, suc, ◌+◌, ◌<◌, ◌≤◌, Bool, true, false, cond, not, ◌&&◌, ◌||◌, ◌==◌, List, [], ◌∷◌, ◌++◌, Option, Some, None, IsSome, OnSome, IfNone, Contains, refl, sym, ◌∙◌, ap, subst, eqb-true, arith}
+use Rattle.std.proofs.Common.{◌≡◌, ℕ, ◌+◌, ◌<◌, ◌≤◌, Bool, true, false, cond, not, ◌&&◌, ◌||◌, ◌==◌, List, [], ◌∷◌, ◌++◌, refl, sym, ◌∙◌, ap, subst, eqb-true, arith}
 use Rattle.std.specs.List.{AllByRecursion, list_any}
 use Rattle.bd_base.specs.declared.id.DevId.{DevId}
 use Rattle.bd_base.specs.declared.id.HandleId.{HandleId}
@@ -9,8 +9,6 @@ use Rattle.bd_machine.specs.declared.state.Part.{Part}
 use Rattle.bd_machine.specs.Same.{same_request}
 use Rattle.bd_machine.proofs.Tables.{request_same}
 use Rattle.bd_msg.specs.Purse.{without}
-use Rattle.bd_msg.specs.Purse.{Kept as Purse}
-use Rattle.bd_msg.specs.declared.ticket.Finished.{Finished}
 use Rattle.bd_view.specs.declared.names.Submission.{Submission}
 use Rattle.bd_thread.specs.declared.thread.Thread.{Thread}
 use Rattle.bd_thread.specs.Completions.{completed, without_open}

@@ -1,13 +1,11 @@
 -- Where a thread waits but for what it would ask the registry, and doesn't want that, it waits altogether.
-use Rattle.std.proofs.Common.{◌≡◌, ◌⊎◌, inl, inr, ℕ, zero, suc, ◌+◌, ◌<◌, ◌≤◌, ◌^◌, Bool, true, false, cond, not, ◌&&◌, ◌||◌, ◌==◌, nat_lt, List, [], ◌∷◌, length, find, Option, Some, None, is_some, refl, sym, ◌∙◌, ap, subst, eqb-true, arith}
+use Rattle.std.proofs.Common.{◌≡◌, ◌⊎◌, inl, inr, ℕ, zero, suc, ◌+◌, ◌<◌, ◌≤◌, ◌^◌, Bool, true, false, cond, not, ◌&&◌, ◌||◌, ◌==◌, nat_lt, List, [], ◌∷◌, length, find, Option, Some, None, is_some, refl, ◌∙◌, ap, subst, eqb-true, arith}
 use Rattle.std.specs.List.{list_any, range_with_len}
 use Rattle.std.proofs.lemmas.Bool.{cases_lt}
 use Rattle.bd_base.specs.declared.event.RegEvent.TheVariants as events
-use Rattle.bd_base.specs.declared.id.DevId.{DevId}
 use Rattle.bd_base.specs.declared.id.HandleId.{HandleId}
 use Rattle.bd_base.specs.declared.job.Job.{Job}
 use Rattle.bd_base.specs.declared.job.Job.TheVariants as jobs
-use Rattle.bd_machine.specs.declared.state.Between.{Between}
 use Rattle.bd_machine.specs.declared.state.Between.TheVariants.{Closing}
 use Rattle.bd_machine.specs.declared.state.Handle.{Handle}
 use Rattle.bd_machine.specs.declared.state.Owed.{Owed}
@@ -16,7 +14,7 @@ use Rattle.bd_machine.specs.Admission.{is_gone}
 use Rattle.bd_machine.specs.BlockMap.{row_of}
 use Rattle.bd_machine.specs.Registry.{handle_of, is_live}
 use Rattle.bd_machine.specs.Same.{same_handle}
-use Rattle.bd_machine.specs.Users.{dev_of, is_base_handle}
+use Rattle.bd_machine.specs.Users.{is_base_handle}
 use Rattle.bd_due.specs.Asking.{asks_registry, is_base_if_any, is_live_at}
 use Rattle.bd_due.specs.Duties.{duty_of, is_duty, removal_of}
 use Rattle.bd_thread.specs.declared.links.Links.{Links}

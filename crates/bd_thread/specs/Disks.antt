@@ -1,5 +1,5 @@
 -- Which piece the disk of an aio device serves next, and what is left once it did.
-use Rattle.std.specs.Prelude.{◌≡◌, ℕ, true, false, cond, Bool, List, [], ◌∷◌, ◌++◌, find, Option, Some, None, option_and_then}
+use Rattle.std.specs.Prelude.{◌≡◌, ℕ, true, false, cond, Bool, [], ◌∷◌, ◌++◌, find, Option, Some, None, option_and_then}
 use Rattle.std.specs.Option.{option_map}
 use Rattle.bd_base.specs.declared.act.Act.TheVariants as acts
 use Rattle.bd_base.specs.declared.act.ApplyEnd.{ApplyEnd}

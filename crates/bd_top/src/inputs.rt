@@ -51,7 +51,7 @@ fn read_commands<H: Host>(
 }
 
 // The devices that a configuration makes for this number of threads, with the disks that it opens.
-#[tactic(auto, using(crate::proofs::FileCauses::of_doing, crate::proofs::FileLemmas::later_then))]
+#[tactic(auto, using(crate::proofs::FileCauses::of_doing, crate::proofs::FileCauses::devices_of, crate::proofs::FileLemmas::later_then))]
 fn read_devices<H: Host>(
     alloc: Global,
     host: &mut H,

@@ -1,4 +1,4 @@
-use Rattle.std.proofs.Common.{◌≡◌, true, false, sym, ◌∙◌, ap}
+use Rattle.std.proofs.Common.{◌≡◌, false, sym, ◌∙◌, ap}
 use Rattle.bd_flight.specs.declared.next.Step.TheVariants as steps
 use Rattle.bd_flight.specs.Next.{may_take, next_step}
 use Rattle.bd_machine.specs.View.{View}

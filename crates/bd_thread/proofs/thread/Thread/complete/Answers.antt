@@ -9,8 +9,8 @@ returns-in_default-clause-completes c =
     let old = c.args.self.now in
     stays_open old c.args.links.now c.args.req (sym (ap (λ (v : View). ending_of old.setup.now old.me v c.args.req) c.seen.ensures) ∙ sym c.in_ok-ending.ensures ∙ c.in_default.is)
 
-pub end-requires-due : goal.end-requires-due
-end-requires-due c = sym (ap (λ (v : View). ending_of c.args.self.now.setup.now c.args.self.now.me v c.args.req) c.seen.ensures) ∙ sym c.in_ok-ending.ensures ∙ c.in-Some.is
+pub end-requires-clause-due : goal.end-requires-clause-due
+end-requires-clause-due c = sym (ap (λ (v : View). ending_of c.args.self.now.setup.now c.args.self.now.me v c.args.req) c.seen.ensures) ∙ sym c.in_ok-ending.ensures ∙ c.in-Some.is
 
 pub returns-clause-completes : goal.returns-clause-completes
 returns-clause-completes c =

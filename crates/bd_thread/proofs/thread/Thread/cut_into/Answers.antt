@@ -1,4 +1,4 @@
-use Rattle.std.proofs.Common.{◌∙◌, List, length, refl, ap, rules}
+use Rattle.std.proofs.Common.{◌∙◌, List, length, refl, ap}
 use Rattle.bd_base.specs.declared.act.Act.TheVariants as acts
 use Rattle.bd_machine.specs.declared.state.Extent.{Extent}
 use Rattle.bd_links.specs.Entries.{longer}

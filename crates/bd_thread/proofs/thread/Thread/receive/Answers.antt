@@ -2,7 +2,7 @@ use Rattle.std.proofs.Common.{None, Some, refl, subst}
 use Rattle.bd_thread.specs.Sent.{Takes}
 use Rattle.bd_thread.proofs.Alone.{alone_then, comes_alone, takes_alone}
 use Rattle.bd_thread.proofs.Going.{acted_then}
-use Rattle.bd_thread.proofs.Idle.{received_more, takes_idle}
+use Rattle.bd_thread.proofs.Idle.{received_more}
 use Rattle.bd_thread.proofs.thread.Thread.receive.Goals as goal
 
 pub returns-clause-acted : goal.returns-clause-acted
