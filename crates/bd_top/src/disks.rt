@@ -128,11 +128,7 @@ pub(crate) fn close_all<H: Host>(host: &mut H, disks: OpenDisks<H::Disk>)
 
 /// Closes all disks of a shelf.
 #[tactic(auto, using(crate::proofs::FileCauses::kept_same, crate::proofs::FileCauses::kept_then))]
-pub(crate) fn close_shelf<H: Host>(
-    host: &mut H,
-    names: &[(DevId, String)],
-    shelf: Shelf<H::Disk>,
-)
+pub(crate) fn close_shelf<H: Host>(host: &mut H, names: &[(DevId, String)], shelf: Shelf<H::Disk>)
     ensures { KeepsCounts (H.state host.old) (H.state host.new) }
 {
     let mut shelf = shelf;

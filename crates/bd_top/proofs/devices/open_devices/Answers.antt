@@ -29,8 +29,8 @@ returns-in_err-opened-clause-cause g c =
     (doing_from old mid new new (IsNamed (file_of command)) (Opens c.args.commands.items) (IsStepRefused mid.told at.opened.devices at.index command) (IsRefused c.args.threads old.told c.args.commands.items)
     at.invariant.later (kept_same new) (λ name is. way.opens name (inl is))
     (λ i code refused.
-      is_refused old.told c.args.threads c.args.commands.items at.index at.opened.devices command left way i code
-      (step_refused_at mid.told old.told at.opened.devices at.index command i code at.invariant.later.told refused)))
+    is_refused old.told c.args.threads c.args.commands.items at.index at.opened.devices command left way i code
+    (step_refused_at mid.told old.told at.opened.devices at.index command i code at.invariant.later.told refused)))
     (search rules)
 
 pub loop-command-preserved : goal.loop-command-preserved
@@ -48,9 +48,9 @@ loop-command-preserved g c =
     let items : into_iter_items at.command-iterator ≡ command ∷ left = c.in-Some.ensures.steps.0 in
     record {
       way =
-        subst Q (sym next)
-        (goes_on old.told c.args.threads c.args.commands.items at.index at.opened.devices c.in_ok-opened.opened.devices command left way
-        (step_at mid.told old.told at.opened.devices at.index command c.in_ok-opened.opened.devices at.invariant.later.told c.in_ok-opened.ensures.done));
+          subst Q (sym next)
+          (goes_on old.told c.args.threads c.args.commands.items at.index at.opened.devices c.in_ok-opened.opened.devices command left way
+          (step_at mid.told old.told at.opened.devices at.index command c.in_ok-opened.opened.devices at.invariant.later.told c.in_ok-opened.ensures.done));
       later = later_then old mid new at.invariant.later c.do_command.ensures.later;
       disks = c.in_ok-opened.ensures.threads ∙ at.invariant.disks;
       counted = omega (arith, c.in-Some.ensures.steps.1, at.invariant.counted, ap length items);
