@@ -5,6 +5,8 @@ the status; None where both are in form. It knows nothing of the program: the JS
 of RFC 8259.
 """
 
+import os
+
 MOST_BYTES = 8388608
 MOST_DEPTH = 127
 MOST_LINES = 20000
@@ -238,8 +240,10 @@ class Call:
         return name
 
     def filename(self):
-        if not 1 <= len(self.text("filename").encode()) <= 4096:
+        filename = self.text("filename")
+        if not 1 <= len(filename.encode()) <= 4096:
             raise Wrong
+        return filename
 
     def size(self, default=ABSENT):
         size = self.whole("block_size", 0, U64, default)
@@ -276,7 +280,9 @@ def base_device(kind, most_blocks):
 
 
 def aio(call):
-    call.name("name"), call.filename(), call.size(512), call.depth()
+    name, filename, size = call.name("name"), call.filename(), call.size(512)
+    call.depth()
+    return ("aio", name, filename, size)
 
 
 def passthru(call):
@@ -373,6 +379,23 @@ class Refused(Exception):
     """A command can't be done, with its code."""
 
 
+class NoDisk(Exception):
+    """The file of a disk can't be opened, with the line that says so."""
+
+
+def disk_blocks(filename, size):
+    """How many blocks a file has as a disk, in the folder of the run: there only the two files of the run are."""
+    if os.path.normpath(filename) in RUN_FILES and not filename.endswith("/"):
+        return RUN_FILES[os.path.normpath(filename)] // size
+    if "\0" in filename or any(len(part.encode()) > 255 for part in filename.split("/")) or len(filename.encode()) >= 4096:
+        raise NoDisk("read fault: " + filename)
+    raise NoDisk("no file: " + filename)
+
+
+# The lengths of the files of this run.
+RUN_FILES = {}
+
+
 class Devices:
     """The devices that commands make, each with its blocks, their size, how many layers it has and whether it is claimed."""
 
@@ -380,12 +403,14 @@ class Devices:
         self.made, self.memory = {}, 0
 
     def base_of(self, command):
-        return None if command[0] in ("malloc", "null") else command[1]
+        return None if command[0] in ("malloc", "null", "aio") else command[1]
 
     def rows(self, command):
         """What the command asks for: names, with blocks, size and layers."""
         if command[0] in ("malloc", "null"):
             return [(command[1], (command[2], command[3], 1))]
+        if command[0] == "aio":
+            return [(command[1], (disk_blocks(command[2], command[3]), command[3], 1))]
         blocks, size, layers = self.made[command[1]][:3]
         if command[0] == "passthru":
             return [(command[2], (blocks, size, layers + 1))]
@@ -403,6 +428,8 @@ class Devices:
             raise Refused(CLAIMED)
         memory = self.memory + (command[2] * command[3] if command[0] == "malloc" else 0)
         names_fit = all(len(name) <= MOST_NAME for name, _ in rows)
+        if command[0] == "aio" and not 1 <= rows[0][1][0] <= 1 << 40:
+            raise Refused(TOO_MUCH)
         if not rows or not names_fit or memory > MOST_MEMORY or len(self.made) + len(rows) > MOST_DEVICES or rows[0][1][2] > MOST_LAYERS:
             raise Refused(TOO_MUCH)
         self.memory = memory
@@ -531,5 +558,9 @@ def script_fault(jobs, threads):
 
 def fault(config, jobs, threads):
     """The line for standard error, and the status; None where both files are in form."""
-    line = config_fault(config) or script_fault(jobs, threads)
+    RUN_FILES.update(config=len(config), jobs=len(jobs))
+    try:
+        line = config_fault(config) or script_fault(jobs, threads)
+    except NoDisk as no:
+        return (no.args[0], 3)
     return None if line is None else (line, 1)

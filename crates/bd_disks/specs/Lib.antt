@@ -1,3 +1,4 @@
 pub mod Holding
 pub mod Rows
 pub mod Serving
+pub mod Shelf

@@ -1,12 +1,13 @@
 //! The disks of one thread.
-ghost use Rattle.std.specs.Prelude.{◌≡◌, ◌++◌, ◌∷◌, [], IfOk, IfErr, OnOk, OnErr};
+ghost use Rattle.std.specs.Prelude.{◌≡◌, ◌↔◌, ◌++◌, ◌∷◌, [], length, slice_get, IsTrue, IfOk, IfErr, OnOk, OnErr};
 ghost use Rattle.std.specs.List.{position};
 ghost use Rattle.std.specs.Option.{option_map};
 ghost use Rattle.bd_disks.specs.Rows.{ChangesDisk, Does, IsInsideOne, disk_of, is_row};
 ghost use Rattle.bd_disks.specs.Serving.{IsInsideDisk};
 
-use crate::serving::{Served, serve};
+use crate::serving::{can_serve, serve};
 use bd_base::{DevId, OutOfMemory};
+use bd_home::Given;
 use bd_machine::OpenPiece;
 use bd_outside::Disk;
 use std::alloc::Global;
@@ -50,12 +51,37 @@ impl<D> Disks<D> {
         }
     }
 
+    /// How many disks there are.
+    pub fn len(&self) -> usize
+        ensures { result ≡ length self.now }
+    {
+        self.rows.len()
+    }
+
+    /// The device of the disk at a place, in the order in which they were added, from 0 on; None
+    /// beyond the last.
+    pub fn device_at(&self, place: usize) -> Option<DevId>
+        ensures { result ≡ option_map (λ row. row.0) (slice_get self.now place) }
+    {
+        device_of(self.rows.as_slice(), place)
+    }
+
     /// All disks with their devices, in the order in which they were added. It takes no memory.
     pub fn finish(self) -> Vec<(DevId, D)>
         ensures { result.items ≡ self }
     {
         let Disks { rows } = self;
         rows
+    }
+}
+
+// The device of the row at a place.
+fn device_of<D>(rows: &[(DevId, D)], place: usize) -> Option<DevId>
+    ensures { result ≡ option_map (λ row. row.0) (slice_get rows.now place) }
+{
+    match rows.get(place) {
+        Some(row) => Some(row.0),
+        None => None,
     }
 }
 
@@ -72,7 +98,7 @@ fn serve_row<D: Disk>(
     row: &mut (DevId, D),
     size: u32,
     piece: &OpenPiece,
-) -> Result<Served, OutOfMemory>
+) -> Result<Given, OutOfMemory>
     requires inside { IsInsideDisk (D.state row.old.1) size piece.now }
     ensures does { IfOk result (λ s. Does size piece.now s.end s.bytes (D.state row.old.1) (D.state row.new.1)) }
     ensures same_device { row.new.0 ≡ row.old.0 }
@@ -91,13 +117,23 @@ fn blocks_of<D: Disk>(rows: &[(DevId, D)], dev: DevId) -> Option<u64>
     }
 }
 
+// Whether the disk of the piece's device can serve it.
+fn can_serve_in<D: Disk>(rows: &[(DevId, D)], size: u32, piece: &OpenPiece) -> bool
+    ensures { IsTrue result ↔ IsInsideOne (option_map D.state (disk_of piece.now.base rows.now)) size piece.now }
+{
+    match place(rows, piece.base) {
+        Some(i) => can_serve(&rows[i].1, size, piece),
+        None => false,
+    }
+}
+
 // Serves a piece from the disk of its device.
 fn serve_in<D: Disk>(
     alloc: Global,
     rows: &mut [(DevId, D)],
     size: u32,
     piece: &OpenPiece,
-) -> Result<Served, OutOfMemory>
+) -> Result<Given, OutOfMemory>
     requires inside { IsInsideOne (option_map D.state (disk_of piece.now.base rows.old)) size piece.now }
     ensures does { IfOk result (λ s. ChangesDisk piece.now.base
         (λ old new. Does size piece.now s.end s.bytes (D.state old) (D.state new)) rows.old rows.new) }
@@ -117,9 +153,18 @@ impl<D: Disk> Disks<D> {
         blocks_of(self.rows.as_slice(), dev)
     }
 
+    /// Whether `serve` may be asked to do what the piece asks: its device has a disk here, which has
+    /// blocks of `size` bytes, at least 1, and holds the piece's blocks, and the numbers of its
+    /// blocks in the request's device and its length in bytes have 64 bits.
+    pub fn can_serve(&self, size: u32, piece: &OpenPiece) -> bool
+        ensures { IsTrue result ↔ IsInsideOne (option_map D.state (disk_of piece.now.base self.now)) size piece.now }
+    {
+        can_serve_in(self.rows.as_slice(), size, piece)
+    }
+
     /// Does to the disk of the piece's device what the piece asks, as `serve` does it to one disk.
     /// Out of memory leaves all disks as they were.
-    pub fn serve(&mut self, size: u32, piece: &OpenPiece) -> Result<Served, OutOfMemory>
+    pub fn serve(&mut self, size: u32, piece: &OpenPiece) -> Result<Given, OutOfMemory>
         requires inside { IsInsideOne (option_map D.state (disk_of piece.now.base self.old)) size piece.now }
         ensures does { IfOk result (λ s. ChangesDisk piece.now.base
             (λ old new. Does size piece.now s.end s.bytes (D.state old) (D.state new)) self.old self.new) }

@@ -1,5 +1,5 @@
 //! What a piece asks, done to a disk.
-ghost use Rattle.std.specs.Prelude.{◌≡◌, ◌≤◌, ◌*◌, [], length, IfOk, OnOk, OnErr};
+ghost use Rattle.std.specs.Prelude.{◌≡◌, ◌<◌, ◌≤◌, ◌+◌, ◌*◌, ◌^◌, ◌↔◌, [], length, IsTrue, IfOk, OnOk, OnErr};
 ghost use Rattle.std.specs.List.{concat};
 ghost use Rattle.bd_base.specs.declared.request.Op.TheVariants as ops;
 ghost use Rattle.bd_base.specs.declared.act.ApplyEnd.TheVariants as ends;
@@ -10,35 +10,28 @@ ghost use Rattle.bd_disks.specs.Serving.{IsInsideDisk, IsNoPiece, IsServed, IsWr
 
 use crate::image::{written, zeros};
 use bd_base::{ApplyEnd, Bytes, Op, OutOfMemory};
+use bd_home::Given;
 use bd_machine::OpenPiece;
 use bd_outside::{Disk, Failed};
 use std::alloc::Global;
 
-/// How a piece ended, and the bytes that it read: none after a fault, and none of a piece that
-/// isn't a read.
-#[derive(Debug, Drop)]
-pub struct Served {
-    pub end: ApplyEnd,
-    pub bytes: Bytes,
-}
-
 // A piece that was done.
-fn done(bytes: Bytes) -> Served
+fn done(bytes: Bytes) -> Given
     ensures end { result.end ≡ ends.Done }
     ensures bytes { result.bytes ≡ bytes }
 {
-    Served {
+    Given {
         end: ApplyEnd::Done,
         bytes,
     }
 }
 
 // A piece at which the disk failed.
-fn fault(alloc: Global) -> Served
+fn fault(alloc: Global) -> Given
     ensures end { result.end ≡ ends.Fault }
     ensures bytes { result.bytes ≡ [] }
 {
-    Served {
+    Given {
         end: ApplyEnd::Fault,
         bytes: Bytes::new(alloc),
     }
@@ -64,7 +57,7 @@ fn read<D: Disk>(
     disk: &mut D,
     size: u32,
     piece: &OpenPiece,
-) -> Result<Served, OutOfMemory>
+) -> Result<Given, OutOfMemory>
     requires inside { IsInsideDisk (D.state disk.old) size piece.now }
     requires read { piece.now.op ≡ ops.Read }
     ensures served { IfOk result (λ s. IsServed size piece.now (D.state disk.old) (D.state disk.new) s.end s.bytes) }
@@ -80,7 +73,7 @@ fn read<D: Disk>(
 }
 
 // Writes the bytes of a piece to its blocks.
-fn write<D: Disk>(alloc: Global, disk: &mut D, size: u32, piece: &OpenPiece, from: &[u8]) -> Served
+fn write<D: Disk>(alloc: Global, disk: &mut D, size: u32, piece: &OpenPiece, from: &[u8]) -> Given
     requires inside { IsInsideDisk (D.state disk.old) size piece.now }
     requires writing { IsWriting piece.now.op }
     requires bytes { from.now ≡ concat (rewritten piece.now.op piece.now.first (zero_blocks size piece.now.count)) }
@@ -100,7 +93,7 @@ fn clear<D: Disk>(
     disk: &mut D,
     size: u32,
     piece: &OpenPiece,
-) -> Result<Served, OutOfMemory>
+) -> Result<Given, OutOfMemory>
     requires inside { IsInsideDisk (D.state disk.old) size piece.now }
     requires zeroing { IsZeroing piece.now.op }
     ensures served { IfOk result (λ s. IsServed size piece.now (D.state disk.old) (D.state disk.new) s.end s.bytes) }
@@ -113,7 +106,7 @@ fn clear<D: Disk>(
 }
 
 // Ends what is never a piece, without a call of the disk.
-fn pass<D: Disk>(alloc: Global, _disk: &D, _size: u32, _piece: &OpenPiece) -> Served
+fn pass<D: Disk>(alloc: Global, _disk: &D, _size: u32, _piece: &OpenPiece) -> Given
     requires inside { IsInsideDisk (D.state _disk.now) _size _piece.now }
     requires no_piece { IsNoPiece _piece.now.op }
     ensures { IsServed _size _piece.now (D.state _disk.now) (D.state _disk.now) result.end result.bytes }
@@ -122,7 +115,7 @@ fn pass<D: Disk>(alloc: Global, _disk: &D, _size: u32, _piece: &OpenPiece) -> Se
 }
 
 // Flushes the disk.
-fn flush<D: Disk>(alloc: Global, disk: &mut D, size: u32, piece: &OpenPiece) -> Served
+fn flush<D: Disk>(alloc: Global, disk: &mut D, size: u32, piece: &OpenPiece) -> Given
     requires inside { IsInsideDisk (D.state disk.old) size piece.now }
     requires flush { piece.now.op ≡ ops.Flush }
     ensures served { IsServed size piece.now (D.state disk.old) (D.state disk.new) result.end result.bytes }
@@ -133,6 +126,35 @@ fn flush<D: Disk>(alloc: Global, disk: &mut D, size: u32, piece: &OpenPiece) -> 
         Ok(()) => done(Bytes::new(alloc)),
         Err(Failed) => fault(alloc),
     }
+}
+
+// Whether this many blocks from block `lba` on are among the first `blocks`.
+fn is_within(lba: u64, count: u64, blocks: u64) -> bool
+    ensures { IsTrue result ↔ (lba + count ≤ blocks) }
+{
+    match lba.checked_add(count) {
+        Some(end) => end <= blocks,
+        None => false,
+    }
+}
+
+// Whether the numbers of a piece's blocks and its length in bytes have 64 bits.
+fn has_numbers(size: u32, piece: &OpenPiece) -> bool
+    ensures { IsTrue result ↔ ((piece.now.first + piece.now.count < 2 ^ 64) × (piece.now.count * size < 2 ^ 64)) }
+{
+    piece.first.checked_add(piece.count).is_some() && piece.count.checked_mul(size as u64).is_some()
+}
+
+/// Whether `serve` may be asked to do what the piece asks: the disk has blocks of `size` bytes, at
+/// least 1, and holds the piece's blocks, and the numbers of its blocks in the request's device and
+/// its length in bytes have 64 bits.
+pub fn can_serve<D: Disk>(disk: &D, size: u32, piece: &OpenPiece) -> bool
+    ensures { IsTrue result ↔ IsInsideDisk (D.state disk.now) size piece.now }
+{
+    size == disk.block_size()
+        && size >= 1
+        && is_within(piece.lba, piece.count, disk.blocks())
+        && has_numbers(size, piece)
 }
 
 /// Does to a disk what a piece asks, by one call of the disk. A read gives the bytes of its blocks;
@@ -147,7 +169,7 @@ pub fn serve<D: Disk>(
     disk: &mut D,
     size: u32,
     piece: &OpenPiece,
-) -> Result<Served, OutOfMemory>
+) -> Result<Given, OutOfMemory>
     requires { IsInsideDisk (D.state disk.old) size piece.now }
     ensures served { IfOk result (λ s. IsServed size piece.now (D.state disk.old) (D.state disk.new) s.end s.bytes) }
     ensures same_shape { HasSameShape (D.state disk.old) (D.state disk.new) }

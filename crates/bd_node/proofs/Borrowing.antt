@@ -2,6 +2,7 @@
 use Rattle.std.proofs.Common.{◌≡◌, ℕ, ◌==◌, Bool, cond, List, [], ◌∷◌, ◌++◌, All, drop, length, refl, sym, ◌∙◌, ap, ap₂, subst, eq-eqb}
 use Rattle.std.proofs.lemmas.List.Elements.{filter-append, All-head, All-tail}
 use Rattle.bd_base.specs.declared.act.Entry.{Entry}
+use Rattle.bd_base.specs.declared.id.DevId.{DevId}
 use Rattle.bd_base.specs.declared.setup.Setup.{Setup}
 use Rattle.bd_log.specs.Merge.{entries_of}
 use Rattle.bd_registry.specs.State.{Registered, start_of}
@@ -16,17 +17,18 @@ use Rattle.bd_node.specs.Seats.{Continues, GoesAlone, GoesWith, IsLent, IsLentTo
 
 -- ---- without the registry
 
-abbrev with_worker : Seat → Worker → Seat
-with_worker s worker = record s { worker = worker }
+-- the seat after a turn of its worker with its disks
+abbrev with_worker : {D : Type 0} → Seat D → Worker → List (DevId × D) → Seat D
+with_worker s worker disks = record s { worker = worker; disks = disks }
 
-pub alone : (w : Wires) (s : Seat) (worker : Worker) → GoesAlone s.worker worker → Continues w s (with_worker s worker)
-alone w s worker g = record {
+pub alone : {D : Type 0} → (w : Wires) (s : Seat D) (worker : Worker) (disks : List (DevId × D)) → GoesAlone s.worker worker → Continues w s (with_worker s worker disks)
+alone w s worker disks g = record {
   flag = g.0;
   halted = refl;
   sits = λ setup t p h. on setup t p h.course h.seat;
 }
   where
-    on : (setup : Setup) (t : ℕ) (p : Phase) (c : Course) → IsSeat setup t p c w s → Sits setup t p w (with_worker s worker)
+    on : (setup : Setup) (t : ℕ) (p : Phase) (c : Course) → IsSeat setup t p c w s → Sits setup t p w (with_worker s worker disks)
     on setup t p c q =
         let went : WentAlone setup t p c worker = g.1 setup t p c q.worker in
         record {
@@ -44,13 +46,13 @@ alone w s worker g = record {
         }
 
 -- who sits works
-pub works : (w : Wires) (s : Seat) → IsSitting w s → IsWorking s.worker
+pub works : {D : Type 0} → (w : Wires) (s : Seat D) → IsSitting w s → IsWorking s.worker
 works w s h = record { setup = h.setup; t = h.t; p = h.p; c = h.sits.course; at = h.sits.seat.worker }
 
 -- ---- with it
 
 -- what the slot gave was lent as the worker wants it
-pub lent_is : (setup : Setup) (t : ℕ) (p : Phase) (c : Course) (w : Wires) (s : Seat) (lent : Registered) (pass : Holder)
+pub lent_is : {D : Type 0} → (setup : Setup) (t : ℕ) (p : Phase) (c : Course) (w : Wires) (s : Seat D) (lent : Registered) (pass : Holder)
     → IsSeat setup t p c w s → IsTakenBy s.passes.slot lent.journal (start_of lent.setup) pass → IsLent setup t c s.seen lent
 lent_is setup t p c w s lent pass q took = record {
   start = took.3 ∙ q.start;
@@ -59,7 +61,7 @@ lent_is setup t p c w s lent pass q took = record {
   count = q.count;
 }
 
-pub lent_to : (w : Wires) (s : Seat) (lent : Registered) (pass : Holder) → IsSitting w s → IsTakenBy s.passes.slot lent.journal (start_of lent.setup) pass → IsLentTo s.worker s.seen lent
+pub lent_to : {D : Type 0} → (w : Wires) (s : Seat D) (lent : Registered) (pass : Holder) → IsSitting w s → IsTakenBy s.passes.slot lent.journal (start_of lent.setup) pass → IsLentTo s.worker s.seen lent
 lent_to w s lent pass h took = record {
   setup = h.setup;
   t = h.t;
@@ -80,14 +82,14 @@ own_rows t [] all = refl
 own_rows t (x ∷ xs) all =
     ap₂ (λ (b : Bool) (es : List Entry). cond b (x ∷ es) es) (eq-eqb x.thread t (All-head (λ (r : Entry). r.thread ≡ t) x xs all)) (own_rows t xs (All-tail (λ (r : Entry). r.thread ≡ t) x xs all))
 
-module _ (w : Wires) (s : Seat) (worker : Worker) (lent lent' : Registered) (pass : Holder) (took : IsTakenBy s.passes.slot lent.journal (start_of lent.setup) pass)
+module _ {D : Type 0} (w : Wires) (s : Seat D) (worker : Worker) (disks : List (DevId × D)) (lent lent' : Registered) (pass : Holder) (took : IsTakenBy s.passes.slot lent.journal (start_of lent.setup) pass)
     (g : GoesWith s.seen s.worker lent worker lent') where
   -- the pass once the registry is back in its slot
   abbrev given : Holder
   given = after_give pass lent'.journal
 
-  abbrev new : Seat
-  new = record s { worker = worker; passes = record s.passes { slot = given }; seen = length lent'.journal }
+  abbrev new : Seat D
+  new = record s { worker = worker; passes = record s.passes { slot = given }; seen = length lent'.journal; disks = disks }
 
   on : (setup : Setup) (t : ℕ) (p : Phase) (c : Course) → IsSeat setup t p c w s → Sits setup t p w new
   on setup t p c q =

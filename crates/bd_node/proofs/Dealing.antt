@@ -138,13 +138,13 @@ module _ {X : Type 0} (n : X → ℕ) where
 
 -- ---- seats
 
-module _ (w : Wires) (old dealt turned new : List Seat) (as-dealt : IsPermutation old dealt) (len : length turned ≡ length dealt) (on : AllWentOn w dealt turned) (gathered : IsPermutation turned new)
+module _ {D : Type 0} (w : Wires) (old dealt turned new : List (Seat D)) (as-dealt : IsPermutation old dealt) (len : length turned ≡ length dealt) (on : AllWentOn w dealt turned) (gathered : IsPermutation turned new)
     (sorted : IsNonDecreasingBy number_in new) (go : list_all seat_goes new ≡ true) (setup : Setup) (shut : Bool) (phases : ℕ → Phase) (a : AreSeated setup w old shut phases) where
   -- a thread sits as that which it says it is
-  abbrev IsOwn : Seat → Type 0
+  abbrev IsOwn : Seat D → Type 0
   IsOwn s = IsIn setup w shut phases s.worker.me s
 
-  own_at : (i : ℕ) (s : Seat) → IsIn setup w shut phases i s → IsOwn s
+  own_at : (i : ℕ) (s : Seat D) → IsIn setup w shut phases i s → IsOwn s
   own_at i s h = subst (λ (k : ℕ). IsIn setup w shut phases k s) (sym h.sits.seat.worker.me) h
 
   all_own : All IsOwn dealt
@@ -154,7 +154,7 @@ module _ (w : Wires) (old dealt turned new : List Seat) (as-dealt : IsPermutatio
   all_go = All-permutation (λ s. s.halted ≡ None) new turned (IsPermutation-sym turned new gathered) (λ i d lt. no_halt (slice_index_or new i d).halted (all_at seat_goes new i (slice_index_or new i d) go (slice_get-get_or new i d lt)))
 
   -- a turn leaves it so
-  went : (i : ℕ) (d : Seat) → i < length dealt → IsIn setup w shut phases (slice_index_or dealt i d).worker.me (slice_index_or turned i d)
+  went : (i : ℕ) (d : Seat D) → i < length dealt → IsIn setup w shut phases (slice_index_or dealt i d).worker.me (slice_index_or turned i d)
   went i d lt =
       let goes : (slice_index_or turned i d).halted ≡ None = all_go i d (subst (λ (n : ℕ). i < n) (sym len) lt) in
       let own : IsOwn (slice_index_or dealt i d) = all_own i d lt in
@@ -180,7 +180,7 @@ module _ (w : Wires) (old dealt turned new : List Seat) (as-dealt : IsPermutatio
   same_length : length new ≡ length old
   same_length = length_permutation turned new gathered ∙ len ∙ length_permutation old dealt as-dealt
 
-  old_numbers : (i : ℕ) (d : Seat) → i < length old → number_in (slice_index_or old i d) ≡ 0 + i
+  old_numbers : (i : ℕ) (d : Seat D) → i < length old → number_in (slice_index_or old i d) ≡ 0 + i
   old_numbers i d lt = let e : number_in (slice_index_or old i d) ≡ i = (a.each i (slice_index_or old i d) (slice_get-get_or old i d lt)).sits.seat.worker.me in omega arith
 
   counts : (v : ℕ) → v ≤ length new → count_below number_in v new ≡ v

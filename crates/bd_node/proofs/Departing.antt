@@ -22,7 +22,7 @@ use Rattle.bd_node.specs.declared.seat.Seat.{Seat}
 use Rattle.bd_node.specs.Seats.{Continues, IsAt, IsSeat}
 
 -- the seat with what went out
-abbrev with_sent : Seat → Links → Passes → Seat
+abbrev with_sent : {D : Type 0} → Seat D → Links → Passes → Seat D
 with_sent s links passes = record s { worker = record s.worker { links = links }; passes = passes }
 
 -- beyond the queues there is none
@@ -31,10 +31,10 @@ none_past [] r le = refl
 none_past (q ∷ qs) zero le = absurd (omega arith)
 none_past (q ∷ qs) (suc r) le = none_past qs r (omega arith)
 
-module _ (w : Wires) (s : Seat) (links : Links) (passes : Passes) (links-is : links ≡ record s.worker.links { queues = links.queues }) (passes-is : passes ≡ record s.passes { sends = passes.sends })
+module _ {D : Type 0} (w : Wires) (s : Seat D) (links : Links) (passes : Passes) (links-is : links ≡ record s.worker.links { queues = links.queues }) (passes-is : passes ≡ record s.passes { sends = passes.sends })
     (len : vec_len links.queues ≡ vec_len s.worker.links.queues) (sends-len : vec_len passes.sends ≡ vec_len s.passes.sends)
     (f : FlushedAll s.worker.me s.worker.log.last s.passes.sends.items s.worker.links.queues.items passes.sends.items links.queues.items) where
-  abbrev new : Seat
+  abbrev new : Seat D
   new = with_sent s links passes
 
   abbrev qs : List (List Message)

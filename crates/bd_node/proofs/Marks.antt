@@ -49,13 +49,13 @@ idle_parts false over true h = (refl, refl)
 idle_parts false over false h = cc
 
 -- it wasn't shut, all of its seats rest and are blocked, and every message was taken
-pub record IsIdle (n : Node) : Type 0 where
+pub record IsIdle {D : Type 0} (n : Node D) : Type 0 where
   pub running : n.shut ≡ false
   pub rest : list_all seat_rests n.seats.items ≡ true
   pub taken : are_all_taken n.seats.items ≡ true
   pub blocked : list_all seat_is_blocked n.seats.items ≡ true
 
-pub idle_is : (n : Node) → state_of n ≡ Idle → IsIdle n
+pub idle_is : {D : Type 0} → (n : Node D) → state_of n ≡ Idle → IsIdle n
 idle_is n h =
     let p = idle_parts n.shut (is_over n) (is_idle n) h in
     let q = and_parts (is_at_rest n) (list_all seat_is_blocked n.seats.items) p.1 in
@@ -63,7 +63,7 @@ idle_is n h =
     record { running = p.0; rest = r.0; taken = r.1; blocked = q.1 }
 
 -- before a Shutdown all are in their first phase
-pub first_seated : (setup : Setup) (w : Wires) (seats : List Seat) (shut : Bool) (phases : ℕ → Phase) → shut ≡ false → ArePhases setup shut phases → AreSeated setup w seats shut phases
+pub first_seated : {D : Type 0} → (setup : Setup) (w : Wires) (seats : List (Seat D)) (shut : Bool) (phases : ℕ → Phase) → shut ≡ false → ArePhases setup shut phases → AreSeated setup w seats shut phases
     → AreSeated setup w seats false (first_phase setup)
 first_seated setup w seats shut phases running ps a = record {
   some = a.some;
@@ -78,7 +78,7 @@ first_seated setup w seats shut phases running ps a = record {
 
 -- ---- the marks
 
-module _ (setup : Setup) (w : Wires) (seats : List Seat) (a : AreSeated setup w seats false (first_phase setup)) where
+module _ {D : Type 0} (setup : Setup) (w : Wires) (seats : List (Seat D)) (a : AreSeated setup w seats false (first_phase setup)) where
   -- the rows of each thread so far
   abbrev firsts : ℕ → List Row
   firsts i = choose (slice_get seats i) (λ s h. (a.each i s h).sits.course.rows) []
@@ -88,20 +88,20 @@ module _ (setup : Setup) (w : Wires) (seats : List Seat) (a : AreSeated setup w 
   marks = views_of setup seats
 
   -- what holds of each seat's rows and of what it sees holds of them
-  of_marks : (i : ℕ) (P : List Row → View → Type 0) → ((s : Seat) (h : slice_get seats i ≡ Some s) → P (a.each i s h).sits.course.rows (local_of s).view)
-      → (s : Seat) → slice_get seats i ≡ Some s → P (firsts i) (marks i)
+  of_marks : (i : ℕ) (P : List Row → View → Type 0) → ((s : Seat D) (h : slice_get seats i ≡ Some s) → P (a.each i s h).sits.course.rows (local_of s).view)
+      → (s : Seat D) → slice_get seats i ≡ Some s → P (firsts i) (marks i)
   of_marks i P all s h =
-      subst (λ (v : View). P (firsts i) v) (sym (ap (λ (o : Option Seat). (local_or setup i o).view) h))
+      subst (λ (v : View). P (firsts i) v) (sym (ap (λ (o : Option (Seat D)). (local_or setup i o).view) h))
       (chosen_is (λ (rows : List Row). P rows (local_of s).view) (slice_get seats i) (λ u k. (a.each i u k).sits.course.rows) []
-      (λ u k. subst (λ (x : Seat). P (a.each i u k).sits.course.rows (local_of x).view) (same_Some u s (sym k ∙ h)) (all u k)) s h)
+      (λ u k. subst (λ (x : Seat D). P (a.each i u k).sits.course.rows (local_of x).view) (same_Some u s (sym k ∙ h)) (all u k)) s h)
 
   -- the seat of a thread that exists
-  seated : (t : ℕ) → t < setup.threads → (s : Seat) × (slice_get seats t ≡ Some s)
+  seated : (t : ℕ) → t < setup.threads → (s : Seat D) × (slice_get seats t ≡ Some s)
   seated t lt = has_at seats t (subst (λ (n : ℕ). t < n) (sym a.len) lt)
 
-  module _ (stamp : ℕ) (below : (i : ℕ) (s : Seat) → slice_get seats i ≡ Some s → s.worker.log.last < stamp) where
+  module _ (stamp : ℕ) (below : (i : ℕ) (s : Seat D) → slice_get seats i ≡ Some s → s.worker.log.last < stamp) where
     -- all its rows are below the Shutdown
-    early_at : (t : ℕ) (s : Seat) (h : slice_get seats t ≡ Some s) → AllByRecursion (λ r. r.entry.stamp < stamp) (a.each t s h).sits.course.rows
+    early_at : (t : ℕ) (s : Seat D) (h : slice_get seats t ≡ Some s) → AllByRecursion (λ r. r.entry.stamp < stamp) (a.each t s h).sits.course.rows
     early_at t s h =
         let c : Course = (a.each t s h).sits.course in
         let q : IsSeat setup t (first_phase setup t) c w s = (a.each t s h).sits.seat in
@@ -109,7 +109,7 @@ module _ (setup : Setup) (w : Wires) (seats : List Seat) (a : AreSeated setup w 
         all_map (λ (r : Row). r.entry.stamp ≤ c.last) (λ (r : Row). r.entry.stamp < stamp) c.rows (λ r k. omega arith) q.worker.course.within
 
     -- its rows are accepted, before any Shutdown
-    accepted_at : (t : ℕ) (s : Seat) (h : slice_get seats t ≡ Some s) → Accepts setup false t (view_at_start setup [] t) (a.each t s h).sits.course.rows (local_of s).view
+    accepted_at : (t : ℕ) (s : Seat D) (h : slice_get seats t ≡ Some s) → Accepts setup false t (view_at_start setup [] t) (a.each t s h).sits.course.rows (local_of s).view
     accepted_at t s h =
         let c : Course = (a.each t s h).sits.course in
         let q : IsSeat setup t (first_phase setup t) c w s = (a.each t s h).sits.seat in
@@ -131,11 +131,11 @@ module _ (setup : Setup) (w : Wires) (seats : List Seat) (a : AreSeated setup w 
     none_first t le = none_chosen (slice_get seats t) (λ s h. (a.each t s h).sits.course.rows) [] (slice_get_past seats t (subst (λ (n : ℕ). n ≤ t) (sym a.len) le))
 
     -- each thread sits in the phase after the Shutdown
-    seated_after : (news : List Seat) → length news ≡ length seats → ((i : ℕ) (s s' : Seat) → slice_get seats i ≡ Some s → slice_get news i ≡ Some s' → Shuts w stamp s s')
+    seated_after : (news : List (Seat D)) → length news ≡ length seats → ((i : ℕ) (s s' : Seat D) → slice_get seats i ≡ Some s → slice_get news i ≡ Some s' → Shuts w stamp s s')
         → AreSeated setup w news true (phase_after stamp firsts marks)
     seated_after news len shuts = record { some = a.some; len = len ∙ a.len; each = each }
       where
-        each : (i : ℕ) (s' : Seat) → slice_get news i ≡ Some s' → IsIn setup w true (phase_after stamp firsts marks) i s'
+        each : (i : ℕ) (s' : Seat D) → slice_get news i ≡ Some s' → IsIn setup w true (phase_after stamp firsts marks) i s'
         each i s' h' =
             let u = has_at seats i (subst (λ (n : ℕ). i < n) len (is_below news i s' h')) in
             let shut : Shuts w stamp u.0 s' = shuts i u.0 s' u.1 h' in
@@ -145,7 +145,7 @@ module _ (setup : Setup) (w : Wires) (seats : List Seat) (a : AreSeated setup w 
               goes = shut.halted ∙ (a.each i u.0 u.1).goes;
             }
           where
-            sat : (s : Seat) (h : slice_get seats i ≡ Some s) → Sits setup i (record { earlier = (a.each i s h).sits.course.rows ++ shutdown_of stamp i; from = (local_of s).view; since = stamp }) w s'
+            sat : (s : Seat D) (h : slice_get seats i ≡ Some s) → Sits setup i (record { earlier = (a.each i s h).sits.course.rows ++ shutdown_of stamp i; from = (local_of s).view; since = stamp }) w s'
             sat s h =
                 let c : Course = (a.each i s h).sits.course in
                 let is : IsShutAt setup i (first_phase setup i) c stamp w s s' = (shuts i s s' h h').sits setup i (first_phase setup i) c (a.each i s h).sits.seat in
@@ -154,20 +154,20 @@ module _ (setup : Setup) (w : Wires) (seats : List Seat) (a : AreSeated setup w 
 -- ---- the node after it
 
 -- all sit in the phases after a Shutdown
-pub record AreAllShut (setup : Setup) (w : Wires) (news : List Seat) : Type 0 where
+pub record AreAllShut {D : Type 0} (setup : Setup) (w : Wires) (news : List (Seat D)) : Type 0 where
   pub phases : ℕ → Phase
   pub seated : AreSeated setup w news true phases
   pub phases_are : AreShut setup phases
 
-pub all_shut : (n : Node) (stamp : ℕ) (news : List Seat) → IsNode n → IsIdle n → 0 < stamp → length news ≡ length n.seats.items
-    → ((i : ℕ) (s s' : Seat) → slice_get n.seats.items i ≡ Some s → slice_get news i ≡ Some s' → Shuts n.wires stamp s s')
+pub all_shut : {D : Type 0} → (n : Node D) (stamp : ℕ) (news : List (Seat D)) → IsNode n → IsIdle n → 0 < stamp → length news ≡ length n.seats.items
+    → ((i : ℕ) (s s' : Seat D) → slice_get n.seats.items i ≡ Some s → slice_get news i ≡ Some s' → Shuts n.wires stamp s s')
     → AreAllShut n.setup.now n.wires news
-all_shut n stamp news is idle positive len shuts =
+all_shut {D} n stamp news is idle positive len shuts =
     let setup : Setup = n.setup.now in
     let w : Wires = n.wires in
-    let seats : List Seat = n.seats.items in
+    let seats : List (Seat D) = n.seats.items in
     let a : AreSeated setup w seats false (first_phase setup) = first_seated setup w seats n.shut is.phases idle.running is.phases_are is.seated in
-    let below : (i : ℕ) (s : Seat) → slice_get seats i ≡ Some s → s.worker.log.last < stamp = λ i s h.
+    let below : (i : ℕ) (s : Seat D) → slice_get seats i ≡ Some s → s.worker.log.last < stamp = λ i s h.
     (let u = has_at news i (subst (λ (k : ℕ). i < k) (sym len) (is_below seats i s h)) in (shuts i s u.0 h u.1).later) in
     record {
       phases = phase_after stamp (firsts setup w seats a) (marks setup w seats a);
@@ -185,50 +185,50 @@ all_shut n stamp news is idle positive len shuts =
 -- ---- thread 0 first, and then the others
 
 -- after thread 0 the others are as before
-pub others_learn : (setup : Setup) (w : Wires) (seats : List Seat) (shut : Bool) (phases : ℕ → Phase) (first : Seat) (above stamp : ℕ) → AreSeated setup w seats shut phases
+pub others_learn : {D : Type 0} → (setup : Setup) (w : Wires) (seats : List (Seat D)) (shut : Bool) (phases : ℕ → Phase) (first : Seat D) (above stamp : ℕ) → AreSeated setup w seats shut phases
     → All (λ s. s.worker.log.last ≤ above) seats → above < stamp → AreToLearn stamp (set seats 0 first)
-others_learn setup w seats shut phases first above stamp a within later i s lt h =
+others_learn {D} setup w seats shut phases first above stamp a within later i s lt h =
     let before : slice_get seats i ≡ Some s = sym (set_else seats 0 i first (λ e. omega arith)) ∙ h in
     let me : s.worker.me ≡ i = (a.each i s before).sits.seat.worker.me in
     let ne : s.worker.me ≢ 0 = λ e. (omega arith) in
     let le : s.worker.log.last ≤ above = all_here seats i s within before in
     (ne, omega arith)
   where
-    all_here : (seats : List Seat) (i : ℕ) (s : Seat) → All (λ s. s.worker.log.last ≤ above) seats → slice_get seats i ≡ Some s → s.worker.log.last ≤ above
+    all_here : (seats : List (Seat D)) (i : ℕ) (s : Seat D) → All (λ s. s.worker.log.last ≤ above) seats → slice_get seats i ≡ Some s → s.worker.log.last ≤ above
     all_here seats i s all at =
-        subst (λ (x : Seat). x.worker.log.last ≤ above) (get_or_from_slice_get seats i s s at)
+        subst (λ (x : Seat D). x.worker.log.last ≤ above) (get_or_from_slice_get seats i s s at)
         (All-get_or (λ s. s.worker.log.last ≤ above) seats i s (is_below seats i s at) all)
 
-pub each_shuts : (w : Wires) (stamp : ℕ) (seats news : List Seat) (first first' : Seat) → slice_get seats 0 ≡ Some first → Shuts w stamp first first'
+pub each_shuts : {D : Type 0} → (w : Wires) (stamp : ℕ) (seats news : List (Seat D)) (first first' : Seat D) → slice_get seats 0 ≡ Some first → Shuts w stamp first first'
     → slice_get news 0 ≡ slice_get (set seats 0 first') 0
-    → ((i : ℕ) (s s' : Seat) → 0 < i → slice_get (set seats 0 first') i ≡ Some s → slice_get news i ≡ Some s' → LearnsShut stamp s s')
-    → (i : ℕ) (s s' : Seat) → slice_get seats i ≡ Some s → slice_get news i ≡ Some s' → Shuts w stamp s s'
-each_shuts w stamp seats news first first' at shuts same others zero s s' h h' =
+    → ((i : ℕ) (s s' : Seat D) → 0 < i → slice_get (set seats 0 first') i ≡ Some s → slice_get news i ≡ Some s' → LearnsShut stamp s s')
+    → (i : ℕ) (s s' : Seat D) → slice_get seats i ≡ Some s → slice_get news i ≡ Some s' → Shuts w stamp s s'
+each_shuts {D} w stamp seats news first first' at shuts same others zero s s' h h' =
     let old : first ≡ s = same_Some first s (sym at ∙ h) in
     let new : first' ≡ s' = same_Some first' s' (sym (set_here seats 0 first' (is_below seats 0 first at)) ∙ sym same ∙ h') in
-    subst (λ (x : Seat). Shuts w stamp x s') old (subst (λ (x : Seat). Shuts w stamp first x) new shuts)
+    subst (λ (x : Seat D). Shuts w stamp x s') old (subst (λ (x : Seat D). Shuts w stamp first x) new shuts)
 each_shuts w stamp seats news first first' at shuts same others (suc i) s s' h h' = others (suc i) s s' (omega arith) (set_else seats 0 (suc i) first' (λ e. omega arith) ∙ h) h' w
 
 -- what each did when the node was shut
-pub each_adds : (n : Node) (stamp : ℕ) (first first' : Seat) (shut news : List Seat) → IsNode n → slice_get n.seats.items 0 ≡ Some first → Shuts n.wires stamp first first'
+pub each_adds : {D : Type 0} → (n : Node D) (stamp : ℕ) (first first' : Seat D) (shut news : List (Seat D)) → IsNode n → slice_get n.seats.items 0 ≡ Some first → Shuts n.wires stamp first first'
     → shut ≡ set n.seats.items 0 first' → slice_get news 0 ≡ slice_get shut 0
-    → ((i : ℕ) (s s' : Seat) → 0 < i → slice_get shut i ≡ Some s → slice_get news i ≡ Some s' → LearnsShut stamp s s')
-    → (i : ℕ) (s s' : Seat) → slice_get n.seats.items i ≡ Some s → slice_get news i ≡ Some s' → entries_in s' ≡ entries_in s ++ shutdown_by stamp i
-each_adds n stamp first first' shut news is at shuts shut-is same others i s s' h h' =
-    (each_shuts n.wires stamp n.seats.items news first first' at shuts (same ∙ ap (λ (ss : List Seat). slice_get ss 0) shut-is)
-    (λ j u u' positive k. others j u u' positive (ap (λ (ss : List Seat). slice_get ss j) shut-is ∙ k)) i s s' h h').entries
+    → ((i : ℕ) (s s' : Seat D) → 0 < i → slice_get shut i ≡ Some s → slice_get news i ≡ Some s' → LearnsShut stamp s s')
+    → (i : ℕ) (s s' : Seat D) → slice_get n.seats.items i ≡ Some s → slice_get news i ≡ Some s' → entries_in s' ≡ entries_in s ++ shutdown_by stamp i
+each_adds {D} n stamp first first' shut news is at shuts shut-is same others i s s' h h' =
+    (each_shuts n.wires stamp n.seats.items news first first' at shuts (same ∙ ap (λ (ss : List (Seat D)). slice_get ss 0) shut-is)
+    (λ j u u' positive k. others j u u' positive (ap (λ (ss : List (Seat D)). slice_get ss j) shut-is ∙ k)) i s s' h h').entries
     ∙ ap (λ (k : ℕ). entries_in s ++ shutdown_by stamp k) (is.seated.each i s h).sits.seat.worker.me
 
 -- the first seat of a node
-pub first_at : (n : Node) (a : Seat) → IsNode n → a ≡ slice_index_or n.seats.items 0 a → slice_get n.seats.items 0 ≡ Some a
+pub first_at : {D : Type 0} → (n : Node D) (a : Seat D) → IsNode n → a ≡ slice_index_or n.seats.items 0 a → slice_get n.seats.items 0 ≡ Some a
 first_at n a is h = slice_get_read n.seats.items (length n.seats.items) 0 a refl (subst (λ (k : ℕ). 0 < k) (sym is.seated.len) is.seated.some) h
 
 -- an idle node after all of it
-pub node_shuts : (n : Node) (above stamp : ℕ) (first first' : Seat) (shut news : List Seat) → IsNode n → state_of n ≡ Idle → slice_get n.seats.items 0 ≡ Some first → above < stamp
+pub node_shuts : {D : Type 0} → (n : Node D) (above stamp : ℕ) (first first' : Seat D) (shut news : List (Seat D)) → IsNode n → state_of n ≡ Idle → slice_get n.seats.items 0 ≡ Some first → above < stamp
     → Shuts n.wires stamp first first' → shut ≡ set n.seats.items 0 first' → length news ≡ length shut → slice_get news 0 ≡ slice_get shut 0
-    → ((i : ℕ) (s s' : Seat) → 0 < i → slice_get shut i ≡ Some s → slice_get news i ≡ Some s' → LearnsShut stamp s s')
+    → ((i : ℕ) (s s' : Seat D) → 0 < i → slice_get shut i ≡ Some s → slice_get news i ≡ Some s' → LearnsShut stamp s s')
     → AreAllShut n.setup.now n.wires news
-node_shuts n above stamp first first' shut news is idle at later shuts shut-is len same others =
-    all_shut n stamp news is (idle_is n idle) (omega arith) (len ∙ ap (λ (ss : List Seat). length ss) shut-is ∙ length-set n.seats.items 0 first')
-    (each_shuts n.wires stamp n.seats.items news first first' at shuts (same ∙ ap (λ (ss : List Seat). slice_get ss 0) shut-is)
-    (λ i s s' positive h. others i s s' positive (ap (λ (ss : List Seat). slice_get ss i) shut-is ∙ h)))
+node_shuts {D} n above stamp first first' shut news is idle at later shuts shut-is len same others =
+    all_shut n stamp news is (idle_is n idle) (omega arith) (len ∙ ap (λ (ss : List (Seat D)). length ss) shut-is ∙ length-set n.seats.items 0 first')
+    (each_shuts n.wires stamp n.seats.items news first first' at shuts (same ∙ ap (λ (ss : List (Seat D)). slice_get ss 0) shut-is)
+    (λ i s s' positive h. others i s s' positive (ap (λ (ss : List (Seat D)). slice_get ss i) shut-is ∙ h)))

@@ -36,18 +36,18 @@ use Rattle.bd_node.proofs.Places.{all_at, all_below, has_at}
 
 -- ---- what seats see
 
-abbrev pub local_of : Seat → Local
+abbrev pub local_of : {D : Type 0} → Seat D → Local
 local_of s = local s.worker.thread s.worker.links
 
-abbrev pub local_or : Setup → ℕ → Option Seat → Local
+abbrev pub local_or : {D : Type 0} → Setup → ℕ → Option (Seat D) → Local
 local_or setup t None = local_at_start setup t
 local_or setup t (Some s) = local_of s
 
 -- what the thread with this number sees and has for itself
-abbrev pub locals_of : Setup → List Seat → ℕ → Local
+abbrev pub locals_of : {D : Type 0} → Setup → List (Seat D) → ℕ → Local
 locals_of setup seats t = local_or setup t (slice_get seats t)
 
-abbrev pub views_of : Setup → List Seat → ℕ → View
+abbrev pub views_of : {D : Type 0} → Setup → List (Seat D) → ℕ → View
 views_of setup seats t = (locals_of setup seats t).view
 
 -- ---- by parts
@@ -152,31 +152,31 @@ is_gone_at x k = not (home x.setup.now (dev_of k) == x.me) || list_any (same_dev
 
 -- ---- the seats of a node
 
-module _ (setup : Setup) (w : Wires) (seats : List Seat) (shut : Bool) (phases : ℕ → Phase) (a : AreSeated setup w seats shut phases) where
+module _ {D : Type 0} (setup : Setup) (w : Wires) (seats : List (Seat D)) (shut : Bool) (phases : ℕ → Phase) (a : AreSeated setup w seats shut phases) where
   abbrev seen : ℕ → View
   seen = views_of setup seats
 
   -- the seat of a thread that exists
-  pub seat_at : (t : ℕ) → t < setup.threads → (s : Seat) × (slice_get seats t ≡ Some s)
+  pub seat_at : (t : ℕ) → t < setup.threads → (s : Seat D) × (slice_get seats t ≡ Some s)
   seat_at t lt = has_at seats t (subst (λ (n : ℕ). t < n) (sym a.len) lt)
 
   -- the thread at a seat knows its number and its setup
-  pub me_of : (t : ℕ) (s : Seat) → slice_get seats t ≡ Some s → s.worker.me ≡ t
+  pub me_of : (t : ℕ) (s : Seat D) → slice_get seats t ≡ Some s → s.worker.me ≡ t
   me_of t s e = (a.each t s e).sits.seat.worker.me
 
-  pub number_at : (t : ℕ) (s : Seat) → slice_get seats t ≡ Some s → number_of s.worker.thread ≡ t
+  pub number_at : (t : ℕ) (s : Seat D) → slice_get seats t ≡ Some s → number_of s.worker.thread ≡ t
   number_at t s e = (a.each t s e).sits.seat.worker.number
 
-  pub given_at : (t : ℕ) (s : Seat) → slice_get seats t ≡ Some s → setup_of s.worker.thread ≡ setup
+  pub given_at : (t : ℕ) (s : Seat D) → slice_get seats t ≡ Some s → setup_of s.worker.thread ≡ setup
   given_at t s e = (a.each t s e).sits.seat.worker.given
 
   -- what holds of each seat by what it sees holds of the views
-  of_each : (p : Seat → Bool) (q : ℕ → View → Type 0) → list_all p seats ≡ true
-      → ((t : ℕ) (s : Seat) → number_of s.worker.thread ≡ t → setup_of s.worker.thread ≡ setup → p s ≡ true → q t (local_of s).view)
+  of_each : (p : Seat D → Bool) (q : ℕ → View → Type 0) → list_all p seats ≡ true
+      → ((t : ℕ) (s : Seat D) → number_of s.worker.thread ≡ t → setup_of s.worker.thread ≡ setup → p s ≡ true → q t (local_of s).view)
       → (t : ℕ) → t < setup.threads → q t (seen t)
   of_each p q all gives t lt =
       let u = seat_at t lt in
-      subst (λ (v : View). q t v) (sym (ap (λ (o : Option Seat). (local_or setup t o).view) u.1))
+      subst (λ (v : View). q t v) (sym (ap (λ (o : Option (Seat D)). (local_or setup t o).view) u.1))
       (gives t u.0 (number_at t u.0 u.1) (given_at t u.0 u.1) (all_at p seats t u.0 all u.1))
 
   -- all rest
@@ -186,7 +186,7 @@ module _ (setup : Setup) (w : Wires) (seats : List Seat) (shut : Bool) (phases :
       rests_none : (t : ℕ) (v : View) (id : Id) → is_resting_here setup t v id None ≡ true
       rests_none t v id = refl
 
-      one : (t : ℕ) (s : Seat) → number_of s.worker.thread ≡ t → setup_of s.worker.thread ≡ setup → seat_rests s ≡ true → Rests setup t (local_of s).view
+      one : (t : ℕ) (s : Seat D) → number_of s.worker.thread ≡ t → setup_of s.worker.thread ≡ setup → seat_rests s ≡ true → Rests setup t (local_of s).view
       one t s number given h =
           let r : HasRest s.worker.thread s.worker.links = rests_of s.worker.thread s.worker.links h in
           record {
@@ -211,11 +211,11 @@ module _ (setup : Setup) (w : Wires) (seats : List Seat) (shut : Bool) (phases :
       let to = seat_at u lt in
       let one : has_taken from.0 to.0 ≡ true =
       all_at (λ x. has_taken from.0 x) seats u to.0 (all_at (λ x. list_all (λ y. has_taken x y) seats) seats t from.0 taken from.1) to.1 in
-      ap (λ (o : Option Seat). count_at (local_or setup t o).view.part.put u) from.1
+      ap (λ (o : Option (Seat D)). count_at (local_or setup t o).view.part.put u) from.1
       ∙ ap (λ (n : ℕ). count_at from.0.worker.thread.part.put n) (sym (me_of u to.0 to.1))
       ∙ eqb-true (count_at from.0.worker.thread.part.put to.0.worker.me) (count_at to.0.worker.thread.part.taken from.0.worker.me) one
       ∙ ap (λ (n : ℕ). count_at to.0.worker.thread.part.taken n) (me_of t from.0 from.1)
-      ∙ sym (ap (λ (o : Option Seat). count_at (local_or setup u o).view.part.taken t) to.1)
+      ∙ sym (ap (λ (o : Option (Seat D)). count_at (local_or setup u o).view.part.taken t) to.1)
 
   pub are_spent : list_all seat_rests seats ≡ true → are_all_taken seats ≡ true → AreSpent setup.threads seen
   are_spent rest taken = record {

@@ -18,29 +18,29 @@ pub no_halt : (o : Option SeatNo) → is_none o ≡ true → o ≡ None
 no_halt None h = refl
 no_halt (Some x) h = cc
 
-module _ (setup : Setup) (w : Wires) (seats : List Seat) (shut : Bool) (phases : ℕ → Phase) (a : AreSeated setup w seats shut phases) where
+module _ {D : Type 0} (setup : Setup) (w : Wires) (seats : List (Seat D)) (shut : Bool) (phases : ℕ → Phase) (a : AreSeated setup w seats shut phases) where
   -- each seat sits
   pub all_sit : All (IsSitting w) seats
   all_sit k d lt = record { setup = setup; t = k; p = phases k; sits = (a.each k (slice_index_or seats k d) (slice_get-get_or seats k d lt)).sits }
 
-  pub one_sits : (i : ℕ) (s : Seat) → slice_get seats i ≡ Some s → IsSitting w s
+  pub one_sits : (i : ℕ) (s : Seat D) → slice_get seats i ≡ Some s → IsSitting w s
   one_sits i s at = record { setup = setup; t = i; p = phases i; sits = (a.each i s at).sits }
 
-  went : (i : ℕ) (s s' : Seat) → slice_get seats i ≡ Some s → Continues w s s' → s'.halted ≡ None → IsIn setup w shut phases i s'
+  went : (i : ℕ) (s s' : Seat D) → slice_get seats i ≡ Some s → Continues w s s' → s'.halted ≡ None → IsIn setup w shut phases i s'
   went i s s' at on goes = record { sits = on.sits setup i (phases i) (a.each i s at).sits; flag = on.flag ∙ (a.each i s at).flag; goes = goes }
 
   -- one seat had a turn
-  pub one_turned : (i : ℕ) (s s' : Seat) → slice_get seats i ≡ Some s → Continues w s s' → AreSeated setup w (set seats i s') shut phases
+  pub one_turned : (i : ℕ) (s s' : Seat D) → slice_get seats i ≡ Some s → Continues w s s' → AreSeated setup w (set seats i s') shut phases
   one_turned i s s' at on = record { some = a.some; len = length-set seats i s' ∙ a.len; each = each }
     where
       here : IsIn setup w shut phases i s'
       here = went i s s' at on (on.halted ∙ (a.each i s at).goes)
 
-      each : (j : ℕ) (x : Seat) → slice_get (set seats i s') j ≡ Some x → IsIn setup w shut phases j x
+      each : (j : ℕ) (x : Seat D) → slice_get (set seats i s') j ≡ Some x → IsIn setup w shut phases j x
       each j x h = go (cases_eq i j)
         where
           go : (i ≡ j) ⊎ (i ≡ j → ⊥) → IsIn setup w shut phases j x
           go (inl same) =
               let e : s' ≡ x = same_Some s' x (sym (set_here seats i s' (slice_get_within seats i s at)) ∙ ap (slice_get (set seats i s')) same ∙ h) in
-              subst (λ (k : ℕ). IsIn setup w shut phases k x) same (subst (λ (y : Seat). IsIn setup w shut phases i y) e here)
+              subst (λ (k : ℕ). IsIn setup w shut phases k x) same (subst (λ (y : Seat D). IsIn setup w shut phases i y) e here)
           go (inr ne) = a.each j x (sym (set_else seats i j s' ne) ∙ h)

@@ -21,14 +21,14 @@ use Rattle.bd_node.specs.Seats.{Continues, IsAt, IsSeat, IsSitting}
 
 -- ---- one after the other
 
-pub continues_still : (w : Wires) (s : Seat) → Continues w s s
+pub continues_still : {D : Type 0} → (w : Wires) (s : Seat D) → Continues w s s
 continues_still w s = record { flag = refl; halted = refl; sits = λ setup t p h. h }
 
-pub continues_then : (w : Wires) (a b c : Seat) → Continues w a b → Continues w b c → Continues w a c
+pub continues_then : {D : Type 0} → (w : Wires) (a b c : Seat D) → Continues w a b → Continues w b c → Continues w a c
 continues_then w a b c f g = record { flag = g.flag ∙ f.flag; halted = g.halted ∙ f.halted; sits = λ setup t p h. g.sits setup t p (f.sits setup t p h) }
 
 -- who sat there sits there still
-pub sitting_then : (w : Wires) (a b : Seat) → IsSitting w a → Continues w a b → IsSitting w b
+pub sitting_then : {D : Type 0} → (w : Wires) (a b : Seat D) → IsSitting w a → Continues w a b → IsSitting w b
 sitting_then w a b s f = record { setup = s.setup; t = s.t; p = s.p; sits = f.sits s.setup s.t s.p s.sits }
 
 -- ---- posts come
@@ -43,12 +43,12 @@ senders_of senders last [] all = tt
 senders_of senders last (m ∷ ms) all = (all.0.sender, senders_of senders last ms all.1)
 
 -- the seat with what was taken of its ring
-abbrev with_taken : Seat → Receiver → Written → Links → Seat
+abbrev with_taken : {D : Type 0} → Seat D → Receiver → Written → Links → Seat D
 with_taken s take log links = record s { worker = record s.worker { links = links; log = log }; passes = record s.passes { take = take } }
 
-module _ (w : Wires) (s : Seat) (take : Receiver) (log : Written) (links : Links) (links-is : links ≡ record s.worker.links { queues = links.queues }) (len : vec_len links.queues ≡ vec_len s.worker.links.queues)
+module _ {D : Type 0} (w : Wires) (s : Seat D) (take : Receiver) (log : Written) (links : Links) (links-is : links ≡ record s.worker.links { queues = links.queues }) (len : vec_len links.queues ≡ vec_len s.worker.links.queues)
     (f : Fetched s.worker.me s.passes.take s.worker.log s.worker.links.queues.items take log links.queues.items) where
-  abbrev new : Seat
+  abbrev new : Seat D
   new = with_taken s take log links
 
   abbrev posts : List Post

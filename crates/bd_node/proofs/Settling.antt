@@ -33,7 +33,7 @@ use Rattle.bd_node.specs.declared.node.NodeState.TheVariants.{Busy, Done, Idle}
 use Rattle.bd_node.specs.Whole.{are_all_taken, is_at_rest, is_idle, is_over, log_in, seat_has_destructed, seat_rests, setup_in, state_of, ArePhases, AreSeated, AreShut, IsNode}
 use Rattle.bd_node.proofs.Resting.{are_destructed, are_spent, local_or, locals_of, seat_at}
 
-abbrev pub passes_of : Seat → Passes
+abbrev pub passes_of : {D : Type 0} → Seat D → Passes
 passes_of s = s.passes
 
 -- what is made of each stands at its place
@@ -53,12 +53,12 @@ map_from {X} {Y} f xs i y e = go (slice_get xs i) refl
 
 -- ---- seats, linked
 
-module _ (setup : Setup) (w : Wires) (seats : List Seat) (shut : Bool) (phases : ℕ → Phase) (a : AreSeated setup w seats shut phases) where
+module _ {D : Type 0} (setup : Setup) (w : Wires) (seats : List (Seat D)) (shut : Bool) (phases : ℕ → Phase) (a : AreSeated setup w seats shut phases) where
   -- the passes of all seats are for these wires
   pub passes_linked : wires.AreLinked setup.threads w (map passes_of seats)
   passes_linked = ((a.each 0 first.0 first.1).sits.seat.linked.rings, each)
     where
-      first : (s : Seat) × (slice_get seats 0 ≡ Some s)
+      first : (s : Seat D) × (slice_get seats 0 ≡ Some s)
       first = seat_at setup w seats shut phases a 0 a.some
 
       each : (t : ℕ) (q : Passes) → slice_get (map passes_of seats) t ≡ Some q → wires.IsLinked setup.threads w t q
@@ -93,8 +93,8 @@ module _ (setup : Setup) (w : Wires) (seats : List Seat) (shut : Bool) (phases :
 
 -- ---- a node that is done
 
-module _ (setup : Setup) (w : Wires) (seats : List Seat) (phases : ℕ → Phase) (a : AreSeated setup w seats true phases) (sh : AreShut setup phases) where
-  abbrev course_or : (t : ℕ) (o : Option Seat) → slice_get seats t ≡ o → Course
+module _ {D : Type 0} (setup : Setup) (w : Wires) (seats : List (Seat D)) (phases : ℕ → Phase) (a : AreSeated setup w seats true phases) (sh : AreShut setup phases) where
+  abbrev course_or : (t : ℕ) (o : Option (Seat D)) → slice_get seats t ≡ o → Course
   course_or t None e = new_course
   course_or t (Some s) e = (a.each t s e).sits.course
 
@@ -103,15 +103,15 @@ module _ (setup : Setup) (w : Wires) (seats : List Seat) (phases : ℕ → Phase
   courses_of t = course_or t (slice_get seats t) refl
 
   -- which its seat is on
-  seat_is : (t : ℕ) (s : Seat) → slice_get seats t ≡ Some s → IsSeat setup t (phases t) (courses_of t) w s
+  seat_is : (t : ℕ) (s : Seat D) → slice_get seats t ≡ Some s → IsSeat setup t (phases t) (courses_of t) w s
   seat_is t s e = go (slice_get seats t) refl e
     where
-      go : (o : Option Seat) (q : slice_get seats t ≡ o) → o ≡ Some s → IsSeat setup t (phases t) (course_or t o q) w s
+      go : (o : Option (Seat D)) (q : slice_get seats t ≡ o) → o ≡ Some s → IsSeat setup t (phases t) (course_or t o q) w s
       go None q f = absurd (none f)
         where
           none : None ≡ Some s → ⊥
           none h = cc
-      go (Some x) q f = subst (λ (y : Seat). IsSeat setup t (phases t) (a.each t x q).sits.course w y) (same_Some x s f) (a.each t x q).sits.seat
+      go (Some x) q f = subst (λ (y : Seat D). IsSeat setup t (phases t) (a.each t x q).sits.course w y) (same_Some x s f) (a.each t x q).sits.seat
 
   abbrev rows_at : ℕ → List Row
   rows_at t = all_rows (phases t) (courses_of t)
@@ -133,11 +133,11 @@ module _ (setup : Setup) (w : Wires) (seats : List Seat) (phases : ℕ → Phase
   abbrev ends_of : ℕ → Local
   ends_of = locals_of setup seats
 
-  seat_of : (t : ℕ) → t < setup.threads → (s : Seat) × (slice_get seats t ≡ Some s)
+  seat_of : (t : ℕ) → t < setup.threads → (s : Seat D) × (slice_get seats t ≡ Some s)
   seat_of t lt = seat_at setup w seats true phases a t lt
 
   -- what a thread has at the end is what its seat has
-  end_is : (t : ℕ) (s : Seat) → slice_get seats t ≡ Some s → ends_of t ≡ local_or setup t (Some s)
+  end_is : (t : ℕ) (s : Seat D) → slice_get seats t ≡ Some s → ends_of t ≡ local_or setup t (Some s)
   end_is t s e = ap (local_or setup t) e
 
   -- **the courses are at their end**
@@ -237,7 +237,7 @@ done_parts false over true h = cc
 done_parts false over false h = cc
 
 -- the passes of all seats, of which there are this many, may be ended
-pub passes_fit : (n : Node) → IsNode n → (k : ℕ) (passes : List Passes) → k ≡ length passes → passes ≡ map passes_of n.seats.items → wires.AreLinked k n.wires passes
+pub passes_fit : {D : Type 0} → (n : Node D) → IsNode n → (k : ℕ) (passes : List Passes) → k ≡ length passes → passes ≡ map passes_of n.seats.items → wires.AreLinked k n.wires passes
 passes_fit n h k passes many e =
     subst (λ (m : ℕ). wires.AreLinked m n.wires passes) (sym many)
     (subst (λ (qs : List Passes). wires.AreLinked (length qs) n.wires qs) (sym e)
@@ -245,12 +245,12 @@ passes_fit n h k passes many e =
     (passes_linked (setup_in n) n.wires n.seats.items n.shut h.phases h.seated)))
 
 -- the logs of all seats may be merged
-pub logs_fit : (n : Node) → IsNode n → (logs : List Written) → logs ≡ map log_in n.seats.items → AreOfDifferentThreads (map log_part logs)
+pub logs_fit : {D : Type 0} → (n : Node D) → IsNode n → (logs : List Written) → logs ≡ map log_in n.seats.items → AreOfDifferentThreads (map log_part logs)
 logs_fit n h logs e =
     subst (λ (ls : List Written). AreOfDifferentThreads (map log_part ls)) (sym e) (logs_apart (setup_in n) n.wires n.seats.items n.shut h.phases h.seated)
 
 -- and where the node is done, their merge is a complete run
-pub node_complete : (n : Node) → IsNode n → state_of n ≡ Done → (logs : List Written) (passes : List Passes) → logs ≡ map log_in n.seats.items → passes ≡ map passes_of n.seats.items
+pub node_complete : {D : Type 0} → (n : Node D) → IsNode n → state_of n ≡ Done → (logs : List Written) (passes : List Passes) → logs ≡ map log_in n.seats.items → passes ≡ map passes_of n.seats.items
     → wires.AreDelivered passes → (r : Registered) → wires.HasJournalOf passes r → IsOrdered r.journal → ((x : Setup) → HasRowsOf r x → IsReplayFromStart x r.journal)
     → (merged : List Entry) → IsMerge (map log_part logs) merged → IsCompleteRun (setup_in n) [] merged
 node_complete n h done logs passes logs-is passes-is d r j ordered replay merged m =

@@ -165,10 +165,10 @@ shut_with setup p c w seen lent r log stamp lent' left setup-is state-is above l
 -- ---- the seat of thread 0
 
 -- the seat with what it got back from the worker
-abbrev pub seat_by : Seat → Worker → Holder → ℕ → Seat
+abbrev pub seat_by : {D : Type 0} → Seat D → Worker → Holder → ℕ → Seat D
 seat_by s worker slot seen = record s { worker = worker; passes = record s.passes { slot = slot }; seen = seen }
 
-module _ (w : Wires) (s : Seat) (lent lent' : Registered) (pass slot : Holder) (taken : IsTakenBy s.passes.slot lent.journal (start_of lent.setup) pass)
+module _ {D : Type 0} (w : Wires) (s : Seat D) (lent lent' : Registered) (pass slot : Holder) (taken : IsTakenBy s.passes.slot lent.journal (start_of lent.setup) pass)
     (given : slot ≡ after_give pass lent'.journal) where
   -- what the slot's pass is then
   slot_is : slot ≡ after_give (after_take s.passes.slot lent.journal) lent'.journal
@@ -241,10 +241,10 @@ module _ (w : Wires) (s : Seat) (lent lent' : Registered) (pass slot : Holder) (
 -- ---- the seats of the others
 
 -- the log met the stamp, and the worker knows of the Shutdown
-abbrev pub learnt_by : Seat → ℕ → Seat
+abbrev pub learnt_by : {D : Type 0} → Seat D → ℕ → Seat D
 learnt_by s stamp = record s { worker = record s.worker { links = record s.worker.links { shut = true }; log = record s.worker.log { last = max s.worker.log.last stamp } } }
 
-pub learns_shut : (stamp : ℕ) (s : Seat) → s.worker.me ≢ 0 → s.worker.log.last < stamp → LearnsShut stamp s (learnt_by s stamp)
+pub learns_shut : {D : Type 0} → (stamp : ℕ) (s : Seat D) → s.worker.me ≢ 0 → s.worker.log.last < stamp → LearnsShut stamp s (learnt_by s stamp)
 learns_shut stamp s other above w = record {
   flag = refl;
   halted = refl;
@@ -290,11 +290,11 @@ learns_shut stamp s other above w = record {
 }
 
 -- one more learnt of it
-pub learnt_more : (stamp : ℕ) (before seats : List Seat) (place : ℕ) (old new : Seat) → slice_get seats place ≡ Some old → ((i : ℕ) → place ≤ i → slice_get seats i ≡ slice_get before i)
-    → ((i : ℕ) (a b : Seat) → 0 < i → i < place → slice_get before i ≡ Some a → slice_get seats i ≡ Some b → LearnsShut stamp a b)
+pub learnt_more : {D : Type 0} → (stamp : ℕ) (before seats : List (Seat D)) (place : ℕ) (old new : Seat D) → slice_get seats place ≡ Some old → ((i : ℕ) → place ≤ i → slice_get seats i ≡ slice_get before i)
+    → ((i : ℕ) (a b : Seat D) → 0 < i → i < place → slice_get before i ≡ Some a → slice_get seats i ≡ Some b → LearnsShut stamp a b)
     → LearnsShut stamp old new
-    → (i : ℕ) (a b : Seat) → 0 < i → i < place + 1 → slice_get before i ≡ Some a → slice_get (set seats place new) i ≡ Some b → LearnsShut stamp a b
-learnt_more stamp before seats place old new at later learnt learns i a b positive lt h k = go (nat_lt i place) refl
+    → (i : ℕ) (a b : Seat D) → 0 < i → i < place + 1 → slice_get before i ≡ Some a → slice_get (set seats place new) i ≡ Some b → LearnsShut stamp a b
+learnt_more {D} stamp before seats place old new at later learnt learns i a b positive lt h k = go (nat_lt i place) refl
   where
     go : (below : Bool) → nat_lt i place ≡ below → LearnsShut stamp a b
     go true e =
@@ -305,4 +305,4 @@ learnt_more stamp before seats place old new at later learnt learns i a b positi
         let same : i ≡ place = omega arith in
         let first : old ≡ a = same_Some old a (sym at ∙ later place (omega arith) ∙ ap (slice_get before) (sym same) ∙ h) in
         let second : new ≡ b = same_Some new b (sym (set_here seats place new (is_below seats place old at)) ∙ ap (slice_get (set seats place new)) (sym same) ∙ k) in
-        subst (λ (x : Seat). LearnsShut stamp x b) first (subst (λ (x : Seat). LearnsShut stamp old x) second learns)
+        subst (λ (x : Seat D). LearnsShut stamp x b) first (subst (λ (x : Seat D). LearnsShut stamp old x) second learns)

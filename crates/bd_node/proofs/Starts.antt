@@ -23,10 +23,10 @@ use Rattle.bd_node.proofs.Places.{has_at, is_below}
 
 -- ---- seats, one after the other
 
-pub none_new : (setup : Setup) (passes : List Passes) → AreNewSeats setup passes []
-none_new setup passes = record { each = λ i s q h e. absurd (none i s h) }
+pub none_new : {D : Type 0} → (setup : Setup) (passes : List Passes) → AreNewSeats {D = D} setup passes []
+none_new {D} setup passes = record { each = λ i s q h e. absurd (none i s h) }
   where
-    none : (i : ℕ) (s : Seat) → slice_get [] i ≡ Some s → ⊥
+    none : (i : ℕ) (s : Seat D) → slice_get [] i ≡ Some s → ⊥
     none zero s h = cc
     none (suc i) s h = cc
 
@@ -58,21 +58,21 @@ drop_next {X = X} xs n = rw add-one (go xs n)
     go (y ∷ xs) zero = refl
     go (y ∷ xs) (suc n) = go xs n
 
-pub new_more : (setup : Setup) (passes : List Passes) (seats : List Seat) (n : ℕ) (s : Seat) (q : Passes) → length seats ≡ n → AreNewSeats setup passes seats → slice_get passes n ≡ Some q
+pub new_more : {D : Type 0} → (setup : Setup) (passes : List Passes) (seats : List (Seat D)) (n : ℕ) (s : Seat D) (q : Passes) → length seats ≡ n → AreNewSeats setup passes seats → slice_get passes n ≡ Some q
     → IsNewSeat n setup q s → AreNewSeats setup passes (seats ++ s ∷ [])
-new_more setup passes seats n s q len a at new = record { each = λ i u r h e. go i u r e (push_at seats s i u h) }
+new_more {D} setup passes seats n s q len a at new = record { each = λ i u r h e. go i u r e (push_at seats s i u h) }
   where
-    go : (i : ℕ) (u : Seat) (r : Passes) → slice_get passes i ≡ Some r → (slice_get seats i ≡ Some u) ⊎ ((i ≡ length seats) × (s ≡ u)) → IsNewSeat i setup r u
+    go : (i : ℕ) (u : Seat D) (r : Passes) → slice_get passes i ≡ Some r → (slice_get seats i ≡ Some u) ⊎ ((i ≡ length seats) × (s ≡ u)) → IsNewSeat i setup r u
     go i u r e (inl h) = a.each i u r h e
     go i u r e (inr p) =
         let same : n ≡ i = sym (p.0 ∙ len) in
         let pass : q ≡ r = same_Some q r (sym at ∙ ap (λ (k : ℕ). slice_get passes k) same ∙ e) in
-        subst (λ (x : Seat). IsNewSeat i setup r x) p.1 (subst (λ (x : Passes). IsNewSeat i setup x s) pass (subst (λ (k : ℕ). IsNewSeat k setup q s) same new))
+        subst (λ (x : Seat D). IsNewSeat i setup r x) p.1 (subst (λ (x : Passes). IsNewSeat i setup x s) pass (subst (λ (k : ℕ). IsNewSeat k setup q s) same new))
 
 -- ---- a seat
 
 -- a new thread with new passes is at the start of its course
-pub seat_begins : (setup : Setup) (w : Wires) (i : ℕ) (s : Seat) (q : Passes) → i < setup.threads → IsNewSeat i setup q s → IsLinked setup.threads w i q → IsUnused (start_of setup) q
+pub seat_begins : {D : Type 0} → (setup : Setup) (w : Wires) (i : ℕ) (s : Seat D) (q : Passes) → i < setup.threads → IsNewSeat i setup q s → IsLinked setup.threads w i q → IsUnused (start_of setup) q
     → IsSeat setup i (first_phase setup i) new_course w s
 seat_begins setup w i s q within new linked unused =
     let passes : s.passes ≡ q = new.passes_are in
@@ -106,7 +106,7 @@ seat_begins setup w i s q within new linked unused =
 
 -- ---- a node
 
-pub seated_at_start : (setup : Setup) (w : Wires) (seats : List Seat) (passes : List Passes) → 0 < setup.threads → length seats ≡ setup.threads
+pub seated_at_start : {D : Type 0} → (setup : Setup) (w : Wires) (seats : List (Seat D)) (passes : List Passes) → 0 < setup.threads → length seats ≡ setup.threads
     → AreNew setup.threads (start_of setup) w passes → AreNewSeats setup passes seats → AreSeated setup w seats false (first_phase setup)
 seated_at_start setup w seats passes some len wires new = record {
   some = some;

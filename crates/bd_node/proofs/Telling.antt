@@ -49,12 +49,12 @@ tells_appended log log' es turned is appends =
 -- ---- a node
 
 -- as much more among all as one has more
-pub tells_among : (seats : List Seat) (i : ℕ) (s s' : Seat) (turned : Turned) → slice_get seats i ≡ Some s → Tells (made_by s) (made_by s') turned
+pub tells_among : {D : Type 0} → (seats : List (Seat D)) (i : ℕ) (s s' : Seat D) (turned : Turned) → slice_get seats i ≡ Some s → Tells (made_by s) (made_by s') turned
     → Tells (sum_by made_by seats) (sum_by made_by (set seats i s')) turned
-tells_among seats i s s' turned at told = go turned told
+tells_among {D} seats i s s' turned at told = go turned told
   where
     both : sum_by made_by (set seats i s') + made_by s ≡ sum_by made_by seats + made_by s'
-    both = subst (λ (x : Seat). sum_by made_by (set seats i s') + made_by x ≡ sum_by made_by seats + made_by s') (get_or_from_slice_get seats i s s at) (sum_by-set made_by seats i s' s (slice_get_within seats i s at))
+    both = subst (λ (x : Seat D). sum_by made_by (set seats i s') + made_by x ≡ sum_by made_by seats + made_by s') (get_or_from_slice_get seats i s s at) (sum_by-set made_by seats i s' s (slice_get_within seats i s at))
 
     go : (turned : Turned) → Tells (made_by s) (made_by s') turned → Tells (sum_by made_by seats) (sum_by made_by (set seats i s')) turned
     go Quiet e = let q : made_by s' ≡ made_by s = e in omega (arith, both)
@@ -72,7 +72,7 @@ moved_more a b c false true p q = let x : b ≡ a = p in let y : b < c = q in om
 moved_more a b c false false p q = let x : b ≡ a = p in let y : c ≡ b = q in omega arith
 
 -- where no seat made any, all made none
-none_made : (seats : List Seat) → ((i : ℕ) (s : Seat) → slice_get seats i ≡ Some s → made_by s ≡ 0) → sum_by made_by seats ≡ 0
+none_made : {D : Type 0} → (seats : List (Seat D)) → ((i : ℕ) (s : Seat D) → slice_get seats i ≡ Some s → made_by s ≡ 0) → sum_by made_by seats ≡ 0
 none_made [] h = refl
 none_made (s ∷ ss) h =
     let first : made_by s ≡ 0 = h 0 s refl in
@@ -80,7 +80,7 @@ none_made (s ∷ ss) h =
     let both : sum_by made_by (s ∷ ss) ≡ made_by s + sum_by made_by ss = sum_by-cons made_by s ss in
     omega arith
 
-pub new_made_none : (setup : Setup) (passes : List Passes) (seats : List Seat) → length seats ≡ length passes → AreNewSeats setup passes seats → sum_by made_by seats ≡ 0
+pub new_made_none : {D : Type 0} → (setup : Setup) (passes : List Passes) (seats : List (Seat D)) → length seats ≡ length passes → AreNewSeats setup passes seats → sum_by made_by seats ≡ 0
 new_made_none setup passes seats len new = none_made seats (λ i s h.
     let q = has_at passes i (subst (λ (n : ℕ). i < n) len (is_below seats i s h)) in
     ap (λ (es : List Entry). length es) (new.each i s q.0 h q.1).log_entries)

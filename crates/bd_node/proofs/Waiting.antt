@@ -44,23 +44,23 @@ idles_with lent old new r t l (Moved n) empty state q thread links = tt
 
 -- ---- a seat
 
-pub idles_unlent : (old new : Seat) (turned : Turned) → (wants_registry old.worker.thread old.worker.links ≡ false) ⊎ WasAway old.passes.slot → IdlesAlone old.worker new.worker turned → Idles old new turned
+pub idles_unlent : {D : Type 0} → (old new : Seat D) (turned : Turned) → (wants_registry old.worker.thread old.worker.links ≡ false) ⊎ WasAway old.passes.slot → IdlesAlone old.worker new.worker turned → Idles old new turned
 idles_unlent old new Quiet why q = inl (why, q)
 idles_unlent old new (Moved n) why q = tt
 
-pub idles_lent : (old new : Seat) (turned : Turned) → ((lent : Registered) × IdlesWith lent old.worker new.worker turned) → Idles old new turned
+pub idles_lent : {D : Type 0} → (old new : Seat D) (turned : Turned) → ((lent : Registered) × IdlesWith lent old.worker new.worker turned) → Idles old new turned
 idles_lent old new Quiet q = inr q
 idles_lent old new (Moved n) q = tt
 
-pub turns_quietly : (old came still new : Seat) (turned : Turned) → Receives old came → Idles came still turned → Sends still new → QuietTurns old new turned
+pub turns_quietly : {D : Type 0} → (old came still new : Seat D) (turned : Turned) → Receives old came → Idles came still turned → Sends still new → QuietTurns old new turned
 turns_quietly old came still new Quiet receives idle sends = record { came = came; still = still; receives = receives; idle = idle; sends = sends }
 turns_quietly old came still new (Moved n) receives idle sends = tt
 
 -- ---- a node
 
-pub turns_at : (seats : List Seat) (i : ℕ) (s s' : Seat) (turned : Turned) → slice_get seats i ≡ Some s → QuietTurns s s' turned
-    → (a b : Seat) → slice_get seats i ≡ Some a → slice_get (set seats i s') i ≡ Some b → QuietTurns a b turned
-turns_at seats i s s' turned at q a b h k =
+pub turns_at : {D : Type 0} → (seats : List (Seat D)) (i : ℕ) (s s' : Seat D) (turned : Turned) → slice_get seats i ≡ Some s → QuietTurns s s' turned
+    → (a b : Seat D) → slice_get seats i ≡ Some a → slice_get (set seats i s') i ≡ Some b → QuietTurns a b turned
+turns_at {D} seats i s s' turned at q a b h k =
     let old : s ≡ a = same_Some s a (sym at ∙ h) in
     let new : s' ≡ b = same_Some s' b (sym (set_here seats i s' (is_below seats i s at)) ∙ k) in
-    subst (λ (x : Seat). QuietTurns x b turned) old (subst (λ (x : Seat). QuietTurns s x turned) new q)
+    subst (λ (x : Seat D). QuietTurns x b turned) old (subst (λ (x : Seat D). QuietTurns s x turned) new q)

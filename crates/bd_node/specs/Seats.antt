@@ -116,19 +116,19 @@ GoesWith seen old lent new lent' =
 -- ---- a seat
 
 -- what its thread did
-abbrev pub entries_in : Seat → List Entry
+abbrev pub entries_in : {D : Type 0} → Seat D → List Entry
 entries_in s = s.worker.log.entries
 
 -- how many entries that is
-abbrev pub made_by : Seat → ℕ
+abbrev pub made_by : {D : Type 0} → Seat D → ℕ
 made_by s = made_in s.worker
 
 -- it did nothing
-abbrev pub HasSameEntries : Seat → Seat → Type 0
+abbrev pub HasSameEntries : {D : Type 0} → Seat D → Seat D → Type 0
 HasSameEntries old new = entries_in new ≡ entries_in old
 
 -- thread t of the setup sits with its passes for these wires, at this place of its course
-pub record IsSeat (setup : Setup) (t : ℕ) (p : Phase) (c : Course) (w : Wires) (s : Seat) : Type 0 where
+pub record IsSeat {D : Type 0} (setup : Setup) (t : ℕ) (p : Phase) (c : Course) (w : Wires) (s : Seat D) : Type 0 where
   pub worker : IsAt setup t p c s.worker
   pub linked : IsLinked setup.threads w t s.passes
   pub start : s.passes.slot.start ≡ start_of setup
@@ -139,38 +139,38 @@ pub record IsSeat (setup : Setup) (t : ℕ) (p : Phase) (c : Course) (w : Wires)
   pub count : s.seen ≡ length c.seen
 
 -- thread t of the setup sits, in this phase of its course
-pub record Sits (setup : Setup) (t : ℕ) (p : Phase) (w : Wires) (s : Seat) : Type 0 where
+pub record Sits {D : Type 0} (setup : Setup) (t : ℕ) (p : Phase) (w : Wires) (s : Seat D) : Type 0 where
   pub course : Course
   pub seat : IsSeat setup t p course w s
 
 -- the number of the thread that it says it is
-abbrev pub number_in : Seat → ℕ
+abbrev pub number_in : {D : Type 0} → Seat D → ℕ
 number_in s = s.worker.me
 
 -- some thread sits, in some phase
-pub record IsSitting (w : Wires) (s : Seat) : Type 0 where
+pub record IsSitting {D : Type 0} (w : Wires) (s : Seat D) : Type 0 where
   pub setup : Setup
   pub t : ℕ
   pub p : Phase
   pub sits : Sits setup t p w s
 
 -- it sits, unless it has to halt
-abbrev pub SitsOrHalts : Wires → Seat → Type 0
+abbrev pub SitsOrHalts : {D : Type 0} → Wires → Seat D → Type 0
 SitsOrHalts w s = s.halted ≡ None → IsSitting w s
 
 -- whoever sat there sits there still, further on its course
-pub record Continues (w : Wires) (old new : Seat) : Type 0 where
+pub record Continues {D : Type 0} (w : Wires) (old new : Seat D) : Type 0 where
   pub flag : new.worker.links.shut ≡ old.worker.links.shut
   pub halted : new.halted ≡ old.halted
   pub sits : (setup : Setup) (t : ℕ) (p : Phase) → Sits setup t p w old → Sits setup t p w new
 
 -- whichever the wires
-abbrev pub KeepsOn : Seat → Seat → Type 0
+abbrev pub KeepsOn : {D : Type 0} → Seat D → Seat D → Type 0
 KeepsOn old new = (w : Wires) → Continues w old new
 
 -- unless it has to halt
-abbrev pub WentOn : Wires → Seat → Seat → Type 0
+abbrev pub WentOn : {D : Type 0} → Wires → Seat D → Seat D → Type 0
 WentOn w old new = new.halted ≡ None → Continues w old new
 
-abbrev pub AllWentOn : Wires → List Seat → List Seat → Type 0
-AllWentOn w old new = (i : ℕ) (d : Seat) → i < length old → WentOn w (slice_index_or old i d) (slice_index_or new i d)
+abbrev pub AllWentOn : {D : Type 0} → Wires → List (Seat D) → List (Seat D) → Type 0
+AllWentOn {D} w old new = (i : ℕ) (d : Seat D) → i < length old → WentOn w (slice_index_or old i d) (slice_index_or new i d)

@@ -40,11 +40,11 @@ abbrev pub shutdown_by : ℕ → ℕ → List Entry
 shutdown_by stamp t = cond (t == 0) (shutdown_at stamp ∷ []) []
 
 -- a Shutdown came with this stamp: whoever sat there, at some place of its course, sits there in the phase after it
-pub record IsShutAt (setup : Setup) (t : ℕ) (p : Phase) (c : Course) (stamp : ℕ) (w : Wires) (old new : Seat) : Type 0 where
+pub record IsShutAt {D : Type 0} (setup : Setup) (t : ℕ) (p : Phase) (c : Course) (stamp : ℕ) (w : Wires) (old new : Seat D) : Type 0 where
   pub course : Course
   pub seat : IsSeat setup t (second_phase stamp t p c (local old.worker.thread old.worker.links)) course w new
 
-pub record Shuts (w : Wires) (stamp : ℕ) (old new : Seat) : Type 0 where
+pub record Shuts {D : Type 0} (w : Wires) (stamp : ℕ) (old new : Seat D) : Type 0 where
   pub flag : new.worker.links.shut ≡ true
   pub halted : new.halted ≡ old.halted
   pub later : old.worker.log.last < stamp
@@ -52,22 +52,22 @@ pub record Shuts (w : Wires) (stamp : ℕ) (old new : Seat) : Type 0 where
   pub sits : (setup : Setup) (t : ℕ) (p : Phase) (c : Course) → IsSeat setup t p c w old → IsShutAt setup t p c stamp w old new
 
 -- so it is with any wires
-abbrev pub LearnsShut : ℕ → Seat → Seat → Type 0
+abbrev pub LearnsShut : {D : Type 0} → ℕ → Seat D → Seat D → Type 0
 LearnsShut stamp old new = (w : Wires) → Shuts w stamp old new
 
 -- each seat but the first is another thread's than 0, and has lower stamps
-abbrev pub AreToLearn : ℕ → List Seat → Type 0
-AreToLearn stamp seats = (i : ℕ) (s : Seat) → 0 < i → slice_get seats i ≡ Some s → (s.worker.me ≢ 0) × (s.worker.log.last < stamp)
+abbrev pub AreToLearn : {D : Type 0} → ℕ → List (Seat D) → Type 0
+AreToLearn {D} stamp seats = (i : ℕ) (s : Seat D) → 0 < i → slice_get seats i ≡ Some s → (s.worker.me ≢ 0) × (s.worker.log.last < stamp)
 
 -- ---- a node
 
 -- each thread's log is as before, but that of thread 0 has the Shutdown more
-pub record AddsShutdown (old new : Node) : Type 0 where
+pub record AddsShutdown {D : Type 0} (old new : Node D) : Type 0 where
   pub stamp : ℕ
-  pub each : (t : ℕ) (a b : Seat) → slice_get old.seats.items t ≡ Some a → slice_get new.seats.items t ≡ Some b → entries_in b ≡ entries_in a ++ shutdown_by stamp t
+  pub each : (t : ℕ) (a b : Seat D) → slice_get old.seats.items t ≡ Some a → slice_get new.seats.items t ≡ Some b → entries_in b ≡ entries_in a ++ shutdown_by stamp t
 
 -- its seats, its wires, its schedule, and whether the Shutdown came
-pub record IsUnchanged (old new : Node) : Type 0 where
+pub record IsUnchanged {D : Type 0} (old new : Node D) : Type 0 where
   pub seats : new.seats.items ≡ old.seats.items
   pub wires : new.wires ≡ old.wires
   pub schedule : new.schedule ≡ old.schedule

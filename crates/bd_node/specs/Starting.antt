@@ -7,7 +7,7 @@ use Rattle.bd_wires.specs.declared.wires.Passes.{Passes}
 use Rattle.bd_node.specs.declared.seat.Seat.{Seat}
 
 -- thread number `me` before any entry, with these passes
-pub record IsNewSeat (me : ℕ) (setup : Setup) (passes : Passes) (s : Seat) : Type 0 where
+pub record IsNewSeat {D : Type 0} (me : ℕ) (setup : Setup) (passes : Passes) (s : Seat D) : Type 0 where
   pub me_is : s.worker.me ≡ me
   pub thread : IsNew me setup s.worker.thread
   pub tickets : KeepsTickets s.worker.thread
@@ -20,5 +20,5 @@ pub record IsNewSeat (me : ℕ) (setup : Setup) (passes : Passes) (s : Seat) : T
   pub goes : s.halted ≡ None
 
 -- each seat so far has the passes at its place
-pub record AreNewSeats (setup : Setup) (passes : List Passes) (seats : List Seat) : Type 0 where
-  pub each : (i : ℕ) (s : Seat) (q : Passes) → slice_get seats i ≡ Some s → slice_get passes i ≡ Some q → IsNewSeat i setup q s
+pub record AreNewSeats {D : Type 0} (setup : Setup) (passes : List Passes) (seats : List (Seat D)) : Type 0 where
+  pub each : (i : ℕ) (s : Seat D) (q : Passes) → slice_get seats i ≡ Some s → slice_get passes i ≡ Some q → IsNewSeat i setup q s

@@ -37,47 +37,47 @@ IdlesWith lent old new (Moved n) = Unit {0}
 -- ---- a seat
 
 -- posts of its ring came, until its queue was full or the ring empty
-pub record Receives (old new : Seat) : Type 0 where
+pub record Receives {D : Type 0} (old new : Seat D) : Type 0 where
   pub fetched : Fetched old.worker.me old.passes.take old.worker.log old.worker.links.queues.items new.passes.take new.worker.log new.worker.links.queues.items
   pub all : HasFetchedAll old.worker.me new.passes.take new.worker.links.queues.items
   pub links : new.worker.links ≡ record old.worker.links { queues = new.worker.links.queues }
   pub thread : new.worker.thread ≡ old.worker.thread
 
 -- what was in its queues to others went into their rings, as far as these took it
-pub record Sends (old new : Seat) : Type 0 where
+pub record Sends {D : Type 0} (old new : Seat D) : Type 0 where
   pub flushed : FlushedAll old.worker.me old.worker.log.last old.passes.sends.items old.worker.links.queues.items new.passes.sends.items new.worker.links.queues.items
   pub links : new.worker.links ≡ record old.worker.links { queues = new.worker.links.queues }
   pub thread : new.worker.thread ≡ old.worker.thread
 
 -- lent some registry, quiet is answered where it waits altogether; nothing changes where the registry was away
-abbrev pub IdlesIfLent : Seat → Seat → Option Turned → Type 0
+abbrev pub IdlesIfLent : {D : Type 0} → Seat D → Seat D → Option Turned → Type 0
 IdlesIfLent old new None = (new ≡ old) × WasAway old.passes.slot
 IdlesIfLent old new (Some turned) = (lent : Registered) × IdlesWith lent old.worker new.worker turned
 
 -- it waits altogether, or, where it doesn't want the registry or that was away, for all but what it would ask it
-abbrev pub IsIdleSeat : Seat → Seat → Type 0
+abbrev pub IsIdleSeat : {D : Type 0} → Seat D → Seat D → Type 0
 IsIdleSeat old new =
     (((wants_registry old.worker.thread old.worker.links ≡ false) ⊎ WasAway old.passes.slot) × IsIdleAlone old.worker new.worker)
     ⊎ ((lent : Registered) × IsIdleWith lent old.worker new.worker)
 
-abbrev pub Idles : Seat → Seat → Turned → Type 0
+abbrev pub Idles : {D : Type 0} → Seat D → Seat D → Turned → Type 0
 Idles old new Quiet = IsIdleSeat old new
 Idles old new (Moved n) = Unit {0}
 
 -- a quiet turn: posts came, there was nothing to do, and what was to be sent went
-pub record IsQuietTurn (old new : Seat) : Type 0 where
-  pub came : Seat
-  pub still : Seat
+pub record IsQuietTurn {D : Type 0} (old new : Seat D) : Type 0 where
+  pub came : Seat D
+  pub still : Seat D
   pub receives : Receives old came
   pub idle : IsIdleSeat came still
   pub sends : Sends still new
 
-abbrev pub QuietTurns : Seat → Seat → Turned → Type 0
+abbrev pub QuietTurns : {D : Type 0} → Seat D → Seat D → Turned → Type 0
 QuietTurns old new Quiet = IsQuietTurn old new
 QuietTurns old new (Moved n) = Unit {0}
 
 -- ---- a node
 
 -- so it is with the seat of this thread
-abbrev pub TurnsQuietly : ℕ → Node → Node → Turned → Type 0
-TurnsQuietly thread old new turned = (a b : Seat) → slice_get old.seats.items thread ≡ Some a → slice_get new.seats.items thread ≡ Some b → QuietTurns a b turned
+abbrev pub TurnsQuietly : {D : Type 0} → ℕ → Node D → Node D → Turned → Type 0
+TurnsQuietly {D} thread old new turned = (a b : Seat D) → slice_get old.seats.items thread ≡ Some a → slice_get new.seats.items thread ≡ Some b → QuietTurns a b turned

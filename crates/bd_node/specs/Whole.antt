@@ -23,16 +23,16 @@ use Rattle.bd_node.specs.Seats.{made_by, Sits}
 -- ---- all seats
 
 -- thread i sits in its phase, knows whether the Shutdown came, and doesn't halt
-pub record IsIn (setup : Setup) (w : Wires) (shut : Bool) (phases : ℕ → Phase) (i : ℕ) (s : Seat) : Type 0 where
+pub record IsIn {D : Type 0} (setup : Setup) (w : Wires) (shut : Bool) (phases : ℕ → Phase) (i : ℕ) (s : Seat D) : Type 0 where
   pub sits : Sits setup i (phases i) w s
   pub flag : s.worker.links.shut ≡ shut
   pub goes : s.halted ≡ None
 
 -- each thread of the setup sits at its place
-pub record AreSeated (setup : Setup) (w : Wires) (seats : List Seat) (shut : Bool) (phases : ℕ → Phase) : Type 0 where
+pub record AreSeated {D : Type 0} (setup : Setup) (w : Wires) (seats : List (Seat D)) (shut : Bool) (phases : ℕ → Phase) : Type 0 where
   pub some : 0 < setup.threads
   pub len : length seats ≡ setup.threads
-  pub each : (i : ℕ) (s : Seat) → slice_get seats i ≡ Some s → IsIn setup w shut phases i s
+  pub each : (i : ℕ) (s : Seat D) → slice_get seats i ≡ Some s → IsIn setup w shut phases i s
 
 -- ---- their phases
 
@@ -49,86 +49,86 @@ abbrev pub ArePhases : Setup → Bool → (ℕ → Phase) → Type 0
 ArePhases setup false phases = (t : ℕ) → phases t ≡ first_phase setup t
 ArePhases setup true phases = AreShut setup phases
 
-pub record IsNode (n : Node) : Type 0 where
+pub record IsNode {D : Type 0} (n : Node D) : Type 0 where
   pub phases : ℕ → Phase
   pub seated : AreSeated n.setup.now n.wires n.seats.items n.shut phases
   pub phases_are : ArePhases n.setup.now n.shut phases
 
-abbrev pub seat_goes : Seat → Bool
+abbrev pub seat_goes : {D : Type 0} → Seat D → Bool
 seat_goes s = is_none s.halted
 
 abbrev pub is_spent : Option SeatNo → Bool
 is_spent (Some StampsSpent) = true
 is_spent _ = false
 
-abbrev pub seat_has_stamps : Seat → Bool
+abbrev pub seat_has_stamps : {D : Type 0} → Seat D → Bool
 seat_has_stamps s = not (is_spent s.halted)
 
 -- why seats have to halt, where some have to: a thread's stamps are spent, or there was no memory
-abbrev pub halt_of : List Seat → SeatNo
+abbrev pub halt_of : {D : Type 0} → List (Seat D) → SeatNo
 halt_of seats = cond (list_all seat_has_stamps seats) OutOfMemory StampsSpent
 
 -- whichever setup's threads sat at their places sit there still, where none has to halt
-abbrev pub StaySeated : Wires → List Seat → List Seat → Type 0
+abbrev pub StaySeated : {D : Type 0} → Wires → List (Seat D) → List (Seat D) → Type 0
 StaySeated w old new = list_all seat_goes new ≡ true → (setup : Setup) (shut : Bool) (phases : ℕ → Phase) → AreSeated setup w old shut phases → AreSeated setup w new shut phases
 
 -- ---- how far it is
 
-abbrev pub seat_rests : Seat → Bool
+abbrev pub seat_rests : {D : Type 0} → Seat D → Bool
 seat_rests s = rests s.worker.thread s.worker.links
 
-abbrev pub seat_is_blocked : Seat → Bool
+abbrev pub seat_is_blocked : {D : Type 0} → Seat D → Bool
 seat_is_blocked s = is_blocked s.worker.thread s.worker.links
 
-abbrev pub seat_has_destructed : Seat → Bool
+abbrev pub seat_has_destructed : {D : Type 0} → Seat D → Bool
 seat_has_destructed s = has_destructed_all s.worker.thread
 
 -- as many messages were taken as were put, from the one to the other
-abbrev pub has_taken : Seat → Seat → Bool
+abbrev pub has_taken : {D : Type 0} → Seat D → Seat D → Bool
 has_taken from to = count_at from.worker.thread.part.put to.worker.me == count_at to.worker.thread.part.taken from.worker.me
 
-abbrev pub are_all_taken : List Seat → Bool
+abbrev pub are_all_taken : {D : Type 0} → List (Seat D) → Bool
 are_all_taken seats = list_all (λ from. list_all (λ to. has_taken from to) seats) seats
 
 -- no token is on a thread, nothing is still to be put or done, no handle is still to be closed, and no message is on its way
-abbrev pub is_at_rest : Node → Bool
+abbrev pub is_at_rest : {D : Type 0} → Node D → Bool
 is_at_rest n = list_all seat_rests n.seats.items && are_all_taken n.seats.items
 
 -- at rest, and each script is at its end or waits
-abbrev pub is_idle : Node → Bool
+abbrev pub is_idle : {D : Type 0} → Node D → Bool
 is_idle n = is_at_rest n && list_all seat_is_blocked n.seats.items
 
 -- at rest, and each device was destructed
-abbrev pub is_over : Node → Bool
+abbrev pub is_over : {D : Type 0} → Node D → Bool
 is_over n = is_at_rest n && list_all seat_has_destructed n.seats.items
 
-abbrev pub state_of : Node → NodeState
+abbrev pub state_of : {D : Type 0} → Node D → NodeState
 state_of n = cond n.shut (cond (is_over n) Done Busy) (cond (is_idle n) Idle Busy)
 
 -- ---- what a caller sees of a node
 
 -- the log of each thread, as a part of what happened
-abbrev pub log_in : Seat → Written
+abbrev pub log_in : {D : Type 0} → Seat D → Written
 log_in s = s.worker.log
 
-abbrev pub logs_of : Node → List Part
+abbrev pub logs_of : {D : Type 0} → Node D → List Part
 logs_of n = map log_part (map log_in n.seats.items)
 
 -- how many entries all threads have made
-abbrev pub entries_made : Node → ℕ
+abbrev pub entries_made : {D : Type 0} → Node D → ℕ
 entries_made n = sum_by made_by n.seats.items
 
 -- the setup that it plays
-abbrev pub setup_in : Node → Setup
+abbrev pub setup_in : {D : Type 0} → Node D → Setup
 setup_in n = n.setup.now
 
 -- the number at which its generator of turns stands
-abbrev pub seed_of : Node → ℕ
+abbrev pub seed_of : {D : Type 0} → Node D → ℕ
 seed_of n = n.schedule.state
 
-abbrev pub HasSameSetup : Node → Node → Type 0
+abbrev pub HasSameSetup : {D : Type 0} → Node D → Node D → Type 0
 HasSameSetup old new = new.setup ≡ old.setup
 
 -- the Shutdown came, or not, as before
-abbrev pub HasSameFlag : Node → Node → Type 0
+abbrev pub HasSameFlag : {D : Type 0} → Node D → Node D → Type 0
 HasSameFlag old new = new.shut ≡ old.shut

@@ -4,7 +4,7 @@ ghost use Rattle.bd_node.specs.Seats.{AllWentOn, SitsOrHalts};
 
 use crate::seat::Seat;
 use crate::sharing::Deal;
-use bd_outside::Gate;
+use bd_outside::{Disk, Gate};
 use bd_wires::Wires;
 use std::alloc::Global;
 use std::sync::Wait;
@@ -36,7 +36,7 @@ impl<'g, G: Gate> Watch<'g, G> {
     }
 
     // The reactor to which these seats are dealt.
-    fn reactor_of(&self, seats: &[Seat]) -> u32 {
+    fn reactor_of<D>(&self, seats: &[Seat<D>]) -> u32 {
         match seats {
             [] => 0,
             [first, ..] => self.deal.place(first.worker.me).0,
@@ -78,12 +78,12 @@ impl<'w, 'g, G: Gate> Crew<'w, 'g, G> {
 
     // A turn of the seat at this place, before which the reactor passes the gate. True where it moved: the reactor
     // is at work from then on.
-    fn turn<W: Wait>(
+    fn turn<W: Wait, D: Disk>(
         &mut self,
         rt: &W,
         alloc: Global,
         wires: &Wires,
-        seats: &mut [Seat],
+        seats: &mut [Seat<D>],
         place: usize,
     ) -> bool
         requires within { place < length seats.old }
@@ -101,12 +101,12 @@ impl<'w, 'g, G: Gate> Crew<'w, 'g, G> {
     }
 
     // A turn of the seat at this place, and where it moved one more of the first. True where it moved.
-    fn turn_then_first<W: Wait>(
+    fn turn_then_first<W: Wait, D: Disk>(
         &mut self,
         rt: &W,
         alloc: Global,
         wires: &Wires,
-        seats: &mut [Seat],
+        seats: &mut [Seat<D>],
         place: usize,
     ) -> bool
         requires within { place < length seats.old }
@@ -122,7 +122,13 @@ impl<'w, 'g, G: Gate> Crew<'w, 'g, G> {
 
     // A pass: each seat has a turn, and after each that moved the first has one more. A device's home is the thread
     // of its number, so where a home is among them it is mostly the first, and pieces there don't wait for a pass.
-    fn pass<W: Wait>(&mut self, rt: &W, alloc: Global, wires: &Wires, seats: &mut [Seat]) -> bool
+    fn pass<W: Wait, D: Disk>(
+        &mut self,
+        rt: &W,
+        alloc: Global,
+        wires: &Wires,
+        seats: &mut [Seat<D>],
+    ) -> bool
         requires { All (SitsOrHalts wires.now) seats.old }
         ensures { AllWentOn wires.now seats.old seats.new }
     {
@@ -135,12 +141,12 @@ impl<'w, 'g, G: Gate> Crew<'w, 'g, G> {
     }
 
     // A pass; true where the round goes on for the reactor after it.
-    fn pass_once<W: Wait>(
+    fn pass_once<W: Wait, D: Disk>(
         &mut self,
         rt: &W,
         alloc: Global,
         wires: &Wires,
-        seats: &mut [Seat],
+        seats: &mut [Seat<D>],
     ) -> bool
         requires { All (SitsOrHalts wires.now) seats.old }
         ensures { AllWentOn wires.now seats.old seats.new }
@@ -155,7 +161,13 @@ impl<'w, 'g, G: Gate> Crew<'w, 'g, G> {
     }
 
     // Passes, as long as the round goes on.
-    fn work<W: Wait>(&mut self, rt: &W, alloc: Global, wires: &Wires, seats: &mut [Seat])
+    fn work<W: Wait, D: Disk>(
+        &mut self,
+        rt: &W,
+        alloc: Global,
+        wires: &Wires,
+        seats: &mut [Seat<D>],
+    )
         requires { All (SitsOrHalts wires.now) seats.old }
         ensures { AllWentOn wires.now seats.old seats.new }
     {
@@ -171,12 +183,12 @@ impl<'w, 'g, G: Gate> Crew<'w, 'g, G> {
 /// The turns that a reactor gives its seats in a round: passes over all of them, until one in which none moved
 /// while no other reactor was at work, or until 256 in which some moved. It gives turns also while it has nothing
 /// to do itself and others have, so that what they send is taken at once.
-pub(crate) fn give_turns<W: Wait, G: Gate>(
+pub(crate) fn give_turns<W: Wait, G: Gate, D: Disk>(
     rt: &W,
     alloc: Global,
     wires: &Wires,
     watch: &Watch<G>,
-    seats: &mut [Seat],
+    seats: &mut [Seat<D>],
 )
     requires { All (SitsOrHalts wires.now) seats.old }
     ensures { AllWentOn wires.now seats.old seats.new }

@@ -1,13 +1,13 @@
 //! How a node is shut down, and its seats taken apart at the end.
-ghost use Rattle.std.specs.Prelude.{◌≡◌, ◌≢◌, ◌≤◌, ◌<◌, ℕ, All, Some, length, map, slice_get, IfOk, MatchOption};
+ghost use Rattle.std.specs.Prelude.{◌≡◌, ◌≢◌, ◌≤◌, ◌<◌, ◌+◌, ℕ, All, Some, length, map, vec_len, slice_get, IfOk, MatchOption};
 ghost use Rattle.bd_node.specs.Seats.{Continues, IsLentTo, IsSitting};
-ghost use Rattle.bd_node.specs.declared.seat.Seat.{Seat};
 ghost use Rattle.bd_node.specs.Shutting.{AreToLearn, LearnsShut, Shuts, ShutsWith};
 
 use crate::building::abandon_all;
 use crate::seat::Seat;
 use crate::worker::Worker;
 use bd_base::{Act, OutOfMemory};
+use bd_disks::Shelf;
 use bd_log::Log;
 use bd_registry::Registry;
 use bd_seat::{SeatNo, catch_up};
@@ -17,7 +17,7 @@ use std::collections::VecDeque;
 use std::sync::Wait;
 
 /// A stamp that no log's last is above.
-pub(crate) fn greatest<'a>(seats: &[Seat<'a>]) -> u128
+pub(crate) fn greatest<'a, D>(seats: &[Seat<'a, D>]) -> u128
     ensures { All (λ s. s.worker.log.last ≤ result) seats.now }
 {
     let mut greatest = 0;
@@ -51,7 +51,7 @@ impl<'a> Worker<'a> {
     }
 }
 
-impl<'a> Seat<'a> {
+impl<'a, D> Seat<'a, D> {
     /// Thread 0 shuts down, with a stamp above this one, which it answers. None where the registry wasn't in its
     /// slot; then nothing changes.
     pub fn shut<W: Wait>(
@@ -86,22 +86,24 @@ impl<'a> Seat<'a> {
 }
 
 /// All threads but the first learn of the Shutdown.
-pub(crate) fn learn_all<'a>(seats: &mut [Seat<'a>], stamp: u128)
+pub(crate) fn learn_all<'a, D>(seats: &mut [Seat<'a, D>], stamp: u128)
     requires { AreToLearn stamp seats.old }
     ensures len { length seats.new ≡ length seats.old }
     ensures first { slice_get seats.new 0 ≡ slice_get seats.old 0 }
-    ensures others { (i : ℕ) (a b : Seat) → 0 < i → slice_get seats.old i ≡ Some a → slice_get seats.new i ≡ Some b → LearnsShut stamp a b }
+    ensures others { (i : ℕ) (a b : _) → 0 < i → slice_get seats.old i ≡ Some a → slice_get seats.new i ≡ Some b → LearnsShut stamp a b }
 {
     for place in 1..seats.len() {
         seats[place].learn_shut(stamp);
     }
 }
 
-/// The logs and the passes of all seats, in their order; their tickets are abandoned.
-pub(crate) fn take_all_apart<'a>(
+/// The logs and the passes of all seats, in their order. Their disks go on the shelf, and their tickets are abandoned.
+pub(crate) fn take_all_apart<'a, D>(
     alloc: Global,
-    seats: Vec<Seat<'a>>,
+    seats: Vec<Seat<'a, D>>,
+    shelf: &mut Shelf<D>,
 ) -> Result<(Vec<Log>, Vec<Passes>), OutOfMemory>
+    requires { vec_len seats + length shelf.old.items ≤ shelf.old.capacity }
     ensures logs { IfOk result (λ r. r.0.items ≡ map (λ s. s.worker.log) seats.entry.items) }
     ensures passes { IfOk result (λ r. r.1.items ≡ map (λ s. s.passes) seats.entry.items) }
 {
@@ -109,9 +111,9 @@ pub(crate) fn take_all_apart<'a>(
     let mut passes = Vec::new(alloc);
     let mut left = VecDeque::from(seats);
     while let Some(seat) = left.pop_front() {
-        let (log, own) = seat.take_apart();
+        let (log, own) = seat.take_apart(shelf);
         if logs.push(log).is_err() || passes.push(own).is_err() {
-            abandon_all(left.into());
+            abandon_all(left.into(), shelf);
             return Err(OutOfMemory);
         }
     }

@@ -4,6 +4,7 @@
 
 mod building;
 mod crew;
+mod driving;
 mod ending;
 mod history;
 mod node;

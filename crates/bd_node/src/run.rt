@@ -1,5 +1,5 @@
 //! A whole run.
-ghost use Rattle.std.specs.Prelude.{◌≡◌, ◌<◌, [], true, IfOk, OnOk};
+ghost use Rattle.std.specs.Prelude.{◌≡◌, ◌<◌, ◌≤◌, [], true, length, IfOk, OnOk};
 ghost use Rattle.bd_machine.specs.Run.{IsCompleteRun};
 ghost use Rattle.bd_node.specs.declared.node.NodeState.TheVariants as states;
 ghost use Rattle.bd_node.specs.Schedule.{seed_by};
@@ -8,7 +8,8 @@ ghost use Rattle.bd_node.specs.Whole.{HasSameSetup, IsNode, state_of};
 use crate::history::History;
 use crate::node::{Node, NodeState};
 use bd_base::{OutOfMemory, Setup};
-use bd_outside::Gate;
+use bd_disks::Shelf;
+use bd_outside::{Disk, Gate};
 use bd_seat::SeatNo;
 use std::alloc::Global;
 use std::sync::Wait;
@@ -36,9 +37,9 @@ impl Drive {
 }
 
 // Rounds until every script is blocked and the node was shut, and then until it is done.
-fn play_out<'a, R: Threads + Wait + Sync, G: Gate + Sync>(
+fn play_out<'a, R: Threads + Wait + Sync, G: Gate + Sync, D: Disk + Send>(
     rt: &R,
-    node: &mut Node<'a>,
+    node: &mut Node<'a, D>,
     drive: Drive,
     gate: &G,
 ) -> Result<(), SeatNo>
@@ -66,23 +67,27 @@ fn play_out<'a, R: Threads + Wait + Sync, G: Gate + Sync>(
 
 /// Plays the setup's scripts to their end on as many threads as it has: however they are driven, what is
 /// returned is a complete run of the machine. It answers out of memory also where a number of a thread
-/// runs out, as after 2^62 requests or 2^128 stamps.
-pub fn play<R: Threads + Wait + Sync, G: Gate + Sync>(
+/// runs out, as after 2^62 requests or 2^128 stamps. The disks are those of each thread, in the order of the
+/// threads' numbers, and are given back however the run ends, in some order.
+pub fn play<R: Threads + Wait + Sync, G: Gate + Sync, D: Disk + Send>(
     rt: &R,
     alloc: Global,
     setup: &Setup,
+    disks: Shelf<D>,
     drive: Drive,
     gate: &G,
-) -> Result<History, OutOfMemory>
-    requires { 0 < setup.now.threads }
-    ensures { IfOk result (λ history. IsCompleteRun setup.now [] history) }
+) -> (Result<History, OutOfMemory>, Shelf<D>)
+    requires some { 0 < setup.now.threads }
+    requires disks { length disks.items ≡ setup.now.threads }
+    requires room { setup.now.threads ≤ disks.capacity }
+    ensures { IfOk result.0 (λ history. IsCompleteRun setup.now [] history) }
 {
-    let mut node = Node::build(rt, alloc, setup, drive.seed())?;
+    let mut node = match Node::build(rt, alloc, setup, disks, drive.seed()) {
+        Ok(node) => node,
+        Err((no, shelf)) => return (Err(no), shelf),
+    };
     match play_out(rt, &mut node, drive, gate) {
         Ok(()) => node.settle(rt),
-        Err(_) => {
-            node.abandon();
-            Err(OutOfMemory)
-        }
+        Err(_) => (Err(OutOfMemory), node.abandon()),
     }
 }

@@ -1,32 +1,40 @@
-//! A seat: a worker with its passes for the rings and the slot.
-ghost use Rattle.std.specs.Prelude.{◌≡◌};
+//! A seat: a worker with its passes for the rings and the slot, and the disks of its thread.
+ghost use Rattle.std.specs.Prelude.{◌≡◌, ◌≤◌, ◌<◌, ◌++◌, ◌∷◌, [], length};
 
 use crate::worker::Worker;
+use bd_disks::{Disks, Shelf};
 use bd_log::Log;
 use bd_seat::SeatNo;
 use bd_wires::Passes;
 
 /// A thread of the node with all that it has.
-pub(crate) struct Seat<'a> {
+pub(crate) struct Seat<'a, D> {
     pub worker: Worker<'a>,
     pub passes: Passes,
     /// How many rows of the registry's journal it saw.
     pub seen: usize,
     /// Why it has to halt, if it has.
     pub halted: Option<SeatNo>,
+    /// The disks of its thread's aio devices.
+    pub disks: Disks<D>,
 }
 
-impl<'a> Seat<'a> {
-    /// Its log and its passes; its tickets are abandoned, and all else is dropped.
-    pub fn take_apart(self) -> (Log, Passes)
+impl<'a, D> Seat<'a, D> {
+    /// Its log and its passes. Its disks go on the shelf, behind the others, its tickets are abandoned, and all else
+    /// is dropped.
+    pub fn take_apart(self, shelf: &mut Shelf<D>) -> (Log, Passes)
+        requires { length shelf.old.items < shelf.old.capacity }
         ensures log { result.0 ≡ self.entry.worker.log }
         ensures passes { result.1 ≡ self.entry.passes }
+        ensures disks { shelf.new.items ≡ shelf.old.items ++ self.entry.disks ∷ [] }
+        ensures capacity { shelf.old.capacity ≤ shelf.new.capacity }
     {
         let Seat {
             worker,
             passes,
             seen: _,
             halted: _,
+            disks,
         } = self;
         let Worker {
             me: _,
@@ -35,6 +43,7 @@ impl<'a> Seat<'a> {
             log,
         } = worker;
         thread.abandon();
+        shelf.put(disks);
         (log, passes)
     }
 }

@@ -6,7 +6,7 @@ ghost use Rattle.bd_node.specs.Whole.{StaySeated};
 
 use crate::crew::{Watch, give_turns};
 use crate::seat::Seat;
-use bd_outside::Gate;
+use bd_outside::{Disk, Gate};
 use bd_wires::Wires;
 use std::alloc::Global;
 use std::sync::Wait;
@@ -53,14 +53,14 @@ impl Deal {
 }
 
 // The seats of the first reactor come first, then those of the next.
-fn deal_out<'a>(deal: &Deal, seats: &mut [Seat<'a>])
+fn deal_out<'a, D>(deal: &Deal, seats: &mut [Seat<'a, D>])
     ensures { IsPermutation seats.old seats.new }
 {
     seats.sort_unstable_by_key(|seat| deal.place(seat.worker.me));
 }
 
 // The seats in the order of their numbers.
-fn gather<'a>(seats: &mut [Seat<'a>])
+fn gather<'a, D>(seats: &mut [Seat<'a, D>])
     ensures same { IsPermutation seats.old seats.new }
     ensures sorted { IsNonDecreasingBy number_in seats.new }
 {
@@ -68,13 +68,13 @@ fn gather<'a>(seats: &mut [Seat<'a>])
 }
 
 // Each reactor gives its seats their turns: each has this number of neighbours, the last the rest.
-fn turn_each<R: Threads + Wait + Sync, G: Gate + Sync>(
+fn turn_each<R: Threads + Wait + Sync, G: Gate + Sync, D: Disk + Send>(
     rt: &R,
     alloc: Global,
     wires: &Wires,
     watch: &Watch<G>,
     each: usize,
-    seats: &mut [Seat],
+    seats: &mut [Seat<D>],
 )
     requires some { 0 < each }
     requires sits { All (IsSitting wires.now) seats.old }
@@ -85,18 +85,18 @@ fn turn_each<R: Threads + Wait + Sync, G: Gate + Sync>(
         rt,
         seats,
         each,
-        &|_, crew: &mut [Seat]| { give_turns(rt, alloc, wires, watch, crew) },
+        &|_, crew: &mut [Seat<D>]| { give_turns(rt, alloc, wires, watch, crew) },
     );
 }
 
 /// Each seat has its turns of a round, by the reactor to which its thread is dealt.
-pub(crate) fn turn_all<R: Threads + Wait + Sync, G: Gate + Sync>(
+pub(crate) fn turn_all<R: Threads + Wait + Sync, G: Gate + Sync, D: Disk + Send>(
     rt: &R,
     alloc: Global,
     wires: &Wires,
     watch: &Watch<G>,
     deal: Deal,
-    seats: &mut [Seat],
+    seats: &mut [Seat<D>],
 )
     requires some { 0 < deal.each }
     requires sits { All (IsSitting wires.now) seats.old }

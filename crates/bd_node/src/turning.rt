@@ -4,13 +4,14 @@ ghost use Rattle.bd_node.specs.Seats.{made_by, Continues, HasSameEntries, IsSitt
 ghost use Rattle.bd_node.specs.Waits.{Idles, IdlesAlone, IdlesIfLent, QuietTurns, Receives, Sends};
 
 use crate::seat::Seat;
+use bd_outside::Disk;
 use bd_seat::{SeatNo, fetch, flush_all};
 use bd_thread::Turned;
 use bd_wires::Wires;
 use std::alloc::Global;
 use std::sync::Wait;
 
-impl<'a> Seat<'a> {
+impl<'a, D: Disk> Seat<'a, D> {
     // Posts of its ring come into its queue.
     fn receive<W: Wait>(&mut self, rt: &W, wires: &Wires) -> Result<(), SeatNo>
         requires { IsSitting wires.now self.old }
@@ -66,7 +67,9 @@ impl<'a> Seat<'a> {
         let Some(mut lent) = wires.slot.try_take(rt, &mut self.passes.slot) else {
             return Ok(None);
         };
-        let turned = self.worker.work_with(alloc, &mut lent, self.seen)?;
+        let turned = self
+            .worker
+            .work_with(alloc, &mut self.disks, &mut lent, self.seen)?;
         self.seen = lent.journal().len();
         wires.slot.give(rt, &mut self.passes.slot, lent);
         Ok(Some(turned))
@@ -79,7 +82,7 @@ impl<'a> Seat<'a> {
         ensures turned { IfOk result (Tells (made_by self.old) (made_by self.new)) }
         ensures quiet { IfOk result (IdlesAlone self.old.worker self.new.worker) }
     {
-        self.worker.work(alloc)
+        self.worker.work(alloc, &mut self.disks)
     }
 
     // A turn with the registry, where the thread wants it and it is in its slot; else one without.

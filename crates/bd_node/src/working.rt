@@ -6,8 +6,11 @@ ghost use Rattle.bd_node.specs.Waits.{IdlesAlone, IdlesWith};
 
 use crate::worker::Worker;
 use bd_base::{Entry, Rows};
+use bd_disks::Disks;
+use bd_outside::Disk;
 use bd_registry::Registry;
 use bd_seat::{SeatNo, append_all, catch_up, take_over};
+use bd_storage::{turn_with_disks, work_with_disks};
 use bd_thread::Turned;
 use std::alloc::Global;
 use std::mem;
@@ -28,24 +31,25 @@ impl<'a> Worker<'a> {
         mem::replace(&mut self.links.entries, Rows::new(alloc))
     }
 
-    /// A turn that asks the registry for nothing. What it did is in the log.
-    pub fn work(&mut self, alloc: Global) -> Result<Turned, SeatNo>
+    /// A turn with the thread's disks that asks the registry for nothing. What it did is in the log.
+    pub fn work<D: Disk>(&mut self, alloc: Global, disks: &mut Disks<D>) -> Result<Turned, SeatNo>
         requires { IsWorking self.old }
         ensures goes { OnOk result (GoesAlone self.old self.new) }
         ensures turned { IfOk result (Tells (made_in self.old) (made_in self.new)) }
         ensures quiet { IfOk result (IdlesAlone self.old self.new) }
     {
-        let turned = self.thread.work(&mut self.links)?;
+        let turned = work_with_disks(&mut self.thread, &mut self.links, disks)?;
         let entries = self.take_entries(alloc);
         append_all(&mut self.log, entries)?;
         Ok(turned)
     }
 
-    /// A turn with the registry, of whose journal the thread saw this number of rows. What it did is in the
+    /// A turn with the registry, of whose journal the thread saw this number of rows, and with the thread's disks. What it did is in the
     /// log, and its events are in the registry.
-    pub fn work_with(
+    pub fn work_with<D: Disk>(
         &mut self,
         alloc: Global,
+        disks: &mut Disks<D>,
         lent: &mut Registry,
         seen: usize,
     ) -> Result<Turned, SeatNo>
@@ -57,7 +61,7 @@ impl<'a> Worker<'a> {
         self.log.meet(lent.last_stamp());
         let _rows = lent.journal();
         catch_up(alloc, &mut self.links.registry, lent, seen)?;
-        let turned = self.thread.turn(&mut self.links)?;
+        let turned = turn_with_disks(&mut self.thread, &mut self.links, disks)?;
         let entries = self.take_entries(alloc);
         take_over(alloc, self.me, &mut self.log, lent, entries)?;
         Ok(turned)

@@ -21,6 +21,13 @@ pub enum CalmDisk {
 impl Disk for CalmDisk {
     ghost state = { calm_state };
 
+    fn block_size(&self) -> u32 {
+        match self {
+            CalmDisk::Kept(disk) => disk.block_size(),
+            CalmDisk::Beyond { block_size, .. } => *block_size,
+        }
+    }
+
     fn blocks(&self) -> u64 {
         match self {
             CalmDisk::Kept(disk) => disk.blocks(),

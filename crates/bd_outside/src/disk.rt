@@ -10,6 +10,10 @@ pub trait Disk {
     // its blocks, its counts, and its place among the openings of its host
     ghost state: { Self → DiskState };
 
+    /// The bytes of a block.
+    fn block_size(&self) -> u32
+        ensures { result ≡ (state self.now).block_size };
+
     /// How many blocks it has.
     fn blocks(&self) -> u64
         ensures { result ≡ (state self.now).blocks };

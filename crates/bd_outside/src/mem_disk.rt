@@ -130,6 +130,10 @@ impl MemDisk {
 impl Disk for MemDisk {
     ghost state = { memory_state };
 
+    fn block_size(&self) -> u32 {
+        self.block_size
+    }
+
     fn blocks(&self) -> u64 {
         self.blocks
     }

@@ -86,6 +86,10 @@ impl<F: Read + Write + Seek + OpenFile + Drop> Disk for SystemDisk<F> {
       place = None;
     } };
 
+    fn block_size(&self) -> u32 {
+        self.block_size
+    }
+
     fn blocks(&self) -> u64 {
         self.blocks
     }
@@ -129,7 +133,7 @@ mod tests {
         let Ok(mut disk) = host.open_disk(name.as_str(), 4) else {
             panic!(rt; "no disk");
         };
-        assert_eq!(rt; disk.blocks(), 2);
+        assert!(rt; disk.block_size() == 4 && disk.blocks() == 2);
         let mut both = [0; 8];
         assert!(rt; disk.write(1, b"BBBB") == Ok(()) && disk.flush() == Ok(()));
         assert!(rt; disk.read(0, &mut both) == Ok(()) && both == *b"aaaaBBBB");

@@ -1,5 +1,8 @@
-use Rattle.std.proofs.Common.{vec_len}
+use Rattle.std.proofs.Common.{◌+◌, ◌≤◌, length, vec_len}
 use Rattle.bd_node.proofs.building.abandon_all.Given as goal
 
+abbrev pub invariant-loop-seat : goal.invariant-loop-seat
+invariant-loop-seat g l = vec_len l.left + length l.shelf.items ≤ l.shelf.capacity
+
 abbrev pub decreases-loop-seat : goal.decreases-loop-seat
-decreases-loop-seat l = vec_len l.left
+decreases-loop-seat g l = vec_len l.left

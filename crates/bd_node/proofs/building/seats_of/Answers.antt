@@ -9,7 +9,7 @@ use Rattle.bd_node.proofs.Starts.{at_drop, drop_next, new_more}
 use Rattle.bd_node.proofs.building.seats_of.Goals as goal
 
 pub loop-me-preserved : goal.loop-me-preserved
-loop-me-preserved c =
+loop-me-preserved g c =
     let i = c.loop-me.invariant in
     let items = c.in_default.ensures.items in
     let seats = c.loop-me.seats.items in
@@ -19,12 +19,14 @@ loop-me-preserved c =
     let pass = c.remove.result in
     let seat = c.in-Ok.seat in
     let many : length left ≡ length passes - me = ap (λ (qs : List Passes). length qs) i.left ∙ length-drop me passes in
-    let all : length passes ≡ c.args.setup.now.threads = (let e : vec_len c.args.passes ≡ length c.args.passes.items = search rules in sym e ∙ c.requires) in
+    let all : length passes ≡ c.args.setup.now.threads = (let e : vec_len c.args.passes ≡ length c.args.passes.items = search rules in sym e ∙ c.requires.passes) in
     let some : 0 < length left = omega arith in
     let at : slice_get passes me ≡ Some pass =
     sym (at_drop passes me) ∙ ap (λ (qs : List Passes). slice_get qs 0) (sym i.left) ∙ slice_get_read left (length left) 0 pass refl some c.remove.ensures.value in
     record {
-      len = ap (λ (ss : List Seat). length ss) items ∙ length-append seats (seat ∷ []) ∙ ap (λ (n : ℕ). n + 1) i.len;
+      len = ap (λ (ss : List (Seat g.row.D.Denot)). length ss) items ∙ length-append seats (seat ∷ []) ∙ ap (λ (n : ℕ). n + 1) i.len;
       left = c.remove.ensures.items ∙ ap (λ (qs : List Passes). drop 1 qs) i.left ∙ drop_next passes me;
-      each = subst (λ (ss : List Seat). AreNewSeats c.args.setup.now passes ss) (sym items) (new_more c.args.setup.now passes seats me seat pass i.len i.each at c.in-Ok.ensures);
+      many = omega (arith, c.in-Ok.ensures.rest, i.many);
+      room = omega (arith, c.in-Ok.ensures.capacity, i.room);
+      each = subst (λ (ss : List (Seat g.row.D.Denot)). AreNewSeats c.args.setup.now passes ss) (sym items) (new_more c.args.setup.now passes seats me seat pass i.len i.each at c.in-Ok.ensures.new);
     }

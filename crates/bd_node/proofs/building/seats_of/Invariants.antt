@@ -1,10 +1,12 @@
-use Rattle.std.proofs.Common.{◌≡◌, drop, length}
+use Rattle.std.proofs.Common.{◌≡◌, ◌+◌, ◌≤◌, drop, length}
 use Rattle.bd_node.specs.Starting.{AreNewSeats}
 use Rattle.bd_node.proofs.building.seats_of.Given as goal
 
 abbrev pub invariant-loop-me : goal.invariant-loop-me
-invariant-loop-me l = record {
+invariant-loop-me g l = record {
   len : length l.seats.items ≡ l.me;
   left : l.left.items ≡ drop l.me l.initial.left.items;
+  many : length l.shelf.items + l.me ≡ l.setup.threads;
+  room : l.setup.threads ≤ l.shelf.capacity;
   each : AreNewSeats l.setup l.initial.left.items l.seats.items;
 }

@@ -2,4 +2,4 @@ use Rattle.std.proofs.Common.{◌≤◌, All, take}
 use Rattle.bd_node.proofs.ending.greatest.Given as goal
 
 abbrev pub invariant-loop-seat : goal.invariant-loop-seat
-invariant-loop-seat l = All (λ s. s.worker.log.last ≤ l.greatest) (take l.seat-index l.seats)
+invariant-loop-seat g l = All (λ s. s.worker.log.last ≤ l.greatest) (take l.seat-index l.seats)

@@ -5,7 +5,7 @@ use Rattle.bd_node.proofs.Shut.{learnt_more}
 use Rattle.bd_node.proofs.ending.learn_all.Goals as goal
 
 pub loop-place-preserved : goal.loop-place-preserved
-loop-place-preserved c =
+loop-place-preserved g c =
     let i = c.loop-place.invariant in
     let seats = c.loop-place.seats in
     let place = c.loop-place.place in
@@ -20,4 +20,4 @@ loop-place-preserved c =
     }
 
 pub returns-clause-others : goal.returns-clause-others
-returns-clause-others c = λ i a b positive h k. (let lt : i < length c.args.seats.now = is_below c.args.seats.now i a h in c.loop-place.invariant.learnt i a b positive (omega arith) h k)
+returns-clause-others g c = λ i a b positive h k. (let lt : i < length c.args.seats.now = is_below c.args.seats.now i a h in c.loop-place.invariant.learnt i a b positive (omega arith) h k)

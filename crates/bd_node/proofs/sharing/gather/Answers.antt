@@ -4,4 +4,4 @@ use Rattle.bd_node.specs.Seats.{number_in}
 use Rattle.bd_node.proofs.sharing.gather.Goals as goal
 
 pub returns-clause-sorted : goal.returns-clause-sorted
-returns-clause-sorted c = IsNonDecreasingBy-from_sort_by_key number_in _ c.sort_unstable_by_key.ensures.sorted (λ a r q k. search rules)
+returns-clause-sorted g c = IsNonDecreasingBy-from_sort_by_key number_in _ c.sort_unstable_by_key.ensures.sorted (λ a r q k. search rules)

@@ -10,20 +10,15 @@ use Rattle.bd_node.proofs.node.Node.settle.Goals as goal
 
 pub disconnect-registry-requires-clause-linked : goal.disconnect-registry-requires-clause-linked
 disconnect-registry-requires-clause-linked g c =
-    let many : vec_len c.in_ok-logs.passes ≡ length c.in_ok-logs.passes.items = omega arith in
-    passes_fit c.args.self c.requires.node (vec_len c.in_ok-logs.passes) c.in_ok-logs.passes.items many c.in_ok-logs.ensures.passes
+    let many : vec_len c.in-Ok.taken.1 ≡ length c.in-Ok.taken.1.items = omega arith in
+    passes_fit c.args.self c.requires.node (vec_len c.in-Ok.taken.1) c.in-Ok.taken.1.items many c.in-Ok.ensures.passes
 
 pub merge-requires : goal.merge-requires
-merge-requires g c = logs_fit c.args.self c.requires.node c.in_ok-logs.logs.items c.in_ok-logs.ensures.logs
+merge-requires g c = logs_fit c.args.self c.requires.node c.in-Ok.taken.0.items c.in-Ok.ensures.logs
 
-pub returns : goal.returns
-returns g c = record {
-  merged =
-      subst (λ (es : List Entry). IsMerge (logs_of c.args.self) es) (sym (c.of.ensures ∙ c.from_vec.ensures))
-      (subst (λ (ls : List Written). IsMerge (map log_part ls) c.in_ok-merged.merged.items) c.in_ok-logs.ensures.logs c.in_ok-merged.ensures);
-  complete =
-      subst (λ (es : List Entry). IsCompleteRun (setup_in c.args.self) [] es) (sym (c.of.ensures ∙ c.from_vec.ensures))
-      (node_complete c.args.self c.requires.node c.requires.done c.in_ok-logs.logs.items c.in_ok-logs.passes.items c.in_ok-logs.ensures.logs c.in_ok-logs.ensures.passes
-      c.disconnect-registry.ensures.delivered c.disconnect-registry.result c.disconnect-registry.ensures.journal c.journal-journal.ensures.ordered c.journal-journal.ensures.replay
-      c.in_ok-merged.merged.items c.in_ok-merged.ensures);
-}
+pub returns-in-Ok-merge-clause-complete : goal.returns-in-Ok-merge-clause-complete
+returns-in-Ok-merge-clause-complete g c =
+    subst (λ (es : List Entry). IsCompleteRun (setup_in c.args.self) [] es) (sym (c.of.ensures ∙ c.from_vec.ensures))
+    (node_complete c.args.self c.requires.node c.requires.done c.in-Ok.taken.0.items c.in-Ok.taken.1.items c.in-Ok.ensures.logs c.in-Ok.ensures.passes
+    c.disconnect-registry.ensures.delivered c.disconnect-registry.result c.disconnect-registry.ensures.journal c.journal-journal.ensures.ordered c.journal-journal.ensures.replay
+    c.in-Ok-merge.merged.items c.in-Ok-merge.ensures)

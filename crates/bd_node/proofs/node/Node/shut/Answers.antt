@@ -30,8 +30,8 @@ learn_all-requires g c =
     let a = c.index_mut-first.result.now in
     let stamp = c.in-Some.stamp in
     let shut = subst (λ (s : Option ℕ). MatchOption s (c.shut.new.self ≡ a) (λ k. (c.greatest-above.result < k) × Shuts o.wires k a c.shut.new.self)) c.in-Some.is c.in_ok-stamp.ensures.shut in
-    let within = subst (λ (ss : List Seat). All (λ s. s.worker.log.last ≤ c.greatest-above.result) ss) c.as_slice.ensures.value c.greatest-above.ensures in
-    subst (λ (ss : List Seat). AreToLearn stamp ss) (sym c.as_mut_slice.ensures.value)
+    let within = subst (λ (ss : List (Seat g.row.D.Denot)). All (λ s. s.worker.log.last ≤ c.greatest-above.result) ss) c.as_slice.ensures.value c.greatest-above.ensures in
+    subst (λ (ss : List (Seat g.row.D.Denot)). AreToLearn stamp ss) (sym c.as_mut_slice.ensures.value)
     (others_learn o.setup.now o.wires o.seats.items o.shut n.phases c.shut.new.self c.greatest-above.result stamp n.seated within shut.0)
 
 pub returns-clause-node : goal.returns-clause-node
@@ -46,10 +46,10 @@ returns-clause-node g c =
     let v = with_item o.seats 0 c.shut.new.self in
     let many : vec_len o.seats ≡ length o.seats.items = search rules in
     let len : length news ≡ vec_len o.seats =
-    c.learn_all.ensures.len ∙ ap (λ (ss : List Seat). length ss) c.as_mut_slice.ensures.value ∙ length-set o.seats.items 0 c.shut.new.self ∙ sym many in
+    c.learn_all.ensures.len ∙ ap (λ (ss : List (Seat g.row.D.Denot)). length ss) c.as_mut_slice.ensures.value ∙ length-set o.seats.items 0 c.shut.new.self ∙ sym many in
     record {
       phases = all.phases;
-      seated = subst (λ (ss : List Seat). AreSeated o.setup.now o.wires ss true all.phases) (sym (with_items_is v news len)) all.seated;
+      seated = subst (λ (ss : List (Seat g.row.D.Denot)). AreSeated o.setup.now o.wires ss true all.phases) (sym (with_items_is v news len)) all.seated;
       phases_are = all.phases_are;
     }
 
@@ -62,11 +62,11 @@ returns-clause-logs g c =
     let v = with_item o.seats 0 c.shut.new.self in
     let many : vec_len o.seats ≡ length o.seats.items = search rules in
     let len : length news ≡ vec_len o.seats =
-    c.learn_all.ensures.len ∙ ap (λ (ss : List Seat). length ss) c.as_mut_slice.ensures.value ∙ length-set o.seats.items 0 c.shut.new.self ∙ sym many in
+    c.learn_all.ensures.len ∙ ap (λ (ss : List (Seat g.row.D.Denot)). length ss) c.as_mut_slice.ensures.value ∙ length-set o.seats.items 0 c.shut.new.self ∙ sym many in
     record {
       stamp = c.in-Some.stamp;
       each = λ t s s' h k. each_adds o c.in-Some.stamp a c.shut.new.self c.as_mut_slice.result.now news c.requires.node (first_at o a c.requires.node c.index_mut-first.ensures.value) shut.1
-          c.as_mut_slice.ensures.value c.learn_all.ensures.first c.learn_all.ensures.others t s s' h (ap (λ (ss : List Seat). slice_get ss t) (sym (with_items_is v news len)) ∙ k);
+          c.as_mut_slice.ensures.value c.learn_all.ensures.first c.learn_all.ensures.others t s s' h (ap (λ (ss : List (Seat g.row.D.Denot)). slice_get ss t) (sym (with_items_is v news len)) ∙ k);
     }
 
 pub returns-in_default-clause-logs : goal.returns-in_default-clause-logs
@@ -76,7 +76,7 @@ returns-in_default-clause-logs g c =
     let same : c.shut.new.self ≡ a =
     subst (λ (s : Option ℕ). MatchOption s (c.shut.new.self ≡ a) (λ k. (c.greatest-above.result < k) × Shuts o.wires k a c.shut.new.self)) c.in_default.is c.in_ok-stamp.ensures.shut in
     record {
-      seats = ap (λ (s : Seat). set o.seats.items 0 s) (same ∙ c.index_mut-first.ensures.value) ∙ set-get_or o.seats.items 0 a;
+      seats = ap (λ (s : Seat g.row.D.Denot). set o.seats.items 0 s) (same ∙ c.index_mut-first.ensures.value) ∙ set-get_or o.seats.items 0 a;
       wires = refl;
       schedule = refl;
       shut = refl;

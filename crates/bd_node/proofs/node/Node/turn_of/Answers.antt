@@ -1,4 +1,5 @@
-use Rattle.std.proofs.Common.{◌≡◌, ◌<◌, length, Some, refl, rules}
+use Rattle.std.proofs.Common.{◌≡◌, ◌<◌, ◌≤◌, ◌+◌, length, vec_len, Some, refl, ap, rules}
+use Rattle.std.specs.Coded.{le_prop}
 use Rattle.std.specs.List.{slice_get}
 use Rattle.std.proofs.lemmas.Option.{slice_get_read}
 use Rattle.std.proofs.lemmas.Result.{on_ok_weaker, IfOk-weaker}
@@ -42,3 +43,8 @@ returns-clause-quiet g c =
     let lt : c.args.thread < length o.seats.items = search rules in
     let at : slice_get o.seats.items c.args.thread ≡ Some a = slice_get_read o.seats.items (length o.seats.items) c.args.thread a refl lt c.index_mut-seat.ensures.value in
     IfOk-weaker c.turn.result _ _ (λ turned q. turns_at o.seats.items c.args.thread a c.turn.new.self turned at q) c.turn.ensures.quiet
+
+pub returns-then-place-len-clause-none : goal.returns-then-place-len-clause-none
+returns-then-place-len-clause-none g c =
+    let o = c.args.self.now in
+    λ beyond. ap (λ (room : vec_len o.seats + length o.shelf.items ≤ o.shelf.capacity). record o { room = room }) (le_prop _ o.room)

@@ -40,4 +40,4 @@ returns-in-None-clause-quiet g c =
     let s = c.args.self.now in
     let none = subst (λ (o : Option Turned). IdlesIfLent s c.borrow.new.self o) c.in-None.is c.in_ok-turned.ensures.quiet in
     IfOk-weaker c.work-in-None.result _ _
-    (λ turned q. idles_unlent s c.work-in-None.new.self turned (inr none.1) (subst (λ (x : Seat). IdlesAlone x.worker c.work-in-None.new.self.worker turned) none.0 q)) c.work-in-None.ensures.quiet
+    (λ turned q. idles_unlent s c.work-in-None.new.self turned (inr none.1) (subst (λ (x : Seat g.row.D.Denot). IdlesAlone x.worker c.work-in-None.new.self.worker turned) none.0 q)) c.work-in-None.ensures.quiet

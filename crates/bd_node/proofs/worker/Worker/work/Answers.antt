@@ -11,26 +11,26 @@ use Rattle.bd_node.proofs.Waiting.{idles_alone}
 use Rattle.bd_node.proofs.Workers.{goes_alone, has_queue}
 use Rattle.bd_node.proofs.worker.Worker.work.Goals as goal
 
-pub work-requires : goal.work-requires
-work-requires c = has_queue c.requires.setup c.requires.t c.requires.p c.requires.c c.args.self.now c.requires.at
+pub work_with_disks-requires : goal.work_with_disks-requires
+work_with_disks-requires g c = has_queue c.requires.setup c.requires.t c.requires.p c.requires.c c.args.self.now c.requires.at
 
 pub append_all-requires : goal.append_all-requires
-append_all-requires c =
+append_all-requires g c =
     let alone = c.in_ok-turned.ensures.alone in
     record { none_asks = ap events (c.take_entries-entries.ensures.entries ∙ alone.acted.added ∙ ap (λ (es : List Entry). es ++ alone.acted.entries) c.requires.at.empty) ∙ alone.none_asks }
 
 pub returns-clause-goes : goal.returns-clause-goes
-returns-clause-goes c =
+returns-clause-goes g c =
     let w = c.args.self.now in
     let entries = c.take_entries-entries.result in
     let log = c.append_all.new.log in
     subst (λ (x : Worker). AppendsAlone x.log (restamped x.log.thread x.log.last (acts_of entries)) log → GoesAlone w (record { me = x.me; thread = x.thread; links = x.links; log = log })) (sym c.take_entries-entries.ensures.left)
-    (λ appends. goes_alone w c.work.new.self c.work.new.links log c.in_ok-turned.ensures.alone c.in_ok-turned.ensures.tickets
+    (λ appends. goes_alone w c.work_with_disks.new.thread c.work_with_disks.new.links log c.in_ok-turned.ensures.alone c.in_ok-turned.ensures.tickets
     (subst (λ (es : List Entry). AppendsAlone w.log (restamped w.log.thread w.log.last (acts_of es)) log) c.take_entries-entries.ensures.entries appends))
     c.in_ok-append_all.ensures.appended
 
 pub returns-clause-turned : goal.returns-clause-turned
-returns-clause-turned c =
+returns-clause-turned g c =
     let w = c.args.self.now in
     let x = c.take_entries-entries.new.self in
     let entries = c.take_entries-entries.result in
@@ -42,9 +42,9 @@ returns-clause-turned c =
     (tells_appended x.log log entries turned is c.in_ok-append_all.ensures.appended.log_is)
 
 pub returns-clause-quiet : goal.returns-clause-quiet
-returns-clause-quiet c =
+returns-clause-quiet g c =
     let w = c.args.self.now in
     let x = c.take_entries-entries.new.self in
     let log = c.append_all.new.log in
-    idles_alone w (record x { log = log }) c.work.new.self c.work.new.links c.in_ok-turned.turned c.requires.at.empty c.in_ok-turned.ensures.quiet
+    idles_alone w (record x { log = log }) c.work_with_disks.new.thread c.work_with_disks.new.links c.in_ok-turned.turned c.requires.at.empty c.in_ok-turned.ensures.quiet
     (ap (λ (y : Worker). y.thread) c.take_entries-entries.ensures.left) (ap (λ (y : Worker). y.links) c.take_entries-entries.ensures.left)

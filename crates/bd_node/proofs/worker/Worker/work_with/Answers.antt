@@ -23,7 +23,7 @@ use Rattle.bd_node.proofs.Workers.{goes_with, has_queue, leads_no_shutdown, lead
 use Rattle.bd_node.proofs.worker.Worker.work_with.Goals as goal
 
 pub catch_up-requires : goal.catch_up-requires
-catch_up-requires c =
+catch_up-requires g c =
     let w = c.args.self.now in
     let lent = c.args.lent.now in
     record {
@@ -32,14 +32,14 @@ catch_up-requires c =
       state = replica_left w c.args.seen lent c.requires;
     }
 
-pub turn-requires : goal.turn-requires
-turn-requires c = record {
+pub turn_with_disks-requires : goal.turn_with_disks-requires
+turn_with_disks-requires g c = record {
   me = has_queue c.requires.setup c.requires.t c.requires.p c.requires.c c.args.self.now c.requires.at;
   rows = c.in_ok-catch_up.ensures.setup ∙ c.requires.at.rows ∙ ap rows_of (sym c.requires.at.given);
 }
 
 pub take_over-requires : goal.take_over-requires
-take_over-requires c =
+take_over-requires g c =
     let w = c.args.self.now in
     let lent = c.args.lent.now in
     let h = c.requires in
@@ -59,30 +59,30 @@ take_over-requires c =
       threads =
           subst (λ (es : List Entry). AllByRecursion (λ e. e.thread ≡ s.me) es) (sym es-are)
           (subst (λ (n : ℕ). AllByRecursion (λ e. e.thread ≡ n) acted.entries) (sym me-is)
-          (leads_threads setup w.thread.me (local w.thread links) (local c.turn.new.self c.turn.new.links) acted.entries acted.leads));
+          (leads_threads setup w.thread.me (local w.thread links) (local c.turn_with_disks.new.thread c.turn_with_disks.new.links) acted.entries acted.leads));
       no_shutdown =
           subst (λ (es : List Entry). AllByRecursion (λ e. is_shutdown e.act ≡ false) es) (sym es-are)
-          (leads_no_shutdown setup w.thread.me (local w.thread links) (local c.turn.new.self c.turn.new.links) acted.entries acted.leads);
+          (leads_no_shutdown setup w.thread.me (local w.thread links) (local c.turn_with_disks.new.thread c.turn_with_disks.new.links) acted.entries acted.leads);
       replay =
           subst (λ (es : List Entry). IsReplay lent.setup lent.state es) (sym es-are)
           ((rows_are_enough h.setup lent.setup (sym h.lent_is.start)).replay lent.state acted.entries
           (subst (λ (x : Setup). IsReplay x lent.state acted.entries) h.at.given
           (subst (λ (r : Registry). IsReplay setup r acted.entries) c.in_ok-catch_up.ensures.state
-          (leads_replay setup w.thread.me (local w.thread links) (local c.turn.new.self c.turn.new.links) acted.entries acted.leads))));
+          (leads_replay setup w.thread.me (local w.thread links) (local c.turn_with_disks.new.thread c.turn_with_disks.new.links) acted.entries acted.leads))));
     }
 
 pub returns-clause-goes : goal.returns-clause-goes
-returns-clause-goes c =
+returns-clause-goes g c =
     let w = c.args.self.now in
     let lent = c.args.lent.now in
     let now = c.take_over.new.registry in
     let entries = c.take_entries-entries.result in
     let log = c.take_over.new.log in
-    let links = c.turn.new.links in
+    let links = c.turn_with_disks.new.links in
     let met : Written = record w.log { last = max w.log.last lent.last } in
     let met-is : c.meet.new.self ≡ met = c.meet.ensures ∙ ap (λ (n : ℕ). record w.log { last = max w.log.last n }) c.last_stamp.ensures in
     subst (λ (x : Worker). TakesOver x.log lent (restamped x.log.thread x.log.last (acts_of entries)) log now → GoesWith c.args.seen w lent (record { me = x.me; thread = x.thread; links = x.links; log = log }) now) (sym c.take_entries-entries.ensures.left)
-    (λ takes. goes_with w c.args.seen lent now c.catch_up.new.replica c.turn.new.self links log
+    (λ takes. goes_with w c.args.seen lent now c.catch_up.new.replica c.turn_with_disks.new.thread links log
     (λ setup start. c.journal-rows.ensures.leaves setup start)
     c.in_ok-catch_up.ensures.setup c.in_ok-catch_up.ensures.state
     c.in_ok-turned.ensures.acted c.in_ok-turned.ensures.tickets
@@ -91,7 +91,7 @@ returns-clause-goes c =
     c.in_ok-take_over.ensures.taken
 
 pub returns-clause-turned : goal.returns-clause-turned
-returns-clause-turned c =
+returns-clause-turned g c =
     let w = c.args.self.now in
     let x = c.take_entries-entries.new.self in
     let entries = c.take_entries-entries.result in
@@ -104,10 +104,10 @@ returns-clause-turned c =
     subst (λ (n : ℕ). Tells n (length log.entries) turned) many (tells_appended x.log log entries turned is c.in_ok-take_over.ensures.taken.log_is)
 
 pub returns-clause-quiet : goal.returns-clause-quiet
-returns-clause-quiet c =
+returns-clause-quiet g c =
     let w = c.args.self.now in
     let x = c.take_entries-entries.new.self in
     let log = c.take_over.new.log in
-    idles_with c.args.lent.now w (record x { log = log }) c.catch_up.new.replica c.turn.new.self c.turn.new.links c.in_ok-turned.turned c.requires.at.empty
+    idles_with c.args.lent.now w (record x { log = log }) c.catch_up.new.replica c.turn_with_disks.new.thread c.turn_with_disks.new.links c.in_ok-turned.turned c.requires.at.empty
     c.in_ok-catch_up.ensures.state c.in_ok-turned.ensures.quiet
     (ap (λ (y : Worker). y.thread) c.take_entries-entries.ensures.left) (ap (λ (y : Worker). y.links) c.take_entries-entries.ensures.left)

@@ -1,0 +1,365 @@
+//! What a node does: its turns and rounds, its shutdown, and its end.
+ghost use Rattle.std.specs.Prelude.{◌≡◌, ◌<◌, ◌≤◌, ◌+◌, [], None, false, length, sum_by, vec_len, IfOk, MatchBool, OnOk};
+ghost use Rattle.std.specs.List.{list_all};
+ghost use Rattle.bd_apart.specs.Steps.{first_phase};
+ghost use Rattle.bd_log.specs.Merge.{IsMerge};
+ghost use Rattle.bd_machine.specs.Run.{IsCompleteRun};
+ghost use Rattle.bd_node.specs.Schedule.{advance, advance_by};
+ghost use Rattle.bd_node.specs.Seats.{has_moved, made_by, HasMoved, Tells};
+ghost use Rattle.bd_node.specs.Shutting.{AddsShutdown, IsUnchanged};
+ghost use Rattle.bd_node.specs.Waits.{TurnsQuietly};
+ghost use Rattle.bd_node.specs.Whole.{AreSeated, HasSameFlag, HasSameSetup, IsNode, are_all_taken, entries_made, halt_of, has_taken, is_spent, is_at_rest, is_idle, is_over, logs_of, seat_goes, seat_has_destructed, seat_has_stamps, seat_is_blocked, seat_rests, seed_of, setup_in, state_of};
+
+use crate::building::{abandon_all, seats_of};
+use crate::crew::Watch;
+use crate::ending::{greatest, learn_all, take_all_apart};
+use crate::history::History;
+use crate::node::{Node, NodeState};
+use crate::schedule::Schedule;
+use crate::seat::Seat;
+use crate::sharing::{Deal, turn_all};
+use bd_base::{OutOfMemory, Rows, Setup};
+use bd_disks::Shelf;
+use bd_log::merge;
+use bd_outside::{Disk, Gate};
+use bd_registry::Registry;
+use bd_seat::SeatNo;
+use bd_thread::Turned;
+use bd_wires::{Wires, connect, disconnect};
+use std::alloc::Global;
+use std::sync::Wait;
+use std::thread::Threads;
+
+/// How many turns a round by the schedule has.
+const TURNS: u32 = 256;
+
+fn all_rest<'a, D>(seats: &[Seat<'a, D>]) -> bool
+    ensures { result ≡ list_all seat_rests seats.now }
+{
+    seats
+        .iter()
+        .all(|seat| seat.worker.thread.rests(&seat.worker.links))
+}
+
+fn are_all_blocked<'a, D>(seats: &[Seat<'a, D>]) -> bool
+    ensures { result ≡ list_all seat_is_blocked seats.now }
+{
+    seats
+        .iter()
+        .all(|seat| seat.worker.thread.is_blocked(&seat.worker.links))
+}
+
+fn have_all_destructed<'a, D>(seats: &[Seat<'a, D>]) -> bool
+    ensures { result ≡ list_all seat_has_destructed seats.now }
+{
+    seats
+        .iter()
+        .all(|seat| seat.worker.thread.has_destructed_all())
+}
+
+// Whether each message that one thread put to the other was taken.
+fn has_taken<'a, D>(from: &Seat<'a, D>, to: &Seat<'a, D>) -> bool
+    ensures { result ≡ has_taken from.now to.now }
+{
+    let put = from.worker.thread.put_count(to.worker.me);
+    put == to.worker.thread.taken_count(from.worker.me)
+}
+
+// Whether each message of this thread was taken.
+fn are_taken_from<'a, D>(from: &Seat<'a, D>, seats: &[Seat<'a, D>]) -> bool
+    ensures { result ≡ list_all (λ to. has_taken from.now to) seats.now }
+{
+    seats.iter().all(|to| has_taken(from, to))
+}
+
+fn are_all_taken<'a, D>(seats: &[Seat<'a, D>]) -> bool
+    ensures { result ≡ are_all_taken seats.now }
+{
+    seats.iter().all(|from| are_taken_from(from, seats))
+}
+
+// Whether no seat has to halt.
+fn all_go<'a, D>(seats: &[Seat<'a, D>]) -> bool
+    ensures { result ≡ list_all seat_goes seats.now }
+{
+    seats.iter().all(|seat| seat.halted.is_none())
+}
+
+// Whether no thread's stamps are spent.
+fn all_have_stamps<'a, D>(seats: &[Seat<'a, D>]) -> bool
+    ensures { result ≡ list_all seat_has_stamps seats.now }
+{
+    seats.iter().all(|seat| !is_spent(seat.halted))
+}
+
+// Why seats have to halt, where some have to: a thread's stamps are spent, or there was no memory.
+fn halt_of<'a, D>(seats: &[Seat<'a, D>]) -> SeatNo
+    ensures { result ≡ halt_of seats.now }
+{
+    if all_have_stamps(seats) {
+        SeatNo::OutOfMemory
+    } else {
+        SeatNo::StampsSpent
+    }
+}
+
+// Whether entries were added.
+fn has_moved(turned: Turned) -> bool
+    ensures { result ≡ has_moved turned }
+{
+    matches!(turned, Turned::Moved(_))
+}
+
+fn is_spent(halted: Option<SeatNo>) -> bool
+    ensures { result ≡ is_spent halted }
+{
+    matches!(halted, Some(SeatNo::StampsSpent))
+}
+
+// The threads of a setup before any entry, each with the disks at its place of the shelf, and what they share.
+fn seat_all<'a, R: Wait, D>(
+    rt: &R,
+    alloc: Global,
+    setup: &'a Setup,
+    shelf: &mut Shelf<D>,
+) -> Result<(Wires, Vec<Seat<'a, D>>), OutOfMemory>
+    requires some { 0 < setup.now.threads }
+    requires disks { length shelf.old.items ≡ setup.now.threads }
+    requires room { setup.now.threads ≤ shelf.old.capacity }
+    ensures seated { IfOk result (λ made. AreSeated setup.now made.0 made.1.items false (first_phase setup.now)) }
+    ensures none { IfOk result (λ made. sum_by made_by made.1.items ≡ 0) }
+    ensures room { IfOk result (λ made. vec_len made.1 + length shelf.new.items ≤ shelf.new.capacity) }
+{
+    let registry = Registry::of(alloc, setup)?;
+    let (wires, passes) = connect(rt, alloc, registry, setup.threads)?;
+    let seats = seats_of(alloc, setup, passes, shelf)?;
+    Ok((wires, seats))
+}
+
+impl<'a, D: Disk> Node<'a, D> {
+    /// A node whose threads did nothing yet, with the schedule of this seed. The disks are those of each thread, in
+    /// the order of the threads' numbers; out of memory gives them back, in some order.
+    pub fn build<R: Wait>(
+        rt: &R,
+        alloc: Global,
+        setup: &'a Setup,
+        disks: Shelf<D>,
+        seed: u64,
+    ) -> Result<Node<'a, D>, (OutOfMemory, Shelf<D>)>
+        requires some { 0 < setup.now.threads }
+        requires disks { length disks.items ≡ setup.now.threads }
+        requires room { setup.now.threads ≤ disks.capacity }
+        ensures node { IfOk result IsNode }
+        ensures setup { IfOk result (λ node. setup_in node ≡ setup.now) }
+        ensures seed { IfOk result (λ node. seed_of node ≡ seed) }
+        ensures none { IfOk result (λ node. entries_made node ≡ 0) }
+    {
+        let mut shelf = disks;
+        match seat_all(rt, alloc, setup, &mut shelf) {
+            Ok((wires, seats)) => Ok(Node {
+                alloc,
+                setup,
+                wires,
+                seats,
+                schedule: Schedule { state: seed },
+                shut: false,
+                rounds: 0,
+                shelf,
+            }),
+            Err(OutOfMemory) => Err((OutOfMemory, shelf)),
+        }
+    }
+
+    /// A turn of a thread; quiet where there is no such thread.
+    pub fn turn_of<R: Wait>(&mut self, rt: &R, thread: u32) -> Result<Turned, SeatNo>
+        requires { IsNode self.old }
+        ensures node { OnOk result (IsNode self.new) }
+        ensures setup { OnOk result (HasSameSetup self.old self.new) }
+        ensures flag { OnOk result (HasSameFlag self.old self.new) }
+        ensures schedule { OnOk result (seed_of self.new ≡ seed_of self.old) }
+        ensures turned { IfOk result (Tells (entries_made self.old) (entries_made self.new)) }
+        ensures quiet { IfOk result (TurnsQuietly thread self.old self.new) }
+        ensures none { (setup_in self.old).threads ≤ thread → OnOk result (self.new ≡ self.old) }
+    {
+        let place = thread as usize;
+        if place >= self.seats.len() {
+            return Ok(Turned::Quiet);
+        }
+        let seat = &mut self.seats[place];
+        seat.turn(rt, self.alloc, &self.wires)
+    }
+
+    // The next turn by the schedule; whether it moved.
+    fn next_turn<R: Wait>(&mut self, rt: &R) -> Result<bool, SeatNo>
+        requires { IsNode self.old }
+        ensures node { OnOk result (IsNode self.new) }
+        ensures setup { OnOk result (HasSameSetup self.old self.new) }
+        ensures flag { OnOk result (HasSameFlag self.old self.new) }
+        ensures schedule { OnOk result (seed_of self.new ≡ advance (seed_of self.old)) }
+        ensures moved { IfOk result (HasMoved (entries_made self.old) (entries_made self.new)) }
+    {
+        let thread = self.schedule.next(self.setup.threads);
+        let turned = self.turn_of(rt, thread)?;
+        Ok(has_moved(turned))
+    }
+
+    /// 256 turns by the schedule, which goes on from call to call. True where some turn moved.
+    pub fn round_by<R: Wait>(&mut self, rt: &R) -> Result<bool, SeatNo>
+        requires { IsNode self.old }
+        ensures node { OnOk result (IsNode self.new) }
+        ensures setup { OnOk result (HasSameSetup self.old self.new) }
+        ensures flag { OnOk result (HasSameFlag self.old self.new) }
+        ensures schedule { OnOk result (seed_of self.new ≡ advance_by 256 (seed_of self.old)) }
+        ensures moved { IfOk result (HasMoved (entries_made self.old) (entries_made self.new)) }
+    {
+        let mut moved = false;
+        for _ in 0..TURNS {
+            let turned = self.next_turn(rt)?;
+            moved = moved || turned;
+        }
+        Ok(moved)
+    }
+}
+
+impl<'a, D: Disk + Send> Node<'a, D> {
+    /// A round: this number of reactors (from 1 on; else one) share the threads by turns, of N reactors number r
+    /// has those whose number is r modulo N. No reactor has more than (threads / reactors, rounded up): the last
+    /// may have fewer, and some none. Where there are more than one they run beside each other, if the system has
+    /// threads for them. A reactor goes over its threads, a turn each, and after each that moved one more for the
+    /// first, and passes the gate before each turn, until none of them moved in a pass while no other reactor was
+    /// at work, or until they moved in 256 passes.
+    pub fn round<R: Threads + Wait + Sync, G: Gate + Sync>(
+        &mut self,
+        rt: &R,
+        reactors: u32,
+        gate: &G,
+    ) -> Result<(), SeatNo>
+        requires { IsNode self.old }
+        ensures node { OnOk result (IsNode self.new) }
+        ensures setup { OnOk result (HasSameSetup self.old self.new) }
+        ensures flag { OnOk result (HasSameFlag self.old self.new) }
+        ensures schedule { OnOk result (seed_of self.new ≡ seed_of self.old) }
+    {
+        self.rounds = self.rounds.saturating_add(1);
+        let deal = Deal::of(self.setup.threads, reactors);
+        let watch = Watch::new(gate, self.rounds, deal);
+        turn_all(
+            rt,
+            self.alloc,
+            &self.wires,
+            &watch,
+            deal,
+            self.seats.as_mut_slice(),
+        );
+        if all_go(self.seats.as_slice()) {
+            Ok(())
+        } else {
+            Err(halt_of(self.seats.as_slice()))
+        }
+    }
+}
+
+impl<'a, D> Node<'a, D> {
+    fn is_at_rest(&self) -> bool
+        ensures { result ≡ is_at_rest self.now }
+    {
+        all_rest(self.seats.as_slice()) && are_all_taken(self.seats.as_slice())
+    }
+
+    fn is_idle(&self) -> bool
+        ensures { result ≡ is_idle self.now }
+    {
+        self.is_at_rest() && are_all_blocked(self.seats.as_slice())
+    }
+
+    fn is_over(&self) -> bool
+        ensures { result ≡ is_over self.now }
+    {
+        self.is_at_rest() && have_all_destructed(self.seats.as_slice())
+    }
+
+    /// How far the node is.
+    pub fn state(&self) -> NodeState
+        ensures { result ≡ state_of self.now }
+    {
+        if self.shut {
+            if self.is_over() {
+                NodeState::Done
+            } else {
+                NodeState::Busy
+            }
+        } else if self.is_idle() {
+            NodeState::Idle
+        } else {
+            NodeState::Busy
+        }
+    }
+
+    /// Thread 0 shuts down, with a stamp above all others. False where the registry wasn't in its slot; then
+    /// the node isn't shut.
+    pub fn shut<R: Wait>(&mut self, rt: &R) -> Result<bool, SeatNo>
+        requires node { IsNode self.old }
+        requires idle { state_of self.old ≡ NodeState.Idle }
+        ensures node { OnOk result (IsNode self.new) }
+        ensures setup { OnOk result (HasSameSetup self.old self.new) }
+        ensures shut { IfOk result (λ shut. self.new.shut ≡ shut) }
+        ensures logs { IfOk result (λ shut. MatchBool shut (AddsShutdown self.old self.new) (IsUnchanged self.old self.new)) }
+    {
+        let above = greatest(self.seats.as_slice());
+        let first = &mut self.seats[0];
+        let Some(stamp) = first.shut(rt, self.alloc, &self.wires, above)? else {
+            return Ok(false);
+        };
+        learn_all(self.seats.as_mut_slice(), stamp);
+        self.shut = true;
+        Ok(true)
+    }
+
+    /// The history of a run that is complete: the threads' logs, merged by stamp and thread. The disks are given
+    /// back, also where there was no memory for the history.
+    pub fn settle<R: Wait>(self, rt: &R) -> (Result<History, OutOfMemory>, Shelf<D>)
+        requires node { IsNode self }
+        requires done { state_of self ≡ NodeState.Done }
+        ensures merged { IfOk result.0 (λ history. IsMerge (logs_of self.entry) history) }
+        ensures complete { IfOk result.0 (λ history. IsCompleteRun (setup_in self.entry) [] history) }
+    {
+        let Node {
+            alloc,
+            setup: _,
+            wires,
+            seats,
+            schedule: _,
+            shut: _,
+            rounds: _,
+            shelf,
+        } = self;
+        let mut shelf = shelf;
+        let (logs, passes) = match take_all_apart(alloc, seats, &mut shelf) {
+            Ok(taken) => taken,
+            Err(OutOfMemory) => return (Err(OutOfMemory), shelf),
+        };
+        let registry = disconnect(rt, wires, passes);
+        let _journal = registry.journal();
+        match merge(alloc, logs) {
+            Ok(merged) => (Ok(History::of(Rows::from_vec(merged))), shelf),
+            Err(OutOfMemory) => (Err(OutOfMemory), shelf),
+        }
+    }
+
+    /// Abandons every ticket, where the run halts, and gives the disks back.
+    pub fn abandon(self) -> Shelf<D> {
+        let Node {
+            alloc: _,
+            setup: _,
+            wires: _,
+            seats,
+            schedule: _,
+            shut: _,
+            rounds: _,
+            shelf,
+        } = self;
+        let mut shelf = shelf;
+        abandon_all(seats, &mut shelf);
+        shelf
+    }
+}
