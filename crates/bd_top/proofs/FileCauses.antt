@@ -24,8 +24,8 @@ use Rattle.bd_top.specs.Configure.{CauseBy, IsRefused, NotRefused}
 use Rattle.bd_top.specs.Disks.{AreDisksOf, BeginsWith, IsNamed, MayHave, MayGive, Opens}
 use Rattle.bd_top.specs.Fault.{IsFaultOf, IsScriptFault, config_fault}
 use Rattle.bd_top.specs.Files.{IsRead, IsTooLong, ReadCause}
-use Rattle.bd_top.specs.Opening.{DoingCause, IsBuildFault, IsStepRefused, KeepsCounts, NeverRefused}
-use Rattle.bd_top.specs.Run.{AreCommands, FileCause, IsConfigured, IsDue, IsNoText, IsNotSupported, IsWanted, ScriptCause}
+use Rattle.bd_top.specs.Opening.{AreDone, DoingCause, IsBuildFault, IsStep, IsStepRefused, KeepsCounts, NeverRefused}
+use Rattle.bd_top.specs.Run.{AreCommands, FileCause, IsConfigured, IsDevices, IsDue, IsNoText, IsNotSupported, IsWanted, ScriptCause}
 use Rattle.bd_top.proofs.ConfigureLemmas.{cause_by}
 use Rattle.bd_top.proofs.FileLemmas.{later_same, later_then, fails_from, misses_from}
 
@@ -73,6 +73,9 @@ disks_at t u (command ∷ commands) disks same are = (begins_at t u (file_of com
 
 pub refused_at : (threads : ℕ) (t u : List ℕ → Told) (commands : List Command) (index : ℕ) (code : ℤ) → ((name : List ℕ) → t name ≡ u name) → IsRefused threads t commands index code → IsRefused threads u commands index code
 refused_at threads t u commands index code same is = record { disks = is.disks; may = disks_at t u commands is.disks same is.may; errno = is.errno; first = is.first; is = is.is }
+
+pub step_at : (t u : List ℕ → Told) (progress : Progress) (index : ℕ) (command : Command) (next : Progress) → ((name : List ℕ) → t name ≡ u name) → IsStep t progress index command next → IsStep u progress index command next
+step_at t u progress index command next same is = record { blocks = is.blocks; may = give_at t u (file_of command) is.blocks same is.may; is = is.is }
 
 pub step_refused_at : (t u : List ℕ → Told) (progress : Progress) (index : ℕ) (command : Command) (place : ℕ) (code : ℤ) → ((name : List ℕ) → t name ≡ u name)
     → IsStepRefused t progress index command place code → IsStepRefused u progress index command place code
@@ -231,3 +234,14 @@ module _ (old mid new : HostState) (config jobs : List ℕ) (threads : ℕ) (com
   of_doing (faults.JobText line) cause = absurd cause
   of_doing faults.WriteFault cause = absurd cause
   of_doing faults.OutOfMemory cause = tt
+
+-- the devices of a configuration's commands
+pub devices_of : (old mid : HostState) (config : List ℕ) (threads : ℕ) (commands : List Command) (devices : Progress) → AreCommands (old.told config) commands → IsLater old mid → AreDone mid.told threads commands devices
+    → IsDevices threads old.told (old.told config) devices
+devices_of old mid config threads commands devices are later done = record {
+  bytes = are.bytes;
+  read = are.read;
+  disks = done.disks;
+  means = record { commands = commands; asks = are.asks; served = are.served; made = done.is };
+  opened = disks_at mid.told old.told commands done.disks later.told done.may;
+}

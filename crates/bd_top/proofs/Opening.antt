@@ -90,10 +90,10 @@ goes_on told threads commands index progress next command left way step = record
   blocks = way.blocks ++ with_first (file_of command) step.blocks [];
   may = λ more are. subst (AreDisksOf told commands) (sym (joined (file_of command) step.blocks way.blocks more)) (way.may (with_first (file_of command) step.blocks more) (more_disks told command left step.blocks more step.may are));
   is = λ more.
-    ap (configured threads commands) (joined (file_of command) step.blocks way.blocks more)
-    ∙ way.is (with_first (file_of command) step.blocks more)
-    ∙ step_of_all told index progress command left step.blocks more step.may
-    ∙ ap (λ (o : Outcome). then_on o (λ p. after_all (index + 1) p left more)) step.is;
+      ap (configured threads commands) (joined (file_of command) step.blocks way.blocks more)
+      ∙ way.is (with_first (file_of command) step.blocks more)
+      ∙ step_of_all told index progress command left step.blocks more step.may
+      ∙ ap (λ (o : Outcome). then_on o (λ p. after_all (index + 1) p left more)) step.is;
   opens = λ name opens. way.opens name (inr opens);
 }
 
@@ -107,8 +107,8 @@ is_refused told threads commands index progress command left way place code refu
   may = way.may (with_first (file_of command) refused.blocks (likely told left)) (more_disks told command left refused.blocks (likely told left) refused.may (likely_are told left));
   errno = refused.errno;
   first =
-    way.is (with_first (file_of command) refused.blocks (likely told left))
-    ∙ step_of_all told index progress command left refused.blocks (likely told left) refused.may
-    ∙ ap (λ (o : Outcome). then_on o (λ p. after_all (index + 1) p left (likely told left))) refused.first;
+      way.is (with_first (file_of command) refused.blocks (likely told left))
+      ∙ step_of_all told index progress command left refused.blocks (likely told left) refused.may
+      ∙ ap (λ (o : Outcome). then_on o (λ p. after_all (index + 1) p left (likely told left))) refused.first;
   is = refused.is;
 }

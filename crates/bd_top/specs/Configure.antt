@@ -90,8 +90,8 @@ CauseBy Refused bytes (Method index code) = IsMethodNo bytes index code ⊎ IsUn
 
 -- why bytes configure no devices, where disks have blocks that they may have by what the host tells
 abbrev pub ConfigureCause : ℕ → (List ℕ → Told) → List ℕ → ConfigureNo → Type 0
-ConfigureCause threads told bytes no = CauseBy (IsRefused threads told) bytes no
+ConfigureCause threads told bytes why = CauseBy (IsRefused threads told) bytes why
 
 -- why they configure none, whatever blocks the disks may have
 abbrev pub ConfigureCauseAnyhow : ℕ → (List ℕ → Told) → List ℕ → ConfigureNo → Type 0
-ConfigureCauseAnyhow threads told bytes no = CauseBy (IsRefusedAnyhow threads told) bytes no
+ConfigureCauseAnyhow threads told bytes why = CauseBy (IsRefusedAnyhow threads told) bytes why

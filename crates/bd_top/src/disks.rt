@@ -102,6 +102,7 @@ fn name_of(names: &[(DevId, String)], dev: DevId) -> &str {
 }
 
 // Closes the disks of one thread.
+#[tactic(auto, using(crate::proofs::FileCauses::kept_same, crate::proofs::FileCauses::kept_then))]
 fn close_own<H: Host>(host: &mut H, names: &[(DevId, String)], disks: Disks<H::Disk>)
     ensures { KeepsCounts (H.state host.old) (H.state host.new) }
 {
@@ -113,6 +114,7 @@ fn close_own<H: Host>(host: &mut H, names: &[(DevId, String)], disks: Disks<H::D
 }
 
 /// Closes all disks.
+#[tactic(auto, using(crate::proofs::FileCauses::kept_same, crate::proofs::FileCauses::kept_then))]
 pub(crate) fn close_all<H: Host>(host: &mut H, disks: OpenDisks<H::Disk>)
     ensures { KeepsCounts (H.state host.old) (H.state host.new) }
 {
@@ -125,11 +127,8 @@ pub(crate) fn close_all<H: Host>(host: &mut H, disks: OpenDisks<H::Disk>)
 }
 
 /// Closes all disks of a shelf.
-pub(crate) fn close_shelf<H: Host>(
-    host: &mut H,
-    names: &[(DevId, String)],
-    shelf: Shelf<H::Disk>,
-)
+#[tactic(auto, using(crate::proofs::FileCauses::kept_same, crate::proofs::FileCauses::kept_then))]
+pub(crate) fn close_shelf<H: Host>(host: &mut H, names: &[(DevId, String)], shelf: Shelf<H::Disk>)
     ensures { KeepsCounts (H.state host.old) (H.state host.new) }
 {
     let mut shelf = shelf;

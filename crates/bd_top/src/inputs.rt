@@ -31,11 +31,7 @@ fn config_fault(no: ConfigureNo) -> Fault
 
 // Reads the commands of a configuration.
 #[tactic(auto, using(crate::proofs::FileCauses::of_bytes, crate::proofs::FileCauses::of_config))]
-fn read_commands<H: Host>(
-    alloc: Global,
-    host: &mut H,
-    name: &str,
-) -> Result<Vec<Command>, Fault>
+fn read_commands<H: Host>(alloc: Global, host: &mut H, name: &str) -> Result<Vec<Command>, Fault>
     ensures commands { IfOk result (λ commands. AreCommands ((H.state host.old).told name.now) commands.items) }
     ensures cause { (jobs : List ℕ) (threads : ℕ) → IfErr result (FileCause (H.state host.old) (H.state host.new) name.now jobs threads) }
     ensures later { IsLater (H.state host.old) (H.state host.new) }
@@ -51,7 +47,7 @@ fn read_commands<H: Host>(
 }
 
 // The devices that a configuration makes for this number of threads, with the disks that it opens.
-#[tactic(auto, using(crate::proofs::FileCauses::of_doing, crate::proofs::FileLemmas::later_then))]
+#[tactic(auto, using(crate::proofs::FileCauses::of_doing, crate::proofs::FileCauses::devices_of, crate::proofs::FileLemmas::later_then))]
 fn read_devices<H: Host>(
     alloc: Global,
     host: &mut H,

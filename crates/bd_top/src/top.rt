@@ -51,7 +51,7 @@ where
     H::Disk: Send,
     requires some { 0 < ready.setup.threads }
     requires disks { length ready.disks ≡ ready.setup.threads }
-    ensures played { IfOk result (λ done. IsPlayed ready.setup full done.trace done.text.items) }
+    ensures { IfOk result (λ done. IsPlayed ready.setup full done.trace done.text.items) }
 {
     let Ready { setup, disks } = ready;
     let (names, shelf) = match disks.shelve(rt.alloc()) {

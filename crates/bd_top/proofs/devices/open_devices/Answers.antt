@@ -1,0 +1,65 @@
+use Rattle.std.proofs.Common.{rules, ◌≡◌, ◌∙◌, ◌+◌, ℕ, inl, List, [], ◌∷◌, length, ap, sym, refl, subst, arith}
+use Rattle.std.specs.Vec.Iter.{into_iter_items}
+use Rattle.std.proofs.lemmas.Result.{IfErr-weaker}
+use Rattle.bd_building.specs.Disks.{file_of}
+use Rattle.bd_config.specs.declared.command.Command.{Command}
+use Rattle.bd_top.specs.Configure.{IsRefused}
+use Rattle.bd_top.specs.Disks.{IsNamed, Opens}
+use Rattle.bd_top.specs.Opening.{IsStepRefused}
+use Rattle.bd_top.proofs.FileCauses.{doing_from, kept_same, step_at, step_refused_at}
+use Rattle.bd_top.proofs.FileLemmas.{later_then}
+use Rattle.bd_top.proofs.Opening.{IsOnWay, ends, goes_on, is_refused}
+use Rattle.bd_top.proofs.devices.open_devices.Goals as goal
+
+none_left : {X : Type 0} (xs : List X) → length xs ≡ 0 → xs ≡ []
+none_left [] h = refl
+none_left (x ∷ xs) h = absurd (omega arith)
+
+pub returns-in_err-opened-clause-cause : goal.returns-in_err-opened-clause-cause
+returns-in_err-opened-clause-cause g c =
+    let old = g.H.Host.state c.args.host.now in
+    let mid = g.H.Host.state c.loop-command.host in
+    let new = g.H.Host.state c.do_command.new.host in
+    let at = c.loop-command in
+    let command = c.in-Some.command in
+    let left = into_iter_items c.next.new.self in
+    let P : List Command → Type 0 = λ cs. IsOnWay old.told c.args.threads c.args.commands.items at.index at.opened.devices cs in
+    let way : IsOnWay old.told c.args.threads c.args.commands.items at.index at.opened.devices (command ∷ left) = subst P c.in-Some.ensures.steps.0 at.invariant.way in
+    IfErr-weaker _ _ _
+    (doing_from old mid new new (IsNamed (file_of command)) (Opens c.args.commands.items) (IsStepRefused mid.told at.opened.devices at.index command) (IsRefused c.args.threads old.told c.args.commands.items)
+    at.invariant.later (kept_same new) (λ name is. way.opens name (inl is))
+    (λ i code refused.
+    is_refused old.told c.args.threads c.args.commands.items at.index at.opened.devices command left way i code
+    (step_refused_at mid.told old.told at.opened.devices at.index command i code at.invariant.later.told refused)))
+    (search rules)
+
+pub loop-command-preserved : goal.loop-command-preserved
+loop-command-preserved g c =
+    let old = g.H.Host.state c.args.host.now in
+    let mid = g.H.Host.state c.loop-command.host in
+    let new = g.H.Host.state c.do_command.new.host in
+    let at = c.loop-command in
+    let command = c.in-Some.command in
+    let left = into_iter_items c.next.new.self in
+    let P : List Command → Type 0 = λ cs. IsOnWay old.told c.args.threads c.args.commands.items at.index at.opened.devices cs in
+    let way : IsOnWay old.told c.args.threads c.args.commands.items at.index at.opened.devices (command ∷ left) = subst P c.in-Some.ensures.steps.0 at.invariant.way in
+    let next : c.in-Some-checked_add.next ≡ at.index + 1 = search rules in
+    let Q : ℕ → Type 0 = λ i. IsOnWay old.told c.args.threads c.args.commands.items i c.in_ok-opened.opened.devices left in
+    let items : into_iter_items at.command-iterator ≡ command ∷ left = c.in-Some.ensures.steps.0 in
+    record {
+      way =
+          subst Q (sym next)
+          (goes_on old.told c.args.threads c.args.commands.items at.index at.opened.devices c.in_ok-opened.opened.devices command left way
+          (step_at mid.told old.told at.opened.devices at.index command c.in_ok-opened.opened.devices at.invariant.later.told c.in_ok-opened.ensures.done));
+      later = later_then old mid new at.invariant.later c.do_command.ensures.later;
+      disks = c.in_ok-opened.ensures.threads ∙ at.invariant.disks;
+      counted = omega (arith, c.in-Some.ensures.steps.1, at.invariant.counted, ap length items);
+    }
+
+pub returns-clause-done : goal.returns-clause-done
+returns-clause-done g c =
+    let old = g.H.Host.state c.args.host.now in
+    let at = c.loop-command in
+    let empty : into_iter_items at.command-iterator ≡ [] = none_left _ (sym at.invariant.counted ∙ c.in-None.ensures.steps.0) in
+    let P : List Command → Type 0 = λ cs. IsOnWay old.told c.args.threads c.args.commands.items at.index at.opened.devices cs in
+    ends old.told c.args.threads c.args.commands.items at.index at.opened.devices (subst P empty at.invariant.way)
