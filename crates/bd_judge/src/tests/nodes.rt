@@ -1,12 +1,13 @@
 //! Two threads by hand, in several orders of their turns, and driven by reactors and schedules. Bytes
 //! and digests are by python.
-ghost use Rattle.std.specs.Prelude.{◌<◌, IfOk, OnOk};
+ghost use Rattle.std.specs.Prelude.{◌≡◌, ◌<◌, ◌≤◌, length, IfOk, OnOk};
 ghost use Rattle.bd_node.specs.Whole.{IsNode};
 
 use crate::tests::setups::{PLAIN, WRITE, WRITE_9, Word, count_of, long_setup, setup};
 use bd_base::{Act, Entry, Op, OutOfMemory, Setup, Shown, Status};
+use bd_disks::{Disks, Shelf};
 use bd_node::{Drive, History, Node, NodeState, play};
-use bd_outside::{Gate, OpenGate};
+use bd_outside::{Gate, MemDisk, OpenGate};
 use bd_seat::SeatNo;
 use bd_thread::Turned;
 use std::alloc::Global;
@@ -86,6 +87,61 @@ fn two_writers(alloc: Global, threads: u32) -> Result<Setup, OutOfMemory>
     setup(alloc, threads, PLAIN, &[&FIRST, &SECOND])
 }
 
+// ---- nodes without disks
+
+// The disks of so many threads, of which none has any.
+fn no_disks(alloc: Global, threads: u32) -> Result<Shelf<MemDisk>, OutOfMemory>
+    ensures many { IfOk result (λ shelf. length shelf.items ≡ threads) }
+    ensures room { IfOk result (λ shelf. threads ≤ shelf.capacity) }
+{
+    let mut shelf = Shelf::with_room(alloc, threads as usize)?;
+    for _ in 0..threads {
+        shelf.put(Disks::new(alloc));
+    }
+    Ok(shelf)
+}
+
+fn drop_disks(shelf: Shelf<MemDisk>) {
+    let mut left = shelf;
+    while let Some(disks) = left.take() {
+        disks.finish();
+    }
+    left.end();
+}
+
+fn node_of<'a, R: Wait>(
+    rt: &R,
+    alloc: Global,
+    setup: &'a Setup,
+) -> Result<Node<'a, MemDisk>, OutOfMemory>
+    requires { 0 < setup.now.threads }
+    ensures { IfOk result IsNode }
+{
+    let shelf = no_disks(alloc, setup.threads)?;
+    match Node::build(rt, alloc, setup, shelf, 0) {
+        Ok(node) => Ok(node),
+        Err((no, shelf)) => {
+            drop_disks(shelf);
+            Err(no)
+        }
+    }
+}
+
+fn played<R: Threads + Wait + Sync, G: Gate + Sync>(
+    rt: &R,
+    alloc: Global,
+    setup: &Setup,
+    drive: Drive,
+    gate: &G,
+) -> Result<History, OutOfMemory>
+    requires { 0 < setup.now.threads }
+{
+    let shelf = no_disks(alloc, setup.threads)?;
+    let (history, shelf) = play(rt, alloc, setup, shelf, drive, gate);
+    drop_disks(shelf);
+    history
+}
+
 // ---- what they did
 
 // How many requests completed with success.
@@ -122,7 +178,7 @@ fn are_both_done(entries: &[Entry]) -> bool {
 
 // ---- turns in an order
 
-fn turns<R: Wait>(rt: &R, node: &mut Node, order: &[u32]) -> Result<(), SeatNo>
+fn turns<R: Wait>(rt: &R, node: &mut Node<MemDisk>, order: &[u32]) -> Result<(), SeatNo>
     requires { IsNode node.old }
     ensures { OnOk result (IsNode node.new) }
 {
@@ -134,7 +190,7 @@ fn turns<R: Wait>(rt: &R, node: &mut Node, order: &[u32]) -> Result<(), SeatNo>
 
 // Turns in this order, over and over, with a Shutdown once the scripts are blocked, until all is over, if the
 // order brings it so far.
-fn play_by<R: Wait>(rt: &R, node: &mut Node, order: &[u32]) -> Result<(), SeatNo>
+fn play_by<R: Wait>(rt: &R, node: &mut Node<MemDisk>, order: &[u32]) -> Result<(), SeatNo>
     requires { IsNode node.old }
     ensures { OnOk result (IsNode node.new) }
 {
@@ -155,13 +211,15 @@ fn history_by<R: Wait>(
 ) -> Result<Option<History>, OutOfMemory>
     requires { 0 < setup.now.threads }
 {
-    let mut node = Node::build(rt, alloc, setup, 0)?;
+    let mut node = node_of(rt, alloc, setup)?;
     let played = play_by(rt, &mut node, order).is_ok();
     if !played || node.state() != NodeState::Done {
-        node.abandon();
+        drop_disks(node.abandon());
         return Ok(None);
     }
-    Ok(Some(node.settle(rt)?))
+    let (history, shelf) = node.settle(rt);
+    drop_disks(shelf);
+    Ok(Some(history?))
 }
 
 // Whether both are done, by this order.
@@ -194,7 +252,7 @@ fn two_threads_write_and_read_in_any_order(rt: HostRuntime) -> Result<(), Fail> 
 fn however_driven_they_come_to_the_end(rt: HostRuntime) -> Result<(), Fail> {
     let setup = two_writers(rt.alloc(), 2)?;
     for drive in &DRIVES {
-        let history = play(&rt, rt.alloc(), &setup, *drive, &OpenGate)?;
+        let history = played(&rt, rt.alloc(), &setup, *drive, &OpenGate)?;
         assert!(rt; are_both_done(history.entries()), "drive {drive:?}");
     }
     Ok(())
@@ -237,7 +295,7 @@ fn history_of_askers<R: Threads + Wait + Sync>(
 ) -> Result<History, OutOfMemory> {
     let word = Word::Open("h", "Nobody", false);
     let setup = long_setup(alloc, count_of(threads.len()), threads, word, word, 99)?;
-    play(rt, alloc, &setup, Drive::Schedule(seed), &OpenGate)
+    played(rt, alloc, &setup, Drive::Schedule(seed), &OpenGate)
 }
 
 // Each thread opens devices that there aren't, for which it asks the registry once a line, eight lines in a turn.
@@ -296,7 +354,7 @@ fn reactors_meet(rt: HostRuntime) -> Result<(), Fail> {
             came: AtomicU64::new(0),
             met: AtomicU64::new(0),
         };
-        let history = play(&rt, rt.alloc(), &setup, Drive::Reactors(*asked), &gate)?;
+        let history = played(&rt, rt.alloc(), &setup, Drive::Reactors(*asked), &gate)?;
         let met = gate.met.load(Ordering::SeqCst);
         assert_eq!(rt; met, *reactors, "{asked} reactors, {threads} threads");
         assert!(rt; are_both_done(history.entries()));
@@ -315,7 +373,7 @@ fn added(turned: Turned) -> usize {
 }
 
 // So many turns of thread 1: how many entries they added in all.
-fn turns_alone<R: Wait>(rt: &R, node: &mut Node, count: u32) -> Result<usize, SeatNo>
+fn turns_alone<R: Wait>(rt: &R, node: &mut Node<MemDisk>, count: u32) -> Result<usize, SeatNo>
     requires { IsNode node.old }
     ensures { OnOk result (IsNode node.new) }
 {
@@ -329,7 +387,7 @@ fn turns_alone<R: Wait>(rt: &R, node: &mut Node, count: u32) -> Result<usize, Se
 
 // Turns of thread 1 alone, and how many entries they added; then a last one, one of thread 0, and two of thread 1
 // again.
-fn flood<R: Wait>(rt: &R, node: &mut Node) -> Result<(usize, [Turned; 4]), SeatNo>
+fn flood<R: Wait>(rt: &R, node: &mut Node<MemDisk>) -> Result<(usize, [Turned; 4]), SeatNo>
     requires { IsNode node.old }
 {
     let entries = turns_alone(rt, node, ROUNDS * 3)?;
@@ -343,9 +401,9 @@ fn flood<R: Wait>(rt: &R, node: &mut Node) -> Result<(usize, [Turned; 4]), SeatN
 fn flooded<R: Wait>(rt: &R, alloc: Global, setup: &Setup) -> Result<(usize, [Turned; 4]), SeatNo>
     requires { 0 < setup.now.threads }
 {
-    let mut node = Node::build(rt, alloc, setup, 0)?;
+    let mut node = node_of(rt, alloc, setup)?;
     let found = flood(rt, &mut node);
-    node.abandon();
+    drop_disks(node.abandon());
     found
 }
 
@@ -370,7 +428,7 @@ fn what_is_to_be_put_waits_for_room(rt: HostRuntime) -> Result<(), Fail> {
 // ---- requests that wait for room
 
 // Turns of thread 1 alone: how many entries they added, and the answer of a last one.
-fn crowd<R: Wait>(rt: &R, node: &mut Node) -> Result<(usize, Turned), SeatNo>
+fn crowd<R: Wait>(rt: &R, node: &mut Node<MemDisk>) -> Result<(usize, Turned), SeatNo>
     requires { IsNode node.old }
 {
     let entries = turns_alone(rt, node, ROUNDS * 2)?;
@@ -381,9 +439,9 @@ fn crowd<R: Wait>(rt: &R, node: &mut Node) -> Result<(usize, Turned), SeatNo>
 fn crowded<R: Wait>(rt: &R, alloc: Global, setup: &Setup) -> Result<(usize, Turned), SeatNo>
     requires { 0 < setup.now.threads }
 {
-    let mut node = Node::build(rt, alloc, setup, 0)?;
+    let mut node = node_of(rt, alloc, setup)?;
     let found = crowd(rt, &mut node);
-    node.abandon();
+    drop_disks(node.abandon());
     found
 }
 
@@ -398,7 +456,7 @@ fn a_thread_has_1024_open_requests_at_most(rt: HostRuntime) -> Result<(), Fail> 
     let (entries, last) = crowded(&rt, rt.alloc(), &setup)?;
     assert_eq!(rt; entries, 3 + 4 * 1024);
     assert!(rt; last == Turned::Quiet);
-    let history = play(&rt, rt.alloc(), &setup, Drive::Reactors(2), &OpenGate)?;
+    let history = played(&rt, rt.alloc(), &setup, Drive::Reactors(2), &OpenGate)?;
     assert_eq!(rt; succeeded(history.entries()), 1030);
     Ok(())
 }

@@ -1,10 +1,8 @@
 -- The passes may be ended, the logs may be merged, and the merge is a complete run.
-use Rattle.std.proofs.Common.{◌≡◌, List, [], length, map, vec_len, sym, ◌∙◌, subst, arith}
+use Rattle.std.proofs.Common.{◌≡◌, List, [], length, vec_len, sym, ◌∙◌, subst, arith}
 use Rattle.bd_base.specs.declared.act.Entry.{Entry}
-use Rattle.bd_log.specs.Log.{log_part, Written}
-use Rattle.bd_log.specs.Merge.{IsMerge}
 use Rattle.bd_machine.specs.Run.{IsCompleteRun}
-use Rattle.bd_node.specs.Whole.{logs_of, setup_in}
+use Rattle.bd_node.specs.Whole.{setup_in}
 use Rattle.bd_node.proofs.Settling.{logs_fit, node_complete, passes_fit}
 use Rattle.bd_node.proofs.node.Node.settle.Goals as goal
 
