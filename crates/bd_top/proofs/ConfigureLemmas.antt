@@ -1,7 +1,6 @@
 -- Why bytes configure no devices, by the step that found it; and that nothing is wrong with those that do.
 use Rattle.std.proofs.Common.{◌≡◌, ℕ, ◌⊎◌, inl, inr, List, Option, None, Some, refl, sym, ◌∙◌, ap, subst}
 use Rattle.std.specs.Prelude.{ℤ, Result, Ok, Err}
-use Rattle.bd_base.specs.declared.request.Errno.{Errno}
 use Rattle.bd_config.specs.Config.{IsConfig}
 use Rattle.bd_config.proofs.Exact.{config_once, config_has_shape, config_has_commands}
 use Rattle.bd_config.specs.declared.command.Command.{Command}

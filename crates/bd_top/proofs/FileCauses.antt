@@ -1,16 +1,16 @@
 -- The causes of a run's faults, from those of the steps that found them.
-use Rattle.std.proofs.Common.{◌≡◌, ℕ, ◌≤◌, ◌⊎◌, inl, inr, List, [], ◌∷◌, Option, None, Some, refl, sym, ◌∙◌, subst, string_bytes}
+use Rattle.std.proofs.Common.{◌≡◌, ℕ, ◌≤◌, inl, inr, List, [], ◌∷◌, Option, None, Some, refl, sym, ◌∙◌, subst, string_bytes}
 use Rattle.std.specs.Prelude.{ℤ}
 use Rattle.bd_base.specs.Errno.{number_of}
 use Rattle.bd_base.specs.declared.request.Errno.{Errno}
 use Rattle.bd_building.specs.Disks.{DiskFile, file_of, other_disks}
-use Rattle.bd_building.specs.Progress.{Progress, stepped}
+use Rattle.bd_building.specs.Progress.{Progress}
 use Rattle.bd_building.specs.declared.building.BuildNo.{BuildNo}
 use Rattle.bd_building.specs.declared.building.BuildNo.TheVariants as builds
 use Rattle.bd_config.specs.Commands.{minus}
 use Rattle.bd_config.specs.declared.command.Command.{Command}
 use Rattle.bd_outside.specs.Count.{Rises}
-use Rattle.bd_outside.specs.File.{Told, Untold, NoFile, Content, IsAbsent}
+use Rattle.bd_outside.specs.File.{Told, IsAbsent}
 use Rattle.bd_outside.specs.Host.{HostState, IsLater, FailsAt, Misses}
 use Rattle.bd_top.specs.declared.configure.ConfigureNo.{ConfigureNo}
 use Rattle.bd_top.specs.declared.configure.ConfigureNo.TheVariants as config_nos
@@ -24,10 +24,10 @@ use Rattle.bd_top.specs.Configure.{CauseBy, IsRefused, NotRefused}
 use Rattle.bd_top.specs.Disks.{AreDisksOf, BeginsWith, IsNamed, MayHave, MayGive, Opens}
 use Rattle.bd_top.specs.Fault.{IsFaultOf, IsScriptFault, config_fault}
 use Rattle.bd_top.specs.Files.{IsRead, IsTooLong, ReadCause}
-use Rattle.bd_top.specs.Opening.{AreDone, DoingCause, IsBuildFault, IsStep, IsStepRefused, KeepsCounts, NeverRefused}
+use Rattle.bd_top.specs.Opening.{AreDone, DoingCause, IsBuildFault, IsStep, IsStepRefused, KeepsCounts}
 use Rattle.bd_top.specs.Run.{AreCommands, FileCause, IsConfigured, IsDevices, IsDue, IsNoText, IsNotSupported, IsWanted, ScriptCause}
 use Rattle.bd_top.proofs.ConfigureLemmas.{cause_by}
-use Rattle.bd_top.proofs.FileLemmas.{later_same, later_then, fails_from, misses_from}
+use Rattle.bd_top.proofs.FileLemmas.{later_same, fails_from, misses_from}
 
 -- ---- states of a host
 

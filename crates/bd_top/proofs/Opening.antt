@@ -1,14 +1,13 @@
 -- Commands done one after the other, each with the disk that it opens, against the definition of all of them.
-use Rattle.std.proofs.Common.{◌≡◌, ◌∙◌, ℕ, ◌+◌, ◌/◌, ◌⊎◌, inl, inr, List, [], ◌∷◌, ◌++◌, length, Option, None, Some, ap, sym, refl, subst, append_assoc}
+use Rattle.std.proofs.Common.{◌≡◌, ◌∙◌, ℕ, ◌+◌, ◌/◌, inr, List, [], ◌∷◌, ◌++◌, length, Option, None, Some, ap, sym, refl, subst, append_assoc}
 use Rattle.std.proofs.lemmas.List.{append-nil}
-use Rattle.std.specs.Prelude.{ℤ, Ok, Err}
-use Rattle.bd_base.specs.declared.request.Errno.{Errno}
+use Rattle.std.specs.Prelude.{ℤ}
 use Rattle.bd_building.specs.Disks.{DiskFile, file_of, other_disks, own_blocks}
 use Rattle.bd_building.specs.Progress.{Outcome, Progress, after_all, configured, nothing_yet, stepped, then_on}
 use Rattle.bd_config.specs.declared.command.Command.{Command}
 use Rattle.bd_outside.specs.File.{Told, Untold, NoFile, Content}
 use Rattle.bd_top.specs.Configure.{IsRefused}
-use Rattle.bd_top.specs.Disks.{AreDisksOf, BeginsWith, IsNamed, MayHave, MayGive, Opens}
+use Rattle.bd_top.specs.Disks.{AreDisksOf, BeginsWith, MayHave, MayGive, Opens}
 use Rattle.bd_top.specs.Opening.{AreDone, IsStep, IsStepRefused}
 
 -- ---- disks that weren't opened
