@@ -147,7 +147,10 @@ fn a_disk_is_closed_after_a_fault(rt: HostRuntime) -> Result<(), Fail> {
         Ok(_) => String::new(alloc),
         Err(fault) => format!(in alloc; "{fault}, status {}", fault.status())?,
     };
-    assert!(rt; fault.as_bytes() == b"no file: x, status 3".as_slice(), "{fault}");
+    assert!(rt;
+        fault.as_bytes() == b"no file: x, status 3".as_slice(),
+        "{fault}"
+    );
     assert!(rt; closed(&host) == (1, 0));
     Ok(())
 }

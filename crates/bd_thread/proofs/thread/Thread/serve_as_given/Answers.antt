@@ -41,9 +41,9 @@ returns-clause-acted c =
       links = refl;
     } in
     let acted = served_as_acted t links new after n.req n.k dev end is next.home next.aio
-        (ap (λ (bs : List Base). may_hold t.setup.now dev (find (is_base dev) bs)) bases-are ∙ next.holds)
-        (ap (λ (bs : List Base). is_first_at n.req n.k (find (is_base dev) bs)) bases-are ∙ next.is_first.first)
-        next.is_first.here next.is_first.on in
+    (ap (λ (bs : List Base). may_hold t.setup.now dev (find (is_base dev) bs)) bases-are ∙ next.holds)
+    (ap (λ (bs : List Base). is_first_at n.req n.k (find (is_base dev) bs)) bases-are ∙ next.is_first.first)
+    next.is_first.here next.is_first.on in
     carried (Acted t links) new after _ _ thread c.in_ok-note.ensures.links acted
 
 pub returns-clause-tickets : goal.returns-clause-tickets
