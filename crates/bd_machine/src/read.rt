@@ -91,12 +91,13 @@ impl ReadBytes {
     pub fn append(&mut self, more: &ReadBytes) -> Result<(), OutOfMemory>
         ensures { OnOk result (self.new ≡ both_bytes self.old more.now) }
     {
-        match (&mut self.bytes, &more.bytes) {
-            (Some(bytes), Some(others)) => {
-                bytes.append(others.as_slice())?;
-                self.told = self.told && more.told;
-            }
-            _ => self.told = false,
+        let Some(others) = &more.bytes else {
+            *self = ReadBytes::none();
+            return Ok(());
+        };
+        if let Some(bytes) = &mut self.bytes {
+            bytes.append(others.as_slice())?;
+            self.told = self.told && more.told;
         }
         Ok(())
     }

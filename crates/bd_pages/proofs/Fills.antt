@@ -51,6 +51,25 @@ patterns_more seed n size (suc k) =
     ∙ append_assoc first (patterns seed (n + 1) size k) (pattern seed (n + 1 + k) size)
     ∙ ap (λ (xs : List ℕ). first ++ xs) (patterns_more seed (n + 1) size k)
 
+-- the blocks of two spans, one after the other
+pub patterns_both : (seed n size a b : ℕ) → patterns seed n size a ++ patterns seed (n + a) size b ≡ patterns seed n size (a + b)
+patterns_both seed n size zero b =
+    let here : n + 0 ≡ n = omega arith in
+    let all : b ≡ 0 + b = omega arith in
+    ap (λ (m : ℕ). patterns seed m size b) here ∙ ap (λ (m : ℕ). patterns seed n size m) all
+patterns_both seed n size (suc a) b =
+    let first : List ℕ = pattern seed n (length (replicate {A = ℕ} size 0)) in
+    let place : n + suc a ≡ n + 1 + a = omega arith in
+    let all : suc (a + b) ≡ suc a + b = omega arith in
+    ap (λ (m : ℕ). (first ++ patterns seed (n + 1) size a) ++ patterns seed m size b) place
+    ∙ append_assoc first (patterns seed (n + 1) size a) (patterns seed (n + 1 + a) size b)
+    ∙ ap (λ (xs : List ℕ). first ++ xs) (patterns_both seed (n + 1) size a b)
+    ∙ ap (λ (m : ℕ). patterns seed n size m) all
+
+-- one block alone
+pub patterns_one : (seed n size : ℕ) → pattern seed n size ≡ patterns seed n size 1
+patterns_one seed n size = let same : n ≡ n + 0 = omega arith in ap (λ (m : ℕ). pattern seed m size) same ∙ patterns_more seed n size 0
+
 pub patterns_length : (seed n size k : ℕ) → length (patterns seed n size k) ≡ k * size
 patterns_length seed n size zero = omega arith
 patterns_length seed n size (suc k) =
@@ -181,6 +200,20 @@ pub next_inside : (k count size : ℕ) → k < count → k * size + size ≤ cou
 next_inside k count size lt =
     let le = mul-le-mul_right {m = suc k} {n = count} size (omega (arith, lt)) in
     omega (arith, le, suc-mul k size)
+
+-- the blocks of a span before a place, and those from there on
+pub span_parts : (done count size : ℕ) → done ≤ count → done * size + (count - done) * size ≡ count * size
+span_parts zero count size le =
+    let same : count - 0 ≡ count = omega arith in
+    let left = ap (λ (n : ℕ). n * size) same in
+    let none : 0 * size ≡ 0 = omega arith in
+    omega (arith, none, left)
+span_parts (suc done) zero size le = absurd (omega (arith, le))
+span_parts (suc done) (suc count) size le =
+    let before = span_parts done count size (omega (arith, le)) in
+    let same : suc count - suc done ≡ count - done = omega arith in
+    let left = ap (λ (n : ℕ). n * size) same in
+    omega (arith, before, left, suc-mul done size, suc-mul count size)
 
 -- its pages are taken where those of the whole range were
 pub range_taken : (at n place m : ℕ) (old new : List Leaf) → at ≤ place → place + m ≤ at + n → IsPaged old → at + n ≤ length (flat old) → marks new ≡ marks old

@@ -1,8 +1,9 @@
 //! One page: a part of a device's bytes, which takes memory only once a write needs it.
-ghost use Rattle.std.specs.Prelude.{◌≡◌, ◌+◌, ◌≤◌, ◌++◌, ℕ, List, true, false, length, min, replicate, take, drop, IfOk, OnOk, OnErr};
+ghost use Rattle.std.specs.Prelude.{◌≡◌, ◌+◌, ◌*◌, ◌^◌, ◌<◌, ◌≤◌, ◌++◌, ℕ, List, true, false, length, min, replicate, take, drop, IfOk, OnOk, OnErr};
 ghost use Rattle.sha2.specs.Hashers.{Holds256};
 ghost use Rattle.bd_base.specs.Pattern.{pattern};
 ghost use Rattle.bd_pages.specs.Bytes.{written};
+ghost use Rattle.bd_pages.specs.Fills.{patterns};
 ghost use Rattle.bd_pages.specs.Leaf.{Leaf};
 
 use bd_base::{OutOfMemory, fill_pattern};
@@ -27,6 +28,27 @@ impl Model for Page {
     ghost view = { λ p. record { bytes = bytes_of p.len (option_map (λ m. m.items) p.memory); ready = is_some p.memory; taken = p.taken } };
 
     ghost invariant = { λ p. IsPage p.len (option_map (λ m. m.items) p.memory) p.taken };
+}
+
+/// Blocks one after another: where the first begins, the bytes of each, and how many there are.
+#[derive(Clone, Copy)]
+pub(crate) struct Span {
+    pub(crate) at: usize,
+    pub(crate) size: usize,
+    pub(crate) count: usize,
+}
+
+// Puts the pattern of a seed into blocks, of which the first has this number.
+fn fill_each(bytes: &mut [u8], span: Span, seed: u64, number: u64)
+    requires inside { span.at + span.count * span.size ≤ length bytes.old }
+    requires numbered { number + span.count < 2 ^ 64 }
+    ensures { bytes.new ≡ written span.at (patterns seed number span.size span.count) bytes.old }
+{
+    let size = span.size;
+    for k in 0..span.count {
+        let at = span.at + k * size;
+        fill_pattern(seed, number + k as u64, &mut bytes[at..at + size]);
+    }
 }
 
 // Appends zeros. More bytes than 64 bits count are out of memory.
@@ -130,6 +152,18 @@ impl Page {
     {
         if let Some(memory) = &mut self.memory {
             fill_pattern(seed, block, &mut memory[at..at + n]);
+        }
+    }
+
+    /// Puts the pattern of a seed into blocks, of which the first has this number.
+    pub(crate) fn fill_blocks(&mut self, span: Span, seed: u64, number: u64)
+        requires taken { self.old.taken ≡ true }
+        requires inside { span.at + span.count * span.size ≤ length self.old.bytes }
+        requires numbered { number + span.count < 2 ^ 64 }
+        ensures { self.new ≡ record self.old { bytes = written span.at (patterns seed number span.size span.count) self.old.bytes } }
+    {
+        if let Some(memory) = &mut self.memory {
+            fill_each(memory.as_mut_slice(), span, seed, number);
         }
     }
 

@@ -6,8 +6,8 @@ ghost use Rattle.bd_pages.specs.Fills.{filled};
 ghost use Rattle.bd_pages.specs.Pages.{Paged, blocks_of, zeroed};
 ghost use Rattle.bd_pages.specs.Table.{pages_of, touched};
 
-use crate::page::Page;
-use crate::table::{self, Span};
+use crate::page::{Page, Span};
+use crate::table;
 use bd_base::{Bytes, Fill, OutOfMemory};
 use std::alloc::Global;
 use std::marker::Model;

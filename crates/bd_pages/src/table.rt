@@ -7,7 +7,7 @@ ghost use Rattle.bd_pages.specs.Fills.{bytes_filled, patterns};
 ghost use Rattle.bd_pages.specs.Leaf.{Leaf};
 ghost use Rattle.bd_pages.specs.Table.{AreReady, AreTaken, IsPaged, SameContents, flat, marks, pages_of, pieces, touched};
 
-use crate::page::Page;
+use crate::page::{Page, Span};
 use bd_base::{Fill, OutOfMemory};
 use sha2::{Digest, Sha256};
 use std::alloc::Global;
@@ -210,12 +210,46 @@ fn fill_block(pages: &mut [Page], at: usize, n: usize, seed: u64, block: u64)
     }
 }
 
-/// Blocks one after another: where the first begins, the bytes of each, and how many there are.
-#[derive(Clone, Copy)]
-pub(crate) struct Span {
-    pub(crate) at: usize,
-    pub(crate) size: usize,
-    pub(crate) count: usize,
+// How many whole blocks, at most `count`, lie on a place's page from there on; none where a block has no byte.
+fn whole_blocks(at: usize, size: usize, count: usize) -> usize
+    ensures most { result ≤ count }
+    ensures near { result * size ≤ 65536 - at % 65536 }
+    ensures some { 0 < result → 0 < result * size }
+{
+    if size == 0 {
+        return 0;
+    }
+    let fit = (PAGE - at % PAGE) / size;
+    if fit < count { fit } else { count }
+}
+
+// Puts the pattern of a seed into the first of some blocks, on pages that are taken, and says into how many: those
+// that lie on the first one's page, or the first alone, where that lies on several.
+fn fill_some(pages: &mut [Page], span: Span, seed: u64, number: u64) -> usize
+    requires paged { IsPaged pages.old }
+    requires inside { span.at + span.count * span.size ≤ length (flat pages.old) }
+    requires small { span.at + span.count * span.size < 2 ^ 64 }
+    requires numbered { number + span.count < 2 ^ 64 }
+    requires ready { AreTaken (span.at / 65536) (span.at / 65536 + pages_of span.at (span.count * span.size)) pages.old }
+    requires some { 0 < span.count }
+    ensures some { 0 < result }
+    ensures most { result ≤ span.count }
+    ensures bytes { flat pages.new ≡ written span.at (patterns seed number span.size result) (flat pages.old) }
+    ensures paged { IsPaged pages.new }
+    ensures taken { marks pages.new ≡ marks pages.old }
+{
+    let count = whole_blocks(span.at, span.size, span.count);
+    if count == 0 {
+        fill_block(pages, span.at, span.size, seed, number);
+        return 1;
+    }
+    let on_page = Span {
+        at: span.at % PAGE,
+        size: span.size,
+        count,
+    };
+    pages[span.at / PAGE].fill_blocks(on_page, seed, number);
+    count
 }
 
 // Puts the pattern of a seed into blocks, of which the first has this number, on pages that are taken.
@@ -229,9 +263,14 @@ fn fill_blocks(pages: &mut [Page], span: Span, seed: u64, number: u64)
     ensures paged { IsPaged pages.new }
     ensures taken { marks pages.new ≡ marks pages.old }
 {
-    let size = span.size;
-    for k in 0..span.count {
-        fill_block(pages, span.at + k * size, size, seed, number + k as u64);
+    let mut done = 0;
+    while done < span.count {
+        let left = Span {
+            at: span.at + done * span.size,
+            size: span.size,
+            count: span.count - done,
+        };
+        done += fill_some(pages, left, seed, number + done as u64);
     }
 }
 

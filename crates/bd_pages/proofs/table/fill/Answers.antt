@@ -1,9 +1,9 @@
-use Rattle.std.proofs.Common.{◌≡◌, ◌+◌, ◌*◌, ◌-◌, Bool, ℕ, List, [], ◌∷◌, cond, length, ap, sym, subst, ◌∙◌, arith}
+use Rattle.std.proofs.Common.{◌≡◌, ◌*◌, Bool, ℕ, List, [], ◌∷◌, cond, length, ap, sym, subst, ◌∙◌, arith}
 use Rattle.std.specs.List.{concat}
 use Rattle.bd_base.specs.Pattern.{pattern_byte}
 use Rattle.bd_pages.specs.Bytes.{written}
 use Rattle.bd_pages.specs.Fills.{bytes_filled, patterns, turned_block}
-use Rattle.bd_pages.specs.Table.{IsCut, flat, pieces}
+use Rattle.bd_pages.specs.Table.{IsCut, flat}
 use Rattle.bd_pages.proofs.Fills.{filled_length, patterns_first, patterns_length, range_taken, turned_none, turned_written}
 use Rattle.bd_pages.proofs.Splices.{length_written}
 use Rattle.bd_pages.proofs.table.fill.Goals as goal
