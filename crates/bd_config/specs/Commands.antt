@@ -1,5 +1,5 @@
 -- What a call asks for, or the code of its refusal.
-use Rattle.std.specs.Prelude.{ℕ, zero, suc, ◌^◌, ℤ, pos, negsuc, Bool, true, false, not, ◌&&◌, ◌||◌, ◌==◌, nat_eq, nat_le, List, length, codes, Option, None, Some, is_some, option_map, option_and_then, if◌then◌else◌, Result, Ok, Err}
+use Rattle.std.specs.Prelude.{ℕ, zero, suc, ◌<◌, ◌^◌, ℤ, pos, negsuc, Bool, true, false, not, ◌&&◌, ◌||◌, ◌==◌, nat_eq, nat_le, List, length, codes, Option, None, Some, is_some, option_map, option_and_then, if◌then◌else◌, Result, Ok, Err, IsUtf8}
 use Rattle.std.specs.List.{list_all, ends_with}
 use Rattle.serde_json.specs.Data.{Data}
 use Rattle.serde_json.specs.Find.{get, as_bool, as_number, as_str, as_u64}
@@ -131,6 +131,16 @@ abbrev pub aio_of : Data → Option Command
 aio_of call =
     aio_from (name_from (param (codes "name") call)) (filename_from (param (codes "filename") call)) (block_size_or (param (codes "block_size") call))
     (depth_from (param (codes "queue_depth") call))
+
+-- a text names the file, and its blocks have bytes
+pub record IsOpenableFile (file : List ℕ) (size : ℕ) : Type 0 where
+  pub text : IsUtf8 file
+  pub bytes : 0 < size
+
+-- a command that opens a file names it by a text, and its blocks have bytes
+abbrev pub IsOpenable : Command → Type 0
+IsOpenable (Aio name file size depth) = IsOpenableFile file size
+IsOpenable _ = Unit {0}
 
 abbrev pub is_zero_or_absent : Option Data → Bool
 is_zero_or_absent None = true

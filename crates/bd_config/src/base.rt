@@ -1,8 +1,8 @@
 //! Calls that make a device with blocks of its own.
-ghost use Rattle.std.specs.Prelude.{◌≡◌, IfOk, codes, option_and_then};
+ghost use Rattle.std.specs.Prelude.{◌≡◌, IfOk, IfSome, codes, option_and_then};
 ghost use Rattle.serde_json.specs.View.{view};
 ghost use Rattle.serde_json.specs.Find.{as_bool};
-ghost use Rattle.bd_config.specs.Commands.{malloc_of, null_of, aio_of, param, is_zero_or_absent, is_plain, is_true};
+ghost use Rattle.bd_config.specs.Commands.{malloc_of, null_of, aio_of, IsOpenable, param, is_zero_or_absent, is_plain, is_true};
 
 use crate::command::Command;
 use crate::param::{block_size, block_size_or, boundary, depth, filename, name, number, param};
@@ -12,7 +12,8 @@ use std::alloc::Global;
 
 /// A device in memory; none where a parameter is wrong.
 pub(crate) fn malloc(alloc: Global, call: &Value) -> Result<Option<Command>, OutOfMemory>
-    ensures { IfOk result (λ command. command ≡ malloc_of (view call.now)) }
+    ensures value { IfOk result (λ command. command ≡ malloc_of (view call.now)) }
+    ensures openable { IfOk result (λ command. IfSome command IsOpenable) }
 {
     let (Some(name), Some(blocks), Some(size), Some(boundary), Some(depth)) = (
         name(call, "name"),
@@ -34,7 +35,8 @@ pub(crate) fn malloc(alloc: Global, call: &Value) -> Result<Option<Command>, Out
 
 /// A device that keeps nothing; none where a parameter is wrong.
 pub(crate) fn null(alloc: Global, call: &Value) -> Result<Option<Command>, OutOfMemory>
-    ensures { IfOk result (λ command. command ≡ null_of (view call.now)) }
+    ensures value { IfOk result (λ command. command ≡ null_of (view call.now)) }
+    ensures openable { IfOk result (λ command. IfSome command IsOpenable) }
 {
     let (Some(name), Some(blocks), Some(size), Some(boundary), Some(depth)) = (
         name(call, "name"),
@@ -56,7 +58,8 @@ pub(crate) fn null(alloc: Global, call: &Value) -> Result<Option<Command>, OutOf
 
 /// A device of a file's blocks; none where a parameter is wrong.
 pub(crate) fn aio(alloc: Global, call: &Value) -> Result<Option<Command>, OutOfMemory>
-    ensures { IfOk result (λ command. command ≡ aio_of (view call.now)) }
+    ensures value { IfOk result (λ command. command ≡ aio_of (view call.now)) }
+    ensures openable { IfOk result (λ command. IfSome command IsOpenable) }
 {
     let (Some(name), Some(file), Some(size), Some(depth)) = (
         name(call, "name"),

@@ -1,8 +1,9 @@
 //! Reading a configuration.
-ghost use Rattle.std.specs.Prelude.{◌≡◌, ℕ, ℤ, List, map, vec_len, Option, None, Some, Ok, Err, IfOk, IsErrOf, MatchResult};
+ghost use Rattle.std.specs.Prelude.{◌≡◌, ℕ, ℤ, List, map, vec_len, Option, None, Some, Ok, Err, IfOk, IsErrOf, MatchResult, All};
 ghost use Rattle.serde_json.specs.Data.{Data};
 ghost use Rattle.serde_json.specs.View.{view};
 ghost use Rattle.bd_config.specs.Shape.{subsystems_of, calls_of};
+ghost use Rattle.bd_config.specs.Commands.{IsOpenable};
 ghost use Rattle.bd_config.specs.Config.{IsJson, IsConfig, IsShapeNo, IsMethodNo, AsksFor, Refuses, answers_of, first_outside, first_refused, shape_fault, commands_from};
 ghost use Rattle.bd_config.specs.declared.command.Command.{Command as Asked};
 
@@ -71,6 +72,7 @@ fn read_calls(
     ensures refused { (code : ℤ) → result ≡ Ok (Some code)
         → commands_from commands.old.items (map view calls.now)
         ≡ Err (vec_len commands.new, code) }
+    ensures openable { All IsOpenable commands.old.items → All IsOpenable commands.new.items }
 {
     for call in calls {
         match answer(alloc, call)? {
@@ -93,6 +95,7 @@ fn read_subsystems(
     ensures refused { (code : ℤ) → result ≡ Ok (Some code)
         → commands_from commands.old.items (calls_of (map view subsystems.now))
         ≡ Err (vec_len commands.new, code) }
+    ensures openable { All IsOpenable commands.old.items → All IsOpenable commands.new.items }
 {
     for subsystem in subsystems {
         let refused = read_calls(alloc, calls_or_empty(subsystem), commands)?;
@@ -110,6 +113,7 @@ fn read_commands(alloc: Global, subsystems: &[Value]) -> Result<Vec<Command>, Co
     ensures shape { (place : ℕ) → ¬ IsErrOf result (ConfigNo.Shape place) }
     ensures method { (index : ℕ) (code : ℤ) → IsErrOf result (ConfigNo.Method index code)
         → first_refused 0 (answers_of (map view subsystems.now)) ≡ Some (index, code) }
+    ensures openable { IfOk result (λ commands. All IsOpenable commands.items) }
 {
     let mut commands = Vec::new(alloc);
     match read_subsystems(alloc, subsystems, &mut commands)? {
@@ -128,6 +132,7 @@ fn read_value(alloc: Global, value: &Value) -> Result<Vec<Command>, ConfigNo>
         → shape_fault (subsystems_of (view value.now)) ≡ Some place }
     ensures method { (index : ℕ) (code : ℤ) → IsErrOf result (ConfigNo.Method index code)
         → Refuses (view value.now) index code }
+    ensures openable { IfOk result (λ commands. All IsOpenable commands.items) }
 {
     let Some(subsystems) = subsystems_of(value) else {
         return Err(ConfigNo::Shape(0));
@@ -149,6 +154,7 @@ pub fn read_config(alloc: Global, bytes: &[u8]) -> Result<Vec<Command>, ConfigNo
         → IsMethodNo bytes.now index code }
     ensures reads { (asked : List Asked) → IsConfig bytes.now asked
         → MatchResult result (λ commands. commands.items ≡ asked) (λ no. no ≡ ConfigNo.OutOfMemory) }
+    ensures openable { IfOk result (λ commands. All IsOpenable commands.items) }
 {
     let value = match Value::from_slice(alloc, bytes) {
         Ok(value) => value,

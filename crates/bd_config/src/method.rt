@@ -1,7 +1,7 @@
 //! The methods of the subsystem `bdev`, and the codes of their refusals.
-ghost use Rattle.std.specs.Prelude.{◌≡◌, IfOk};
+ghost use Rattle.std.specs.Prelude.{◌≡◌, IfOk, IfSome};
 ghost use Rattle.serde_json.specs.View.{view};
-ghost use Rattle.bd_config.specs.Commands.{sets_options, is_passed_over, or_invalid, base_or_invalid, answer_named, answer_of};
+ghost use Rattle.bd_config.specs.Commands.{IsOpenable, sets_options, is_passed_over, or_invalid, base_or_invalid, answer_named, answer_of};
 
 use crate::base::{aio, is_plain, malloc, null};
 use crate::command::Command;
@@ -39,7 +39,8 @@ fn is_passed_over(method: &str) -> bool
 }
 
 fn or_invalid(command: Option<Command>) -> Result<Command, i32>
-    ensures { result ≡ or_invalid command }
+    ensures value { result ≡ or_invalid command }
+    ensures openable { IfSome command IsOpenable → IfOk result IsOpenable }
 {
     match command {
         Some(command) => Ok(command),
@@ -50,7 +51,8 @@ fn or_invalid(command: Option<Command>) -> Result<Command, i32>
 // The same of a device with blocks of its own, which is refused unless it is plain. Its parameters
 // are looked at first.
 fn base_or_invalid(plain: bool, command: Option<Command>) -> Result<Command, i32>
-    ensures { result ≡ base_or_invalid plain command }
+    ensures value { result ≡ base_or_invalid plain command }
+    ensures openable { IfSome command IsOpenable → IfOk result IsOpenable }
 {
     let command = or_invalid(command)?;
     if plain {
@@ -65,7 +67,8 @@ fn answer_named(
     method: &str,
     call: &Value,
 ) -> Result<Result<Command, i32>, OutOfMemory>
-    ensures { IfOk result (λ answer. answer ≡ answer_named method.now (view call.now)) }
+    ensures value { IfOk result (λ answer. answer ≡ answer_named method.now (view call.now)) }
+    ensures openable { IfOk result (λ answer. IfOk answer IsOpenable) }
 {
     if method == "bdev_malloc_create" {
         Ok(base_or_invalid(is_plain(call), malloc(alloc, call)?))
@@ -94,7 +97,8 @@ fn answer_named(
 
 /// The command that a call asks for, or the code of its refusal.
 pub(crate) fn answer(alloc: Global, call: &Value) -> Result<Result<Command, i32>, OutOfMemory>
-    ensures { IfOk result (λ answer. answer ≡ answer_of (view call.now)) }
+    ensures value { IfOk result (λ answer. answer ≡ answer_of (view call.now)) }
+    ensures openable { IfOk result (λ answer. IfOk answer IsOpenable) }
 {
     match text_of(call, "method") {
         Some(method) => answer_named(alloc, method, call),

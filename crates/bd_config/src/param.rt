@@ -1,5 +1,5 @@
 //! The parameters of a call, each in its form and range.
-ghost use Rattle.std.specs.Prelude.{◌≡◌, ◌≤◌, option_map, option_and_then, IfSome, codes};
+ghost use Rattle.std.specs.Prelude.{◌≡◌, ◌≤◌, ◌<◌, option_map, option_and_then, IfSome, codes, IsUtf8};
 ghost use Rattle.std.specs.List.{list_all};
 ghost use Rattle.serde_json.specs.View.{view};
 ghost use Rattle.bd_config.specs.Commands.{param, text_from, whole, number_from, number_or, is_name_byte, is_device_name, name_from, filename_from, only_block_size, block_size_from, block_size_or, boundary_from, depth_from, latency_from};
@@ -74,7 +74,8 @@ pub(crate) fn name<'a>(call: &'a Value, key: &str) -> Option<&'a [u8]>
 
 /// The name of a file: a text of 1 to 4,096 bytes.
 pub(crate) fn filename<'a>(call: &'a Value, key: &str) -> Option<&'a [u8]>
-    ensures { option_map (λ s. s.now) result ≡ filename_from (param key.now (view call.now)) }
+    ensures value { option_map (λ s. s.now) result ≡ filename_from (param key.now (view call.now)) }
+    ensures utf8 { IfSome result (λ s. IsUtf8 s.now) }
 {
     let name = text(call, key)?.as_bytes();
     if 1 <= name.len() && name.len() <= 4096 {
@@ -85,7 +86,8 @@ pub(crate) fn filename<'a>(call: &'a Value, key: &str) -> Option<&'a [u8]>
 }
 
 fn block_size_of(n: u64) -> Option<u32>
-    ensures { result ≡ only_block_size n }
+    ensures value { result ≡ only_block_size n }
+    ensures some { IfSome result (λ n. 0 < n) }
 {
     match n {
         512 => Some(512),
@@ -96,14 +98,16 @@ fn block_size_of(n: u64) -> Option<u32>
 
 /// The size of a block: 512 or 4,096 bytes.
 pub(crate) fn block_size(call: &Value) -> Option<u32>
-    ensures { result ≡ block_size_from (param (codes "block_size") (view call.now)) }
+    ensures value { result ≡ block_size_from (param (codes "block_size") (view call.now)) }
+    ensures some { IfSome result (λ n. 0 < n) }
 {
     block_size_of(whole(call, "block_size")?)
 }
 
 /// The same; absent it is 512.
 pub(crate) fn block_size_or(call: &Value) -> Option<u32>
-    ensures { result ≡ block_size_or (param (codes "block_size") (view call.now)) }
+    ensures value { result ≡ block_size_or (param (codes "block_size") (view call.now)) }
+    ensures some { IfSome result (λ n. 0 < n) }
 {
     if param(call, "block_size").is_none() {
         Some(512)

@@ -1,7 +1,7 @@
 //! Calls that inject errors and set limits.
-ghost use Rattle.std.specs.Prelude.{◌≡◌, ◌≤◌, ◌^◌, IfOk, option_and_then, codes};
+ghost use Rattle.std.specs.Prelude.{◌≡◌, ◌≤◌, ◌^◌, IfOk, IfSome, option_and_then, codes};
 ghost use Rattle.serde_json.specs.View.{view};
-ghost use Rattle.bd_config.specs.Commands.{param, text_from, kind_named, is_corrupt, types_named, types_from, inject_of, limit_from, rates_of, has_rate, limits_of, type_without_data};
+ghost use Rattle.bd_config.specs.Commands.{IsOpenable, param, text_from, kind_named, is_corrupt, types_named, types_from, inject_of, limit_from, rates_of, has_rate, limits_of, type_without_data};
 
 use crate::command::Command;
 use crate::param::{name, number, number_or, param, text};
@@ -103,7 +103,8 @@ fn types(call: &Value, kind: ErrKind) -> Option<IoSet>
 
 /// An injected error; none where a parameter is wrong.
 pub(crate) fn inject(alloc: Global, call: &Value) -> Result<Option<Command>, OutOfMemory>
-    ensures { IfOk result (λ command. command ≡ inject_of (view call.now)) }
+    ensures value { IfOk result (λ command. command ≡ inject_of (view call.now)) }
+    ensures openable { IfOk result (λ command. IfSome command IsOpenable) }
 {
     let Some(kind) = kind(call) else {
         return Ok(None);
@@ -156,7 +157,8 @@ fn has_rate(rates: &RateSet) -> bool
 
 /// Limits of a device; none where a parameter is wrong or no limit is given.
 pub(crate) fn limits(alloc: Global, call: &Value) -> Result<Option<Command>, OutOfMemory>
-    ensures { IfOk result (λ command. command ≡ limits_of (view call.now)) }
+    ensures value { IfOk result (λ command. command ≡ limits_of (view call.now)) }
+    ensures openable { IfOk result (λ command. IfSome command IsOpenable) }
 {
     let (Some(name), Some(rates)) = (name(call, "name"), rates(call)) else {
         return Ok(None);

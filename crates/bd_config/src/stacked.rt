@@ -1,7 +1,7 @@
 //! Calls that make devices over another one.
-ghost use Rattle.std.specs.Prelude.{◌≡◌, IfOk};
+ghost use Rattle.std.specs.Prelude.{◌≡◌, IfOk, IfSome};
 ghost use Rattle.serde_json.specs.View.{view};
-ghost use Rattle.bd_config.specs.Commands.{passthru_of, split_of, delay_of, error_of};
+ghost use Rattle.bd_config.specs.Commands.{IsOpenable, passthru_of, split_of, delay_of, error_of};
 
 use crate::command::Command;
 use crate::param::{name, number, number_or, whole};
@@ -11,7 +11,8 @@ use std::alloc::Global;
 
 /// A device that hands each request to its base; none where a parameter is wrong.
 pub(crate) fn passthru(alloc: Global, call: &Value) -> Result<Option<Command>, OutOfMemory>
-    ensures { IfOk result (λ command. command ≡ passthru_of (view call.now)) }
+    ensures value { IfOk result (λ command. command ≡ passthru_of (view call.now)) }
+    ensures openable { IfOk result (λ command. IfSome command IsOpenable) }
 {
     let (Some(base), Some(name)) = (name(call, "base_bdev_name"), name(call, "name")) else {
         return Ok(None);
@@ -24,7 +25,8 @@ pub(crate) fn passthru(alloc: Global, call: &Value) -> Result<Option<Command>, O
 
 /// Parts of a base; none where a parameter is wrong.
 pub(crate) fn split(alloc: Global, call: &Value) -> Result<Option<Command>, OutOfMemory>
-    ensures { IfOk result (λ command. command ≡ split_of (view call.now)) }
+    ensures value { IfOk result (λ command. command ≡ split_of (view call.now)) }
+    ensures openable { IfOk result (λ command. IfSome command IsOpenable) }
 {
     let (Some(base), Some(count), Some(megabytes)) = (
         name(call, "base_bdev"),
@@ -42,7 +44,8 @@ pub(crate) fn split(alloc: Global, call: &Value) -> Result<Option<Command>, OutO
 
 /// A device whose requests wait; none where a parameter is wrong.
 pub(crate) fn delay(alloc: Global, call: &Value) -> Result<Option<Command>, OutOfMemory>
-    ensures { IfOk result (λ command. command ≡ delay_of (view call.now)) }
+    ensures value { IfOk result (λ command. command ≡ delay_of (view call.now)) }
+    ensures openable { IfOk result (λ command. IfSome command IsOpenable) }
 {
     let (Some(base), Some(name)) = (name(call, "base_bdev_name"), name(call, "name")) else {
         return Ok(None);
@@ -67,7 +70,8 @@ pub(crate) fn delay(alloc: Global, call: &Value) -> Result<Option<Command>, OutO
 
 /// A device that takes injected errors; none where a parameter is wrong.
 pub(crate) fn error(alloc: Global, call: &Value) -> Result<Option<Command>, OutOfMemory>
-    ensures { IfOk result (λ command. command ≡ error_of (view call.now)) }
+    ensures value { IfOk result (λ command. command ≡ error_of (view call.now)) }
+    ensures openable { IfOk result (λ command. IfSome command IsOpenable) }
 {
     let Some(base) = name(call, "base_name") else {
         return Ok(None);

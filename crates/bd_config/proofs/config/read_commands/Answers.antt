@@ -1,7 +1,9 @@
 use Rattle.std.proofs.Common.{rules, ◌≡◌, ℕ, w32, to_z, of_z, map, List, [], Some, ap, sym, subst, ◌∙◌}
-use Rattle.std.specs.Prelude.{Ok, Err, vec_len}
+use Rattle.std.specs.Prelude.{Ok, Err, vec_len, All}
+use Rattle.std.proofs.lemmas.List.Elements.{All-nil}
 use Rattle.serde_json.specs.View.{view}
 use Rattle.bd_config.specs.Shape.{calls_of}
+use Rattle.bd_config.specs.Commands.{IsOpenable}
 use Rattle.bd_config.specs.Config.{commands_from}
 use Rattle.bd_config.specs.declared.command.Command.{Command}
 use Rattle.bd_config.proofs.CommandLemmas.{reads_answers, refuses_answers}
@@ -14,6 +16,10 @@ returns-in-None-clause-ok c =
     let items = c.read_subsystems.new.commands.items in
     let P : List Command → Type 0 = λ before. commands_from before calls ≡ Ok items in
     reads_answers [] calls items (subst P c.new-commands.ensures.items (c.read_subsystems.ensures.all (c.in_ok-read_subsystems.was ∙ ap Ok c.in-None.is)))
+
+pub returns-in-None-clause-openable : goal.returns-in-None-clause-openable
+returns-in-None-clause-openable c =
+    c.read_subsystems.ensures.openable (subst (All IsOpenable) (sym c.new-commands.ensures.items) (All-nil IsOpenable))
 
 pub returns-in_ok-place_of-in-Some-clause-method :
     goal.returns-in_ok-place_of-in-Some-clause-method

@@ -16,7 +16,10 @@ loop-subsystem-preserved c =
     let P : List Data → Type 0 = λ calls. commands_from before calls ≡ Ok c.read_calls.new.commands.items in
     let next = calls_from_next c.args.subsystems.now c.loop-subsystem.subsystem-index c.subsystem-item.result c.loop-subsystem-test.true c.subsystem-item.is in
     let read = subst P c.calls_or_empty.ensures (c.read_calls.ensures.all (c.in_ok-refused.was ∙ ap Ok (none_left c.in_ok-refused.refused (sym c.if-is_some.ensures)))) in
-    sym (reads_first before calls more _ read) ∙ ap (commands_from before) (sym next) ∙ c.loop-subsystem.invariant
+    record {
+      left = sym (reads_first before calls more _ read) ∙ ap (commands_from before) (sym next) ∙ c.loop-subsystem.invariant.left;
+      openable = λ were. c.read_calls.ensures.openable (c.loop-subsystem.invariant.openable were);
+    }
 
 pub returns-then-is_some-clause-refused : goal.returns-then-is_some-clause-refused
 returns-then-is_some-clause-refused c = λ code e.
@@ -26,4 +29,4 @@ returns-then-is_some-clause-refused c = λ code e.
     let P : List Data → Type 0 = λ calls. commands_from before calls ≡ Err (vec_len c.read_calls.new.commands, code) in
     let next = calls_from_next c.args.subsystems.now c.loop-subsystem.subsystem-index c.subsystem-item.result c.loop-subsystem-test.true c.subsystem-item.is in
     let refused = subst P c.calls_or_empty.ensures (c.read_calls.ensures.refused code (c.in_ok-refused.was ∙ e)) in
-    sym c.loop-subsystem.invariant ∙ ap (commands_from before) next ∙ refuses_first before calls more _ refused
+    sym c.loop-subsystem.invariant.left ∙ ap (commands_from before) next ∙ refuses_first before calls more _ refused
