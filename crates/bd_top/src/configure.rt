@@ -1,7 +1,7 @@
 //! The commands of a configuration, or the first thing that is wrong with it.
-ghost use Rattle.std.specs.Prelude.{◌≡◌, List, None, Some, IfOk, IfErr};
+ghost use Rattle.std.specs.Prelude.{◌≡◌, List, None, Some, IfOk, IfErr, All};
 ghost use Rattle.bd_base.specs.Errno.{number_of};
-ghost use Rattle.bd_config.specs.Commands.{minus};
+ghost use Rattle.bd_config.specs.Commands.{IsOpenable, minus};
 ghost use Rattle.bd_config.specs.Config.{IsConfig};
 ghost use Rattle.bd_config.specs.declared.command.Command.{Command as Asked};
 ghost use Rattle.bd_building.specs.Served.{first_unserved};
@@ -42,6 +42,7 @@ pub(crate) fn code_of(errno: Errno) -> i32
 // The commands that bytes ask for.
 fn commands(alloc: Global, bytes: &[u8]) -> Result<Vec<Command>, ConfigureNo>
     ensures ok { IfOk result (λ commands. IsConfig bytes.now commands.items) }
+    ensures openable { IfOk result (λ commands. All IsOpenable commands.items) }
     ensures cause { IfErr result (CommandsCause bytes.now) }
 {
     match read_config(alloc, bytes) {
@@ -72,6 +73,7 @@ fn unserved(place: usize) -> ConfigureNo
 #[tactic(auto, using(crate::proofs::ConfigureLemmas::read_cause, crate::proofs::ConfigureLemmas::unserved_cause))]
 pub(crate) fn commands_of(alloc: Global, bytes: &[u8]) -> Result<Vec<Command>, ConfigureNo>
     ensures ok { IfOk result (λ commands. IsConfig bytes.now commands.items) }
+    ensures openable { IfOk result (λ commands. All IsOpenable commands.items) }
     ensures served { IfOk result (λ commands. first_unserved commands.items ≡ None) }
     ensures cause { IfErr result (CauseBy NotRefused bytes.now) }
 {

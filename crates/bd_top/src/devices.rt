@@ -1,6 +1,7 @@
 //! The devices of a configuration's commands, and the disks that these open.
-ghost use Rattle.std.specs.Prelude.{◌≡◌, ◌<◌, length, IfOk, IfErr};
+ghost use Rattle.std.specs.Prelude.{◌≡◌, ◌<◌, length, IfOk, IfErr, All};
 ghost use Rattle.bd_building.specs.Disks.{file_of};
+ghost use Rattle.bd_config.specs.Commands.{IsOpenable};
 ghost use Rattle.bd_outside.specs.Host.{IsLater};
 ghost use Rattle.bd_top.specs.Configure.{IsRefused};
 ghost use Rattle.bd_top.specs.Disks.{IsNamed, MayGive, Opens};
@@ -23,8 +24,7 @@ pub(crate) struct Opened<D> {
 }
 
 // Opens the file that a command asks for as the disk of the device of this number, and says how many
-// blocks it has; 0 where the command opens none. A name that is no text and blocks without bytes, for
-// which no configuration asks, answer out of memory.
+// blocks it has; 0 where the command opens none.
 fn open_for<H: Host>(
     alloc: Global,
     host: &mut H,
@@ -32,7 +32,8 @@ fn open_for<H: Host>(
     dev: usize,
     command: &Command,
 ) -> Result<u64, Fault>
-    requires { 0 < length disks.old }
+    requires threads { 0 < length disks.old }
+    requires openable { IsOpenable command.now }
     ensures blocks { IfOk result (MayGive (H.state host.old).told (file_of command.now)) }
     ensures cause { IfErr result (DoingCause (H.state host.old) (H.state host.new) (IsNamed (file_of command.now)) NeverRefused) }
     ensures later { IsLater (H.state host.old) (H.state host.new) }
@@ -41,15 +42,15 @@ fn open_for<H: Host>(
     let Command::Aio { file, size, .. } = command else {
         return Ok(0);
     };
-    let (Ok(name), Ok(dev)) = (str::from_utf8(file.as_slice()), u32::try_from(dev)) else {
+    let Ok(name) = str::from_utf8(file.as_slice()) else {
+        unreachable!()
+    };
+    let Ok(dev) = u32::try_from(dev) else {
         return Err(Fault::OutOfMemory);
     };
     let Ok(kept) = String::from_str(alloc, name) else {
         return Err(Fault::OutOfMemory);
     };
-    if *size == 0 {
-        return Err(Fault::OutOfMemory);
-    }
     let disk = match host.open_disk(name, *size) {
         Ok(disk) => disk,
         Err(HostNo::Absent) => return Err(fault_of(alloc, name, ReadNo::Absent)),
@@ -86,7 +87,8 @@ fn do_command<H: Host>(
     index: u32,
     command: Command,
 ) -> Result<Opened<H::Disk>, Fault>
-    requires { 0 < length opened.disks }
+    requires threads { 0 < length opened.disks }
+    requires openable { IsOpenable command }
     ensures done { IfOk result (λ o. IsStep (H.state host.old).told opened.devices index command o.devices) }
     ensures cause { IfErr result (DoingCause (H.state host.old) (H.state host.new) (IsNamed (file_of command))
         (IsStepRefused (H.state host.old).told opened.devices index command)) }
@@ -118,7 +120,8 @@ pub(crate) fn open_devices<H: Host>(
     threads: u32,
     commands: Vec<Command>,
 ) -> Result<Opened<H::Disk>, Fault>
-    requires { 0 < threads }
+    requires threads { 0 < threads }
+    requires openable { All IsOpenable commands.items }
     ensures done { IfOk result (λ o. AreDone (H.state host.old).told threads commands.items o.devices) }
     ensures cause { IfErr result (DoingCause (H.state host.old) (H.state host.new) (Opens commands.items)
         (IsRefused threads (H.state host.old).told commands.items)) }

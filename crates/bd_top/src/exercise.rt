@@ -1,6 +1,7 @@
 //! The built-in configuration, and the setup of an exercise.
-ghost use Rattle.std.specs.Prelude.{◌≡◌, ◌<◌, ◌≤◌, [], length, None, Some, IfOk};
+ghost use Rattle.std.specs.Prelude.{◌≡◌, ◌<◌, ◌≤◌, [], length, None, Some, IfOk, All};
 ghost use Rattle.bd_building.specs.Served.{first_unserved};
+ghost use Rattle.bd_config.specs.Commands.{IsOpenable};
 ghost use Rattle.bd_config.specs.Config.{IsConfig};
 ghost use Rattle.bd_jobs.specs.Generated.{generated};
 ghost use Rattle.bd_jobs.specs.ScriptGrammar.{scripts_of};
@@ -26,6 +27,7 @@ const BUILT_IN: &str =
 #[tactic(auto, using(crate::proofs::BuiltIn::is_text, crate::proofs::BuiltIn::has_shape, crate::proofs::BuiltIn::has_commands))]
 fn commands(alloc: Global) -> Result<Vec<Command>, OutOfMemory>
     ensures config { IfOk result (λ commands. IsConfig built_in commands.items) }
+    ensures openable { IfOk result (λ commands. All IsOpenable commands.items) }
     ensures served { IfOk result (λ commands. first_unserved commands.items ≡ None) }
 {
     match commands_of(alloc, BUILT_IN.as_bytes()) {

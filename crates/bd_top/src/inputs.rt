@@ -1,5 +1,6 @@
 //! The two files of a run, the disks that the configuration opens, and what they mean.
-ghost use Rattle.std.specs.Prelude.{◌≡◌, ◌<◌, ℕ, List, length, IfOk, IfErr};
+ghost use Rattle.std.specs.Prelude.{◌≡◌, ◌<◌, ℕ, List, length, IfOk, IfErr, All};
+ghost use Rattle.bd_config.specs.Commands.{IsOpenable};
 ghost use Rattle.bd_outside.specs.Host.{IsLater};
 ghost use Rattle.bd_top.specs.Fault.{IsScriptFault, config_fault};
 ghost use Rattle.bd_top.specs.Run.{AreCommands, IsDevices, IsScript, IsMeant, ScriptCause, FileCause};
@@ -33,6 +34,7 @@ fn config_fault(no: ConfigureNo) -> Fault
 #[tactic(auto, using(crate::proofs::FileCauses::of_bytes, crate::proofs::FileCauses::of_config))]
 fn read_commands<H: Host>(alloc: Global, host: &mut H, name: &str) -> Result<Vec<Command>, Fault>
     ensures commands { IfOk result (λ commands. AreCommands ((H.state host.old).told name.now) commands.items) }
+    ensures openable { IfOk result (λ commands. All IsOpenable commands.items) }
     ensures cause { (jobs : List ℕ) (threads : ℕ) → IfErr result (FileCause (H.state host.old) (H.state host.new) name.now jobs threads) }
     ensures later { IsLater (H.state host.old) (H.state host.new) }
 {

@@ -1,7 +1,10 @@
 use Rattle.std.proofs.Common.{rules, ◌≡◌, ◌∙◌, ◌+◌, ℕ, inl, List, [], ◌∷◌, length, ap, sym, refl, subst, arith}
+use Rattle.std.specs.Prelude.{All}
 use Rattle.std.specs.Vec.Iter.{into_iter_items}
+use Rattle.std.proofs.lemmas.List.Elements.{All-head, All-tail}
 use Rattle.std.proofs.lemmas.Result.{IfErr-weaker}
 use Rattle.bd_building.specs.Disks.{file_of}
+use Rattle.bd_config.specs.Commands.{IsOpenable}
 use Rattle.bd_config.specs.declared.command.Command.{Command}
 use Rattle.bd_top.specs.Configure.{IsRefused}
 use Rattle.bd_top.specs.Disks.{IsNamed, Opens}
@@ -14,6 +17,10 @@ use Rattle.bd_top.proofs.devices.open_devices.Goals as goal
 none_left : {X : Type 0} (xs : List X) → length xs ≡ 0 → xs ≡ []
 none_left [] h = refl
 none_left (x ∷ xs) h = absurd (omega arith)
+
+pub do_command-requires-clause-openable : goal.do_command-requires-clause-openable
+do_command-requires-clause-openable g c =
+    All-head IsOpenable c.in-Some.command (into_iter_items c.next.new.self) (subst (All IsOpenable) c.in-Some.ensures.steps.0 c.loop-command.invariant.openable)
 
 pub returns-in_err-opened-clause-cause : goal.returns-in_err-opened-clause-cause
 returns-in_err-opened-clause-cause g c =
@@ -54,6 +61,7 @@ loop-command-preserved g c =
       later = later_then old mid new at.invariant.later c.do_command.ensures.later;
       disks = c.in_ok-opened.ensures.threads ∙ at.invariant.disks;
       counted = omega (arith, c.in-Some.ensures.steps.1, at.invariant.counted, ap length items);
+      openable = All-tail IsOpenable command left (subst (All IsOpenable) items at.invariant.openable);
     }
 
 pub returns-clause-done : goal.returns-clause-done

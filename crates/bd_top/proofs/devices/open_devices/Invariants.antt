@@ -1,5 +1,7 @@
 use Rattle.std.proofs.Common.{◌≡◌, length}
+use Rattle.std.specs.Prelude.{All}
 use Rattle.std.specs.Vec.Iter.{into_iter_items, into_iter_len}
+use Rattle.bd_config.specs.Commands.{IsOpenable}
 use Rattle.bd_outside.specs.Host.{IsLater}
 use Rattle.bd_top.proofs.Opening.{IsOnWay}
 use Rattle.bd_top.proofs.devices.open_devices.Given as goal
@@ -10,4 +12,5 @@ invariant-loop-command g l = record {
   later : IsLater (g.H.Host.state l.fn.host) (g.H.Host.state l.host);
   disks : length l.opened.disks ≡ l.threads;
   counted : into_iter_len l.command-iterator ≡ length (into_iter_items l.command-iterator);
+  openable : All IsOpenable (into_iter_items l.command-iterator);
 }
