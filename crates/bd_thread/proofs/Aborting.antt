@@ -73,7 +73,7 @@ aborted_acted old before new after req cause r due is =
     let may = abort_may old before req cause r due in
     acted_into old before new after (acts.Abort req cause) (untaken (stopped old.setup.now old.part req (Some r))) _
     (ap (λ (t : Thread). t.me) is.thread) (ap (λ (t : Thread). t.setup) is.thread) (ap (λ (t : Thread). t.part) is.thread) is.held is.links
-    (abort_steps old.setup.now old.me old.part (here_in old.held.items) before.registry.state before.shut (length before.entries) (queues_of before.queues.items) req cause r may.here may.passes)
+    (abort_steps old.setup.now old.me old.part (here_in old.held.items) before.registry.state before.shut (length before.entries) (queues_of before.queues.items) req cause r may.here may.passes) refl
 
 -- its open requests and their tickets stay
 departed_requests : (part : Part) (req : ReqId) (o : Option DevId) → (departed part req o).requests ≡ part.requests

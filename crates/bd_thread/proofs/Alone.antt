@@ -3,6 +3,7 @@ use Rattle.std.proofs.Common.{◌≡◌, ℕ, ◌+◌, Bool, true, false, cond, 
 use Rattle.std.proofs.lemmas.List.{append_cancel_left}
 use Rattle.std.proofs.lemmas.List.Elements.{filter-append}
 use Rattle.bd_base.specs.declared.act.Act.{Act}
+use Rattle.bd_base.specs.declared.setup.Setup.{Setup}
 use Rattle.bd_base.specs.declared.act.Act.TheVariants as acts
 use Rattle.bd_base.specs.declared.act.ApplyEnd.{ApplyEnd}
 use Rattle.bd_base.specs.declared.act.ApplyEnd.TheVariants as ends
@@ -43,7 +44,7 @@ use Rattle.bd_links.specs.Queues.{queues_of}
 use Rattle.bd_thread.specs.declared.links.Links.{Links}
 use Rattle.bd_thread.specs.declared.thread.Thread.{Thread}
 use Rattle.bd_thread.specs.Aborts.{abort_due, Stops, StopsBy, StopsEach}
-use Rattle.bd_thread.specs.Acted.{Acted}
+use Rattle.bd_thread.specs.Acted.{ActedBy}
 use Rattle.bd_thread.specs.Completions.{CompletesBy, MayComplete}
 use Rattle.bd_thread.specs.Cuts.{may_cut_now, Cuts, CutsBy}
 use Rattle.bd_thread.specs.Destructs.{may_device_go, DestructAdded, Destructs}
@@ -56,7 +57,7 @@ use Rattle.bd_thread.specs.Sent.{may_put, KeepsRequests, Puts, PutsBy, Takes, Ta
 use Rattle.bd_thread.specs.Disks.{IsServedAs}
 use Rattle.bd_thread.specs.Served.{Applies, ApplyAdded}
 use Rattle.bd_thread.specs.Walking.{visit_due, StopsFor, Visits, VisitsBy}
-use Rattle.bd_thread.specs.Work.{ActedAlone, AsksNothing}
+use Rattle.bd_thread.specs.Work.{ActedAloneBy, AsksNothing}
 
 -- ---- none, one, and one after the other
 
@@ -94,7 +95,7 @@ alone_by : (me : ℕ) (a c : Links) (act : Act) → is_event (entry_at me (lengt
 alone_by me a c act still is = alone_one me a c act still (ap (λ (l : Links). l.registry) is) (ap (λ (l : Links). l.entries) is)
 
 -- how a thread went on, and that it asked for nothing
-pub acted_alone : (o : Thread) (a : Links) (n : Thread) (c : Links) → Acted o a n c → AsksNothing a c → ActedAlone o a n c
+pub acted_alone : {may : Setup → Act → Bool} (o : Thread) (a : Links) (n : Thread) (c : Links) → ActedBy may o a n c → AsksNothing a c → ActedAloneBy may o a n c
 acted_alone o a n c g h = record {
   acted = g;
   registry = h.registry;

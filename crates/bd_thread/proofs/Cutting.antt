@@ -57,7 +57,7 @@ pub cut_acted : (old : Thread) (before : Links) (new : Thread) (after : Links) (
 cut_acted old before new after req r n is may cut =
     acted_into old before new after (acts.Cut req n) (untaken old.part) (held_after (cut_into old.setup.now req n (Some r)) (here_in old.held.items))
     (ap (λ (t : Thread). t.me) cut.thread) (ap (λ (t : Thread). t.setup) cut.thread) (ap (λ (t : Thread). t.part) cut.thread) cut.held cut.links
-    (cut_steps old.setup.now old.me old.part (here_in old.held.items) before.registry.state before.shut (length before.entries) (queues_of before.queues.items) req r n is may cut.pieces)
+    (cut_steps old.setup.now old.me old.part (here_in old.held.items) before.registry.state before.shut (length before.entries) (queues_of before.queues.items) req r n is may cut.pieces) refl
 
 -- where it may not be cut, nothing changes
 pub uncut_stays : (old : Thread) (before : Links) (req : ReqId) → may_cut_now req old before ≡ false → Cuts req old before old before 0

@@ -31,7 +31,7 @@ use Rattle.bd_tokens.specs.Tokens.{here_in}
 use Rattle.bd_links.proofs.Longer.{length-longer}
 use Rattle.bd_thread.specs.declared.links.Links.{Links}
 use Rattle.bd_thread.specs.declared.thread.Thread.{Thread}
-use Rattle.bd_thread.specs.Acted.{Acted}
+use Rattle.bd_thread.specs.Acted.{is_any, Acted, ActedBy, AreOf, Went}
 use Rattle.bd_thread.specs.Seen.{local_at, local}
 
 -- ---- what a thread sees and what is shared, by its parts
@@ -114,14 +114,22 @@ steps setup t l l' act still built hold change =
 
 -- ---- how the thread goes on
 
-pub acted_still : (old : Thread) (before : Links) (new : Thread) (after : Links)
+are_both : (may : Setup → Act → Bool) (setup : Setup) (xs ys : List Entry) → AreOf may setup xs → AreOf may setup ys → AreOf may setup (xs ++ ys)
+are_both may setup [] ys f s = s
+are_both may setup (x ∷ xs) ys f s = (f.0, are_both may setup xs ys f.1 s)
+
+are_any : (setup : Setup) (xs : List Entry) → AreOf is_any setup xs
+are_any setup [] = tt
+are_any setup (x ∷ xs) = (refl, are_any setup xs)
+
+pub acted_still : {may : Setup → Act → Bool} (old : Thread) (before : Links) (new : Thread) (after : Links)
     → new.me ≡ old.me
     → new.setup ≡ old.setup
     → vec_len after.queues ≡ vec_len before.queues
     → after.registry.setup ≡ before.registry.setup
     → after.entries ≡ before.entries
     → local old before ≡ local new after
-    → Acted old before new after
+    → ActedBy may old before new after
 acted_still old before new after me setup queues rows added same = record {
   me = me;
   setup = setup;
@@ -129,14 +137,15 @@ acted_still old before new after me setup queues rows added same = record {
   rows = rows;
   entries = [];
   added = added ∙ sym (append-nil before.entries);
+  acts = tt;
   leads = same;
 }
 
-pub acted_none : (t : Thread) (links : Links) → Acted t links t links
+pub acted_none : {may : Setup → Act → Bool} (t : Thread) (links : Links) → ActedBy may t links t links
 acted_none t links = acted_still t links t links refl refl refl refl refl refl
 
-pub acted_then : (o : Thread) (a : Links) (m : Thread) (b : Links) (n : Thread) (c : Links) → Acted o a m b → Acted m b n c → Acted o a n c
-acted_then o a m b n c g h =
+pub acted_then : {may : Setup → Act → Bool} (o : Thread) (a : Links) (m : Thread) (b : Links) (n : Thread) (c : Links) → ActedBy may o a m b → ActedBy may m b n c → ActedBy may o a n c
+acted_then {may} o a m b n c g h =
     let setup-is : m.setup.now ≡ o.setup.now = ap (λ s. s.now) g.setup in
     record {
       me = h.me ∙ g.me;
@@ -145,12 +154,17 @@ acted_then o a m b n c g h =
       rows = h.rows ∙ g.rows;
       entries = g.entries ++ h.entries;
       added = h.added ∙ ap (λ (es : List Entry). es ++ h.entries) g.added ∙ append_assoc a.entries g.entries h.entries;
+      acts = are_both may o.setup.now g.entries h.entries g.acts (subst (λ (s : Setup). AreOf may s h.entries) setup-is h.acts);
       leads = leads_on o.setup.now o.me (local o a) (local m b) (local n c) g.entries h.entries g.leads
           (subst (λ (t : ℕ). Leads o.setup.now t (local m b) h.entries (local n c)) g.me
           (subst (λ (s : Setup). Leads s m.me (local m b) h.entries (local n c)) setup-is h.leads));
     }
 
-pub acted_one : (old : Thread) (before : Links) (new : Thread) (after : Links) (act : Act)
+-- what went on by itself went on
+pub acted_went : (o : Thread) (a : Links) (n : Thread) (c : Links) → Acted o a n c → Went o a n c
+acted_went o a n c g = record { me = g.me; setup = g.setup; queues = g.queues; rows = g.rows; entries = g.entries; added = g.added; acts = are_any o.setup.now g.entries; leads = g.leads }
+
+pub acted_one : {may : Setup → Act → Bool} (old : Thread) (before : Links) (new : Thread) (after : Links) (act : Act)
     → new.me ≡ old.me
     → new.setup ≡ old.setup
     → vec_len after.queues ≡ vec_len before.queues
@@ -159,40 +173,44 @@ pub acted_one : (old : Thread) (before : Links) (new : Thread) (after : Links) (
     → is_shutdown act ≡ false
     → refusal_local old.setup.now old.me (local old before) (entry_at old.me (length before.entries + 1) act) ≡ None
     → local_after old.setup.now old.me (local old before) (entry_at old.me (length before.entries + 1) act) ≡ local new after
-    → Acted old before new after
-acted_one old before new after act me setup queues rows added still allowed leads = record {
+    → may old.setup.now act ≡ true
+    → ActedBy may old before new after
+acted_one old before new after act me setup queues rows added still allowed leads own = record {
   me = me;
   setup = setup;
   queues = queues;
   rows = rows;
   entries = entry_at old.me (length before.entries + 1) act ∷ [];
   added = added;
+  acts = (own, tt);
   leads = (refl, still, allowed, leads);
 }
 
-pub acted_step : (old : Thread) (before : Links) (new : Thread) (after : Links) (act : Act)
+pub acted_step : {may : Setup → Act → Bool} (old : Thread) (before : Links) (new : Thread) (after : Links) (act : Act)
     → new.me ≡ old.me
     → new.setup ≡ old.setup
     → vec_len after.queues ≡ vec_len before.queues
     → after.registry.setup ≡ before.registry.setup
     → after.entries ≡ longer old.me before.entries act
     → Steps old.setup.now old.me (local old before) act (local new after)
-    → Acted old before new after
-acted_step old before new after act me setup queues rows added h = acted_one old before new after act me setup queues rows added h.still h.allowed h.leads
+    → may old.setup.now act ≡ true
+    → ActedBy may old before new after
+acted_step old before new after act me setup queues rows added h own = acted_one old before new after act me setup queues rows added h.still h.allowed h.leads own
 
 -- by what the act leaves, part by part
-pub acted_by : (old : Thread) (before : Links) (new : Thread) (after : Links) (act : Act)
+pub acted_by : {may : Setup → Act → Bool} (old : Thread) (before : Links) (new : Thread) (after : Links) (act : Act)
     → new.me ≡ old.me
     → new.setup ≡ old.setup
     → vec_len after.queues ≡ vec_len before.queues
     → after.registry.setup ≡ before.registry.setup
     → after.entries ≡ longer old.me before.entries act
     → Steps old.setup.now old.me (local old before) act (local_at old.me new.part (here_in new.held.items) after.registry.state after.shut (length before.entries + 1) (queues_of after.queues.items))
-    → Acted old before new after
-acted_by old before new after act me setup queues rows added h =
+    → may old.setup.now act ≡ true
+    → ActedBy may old before new after
+acted_by old before new after act me setup queues rows added h own =
     let at : ℕ → ℕ → Local = λ t n. local_at t new.part (here_in new.held.items) after.registry.state after.shut n (queues_of after.queues.items) in
     let stamp : length before.entries + 1 ≡ length after.entries = sym (length-longer old.me before.entries act) ∙ sym (ap length added) in
-    acted_one old before new after act me setup queues rows added h.still h.allowed (h.leads ∙ ap (at old.me) stamp ∙ ap (λ t. at t (length after.entries)) (sym me))
+    acted_one old before new after act me setup queues rows added h.still h.allowed (h.leads ∙ ap (at old.me) stamp ∙ ap (λ t. at t (length after.entries)) (sym me)) own
 
 -- what is said of the thread and the links as an act leaves them
 pub carried : (P : Thread → Links → Type 0) (new : Thread) (after : Links) (n : Thread) (l : Links) → n ≡ new → l ≡ after → P new after → P n l

@@ -2,6 +2,7 @@
 use Rattle.std.proofs.Common.{◌≡◌, ℕ, ◌≤◌, Bool, true, false, List, [], ◌∷◌, length, is_some, Option, Some, None, Result, Ok, Err, OnOk, IfOk, refl, sym, ◌∙◌, ap, subst, arith, find}
 use Rattle.std.proofs.lemmas.List.{length-append}
 use Rattle.bd_base.specs.declared.act.Act.{Act}
+use Rattle.bd_base.specs.declared.setup.Setup.{Setup}
 use Rattle.bd_base.specs.declared.act.Act.TheVariants as acts
 use Rattle.bd_base.specs.declared.act.Outcome.{Outcome}
 use Rattle.bd_base.specs.declared.act.Token.{Token}
@@ -30,7 +31,7 @@ use Rattle.bd_due.specs.declared.completion.Ending.{Ending}
 use Rattle.bd_thread.specs.declared.links.Links.{Links}
 use Rattle.bd_thread.specs.declared.thread.Thread.{Thread}
 use Rattle.bd_thread.specs.Aborts.{abort_due, Stops, StopsBy, StopsEach}
-use Rattle.bd_thread.specs.Acted.{Acted}
+use Rattle.bd_thread.specs.Acted.{Acted, ActedBy}
 use Rattle.bd_due.specs.Completions.{ending_of}
 use Rattle.bd_thread.specs.Completions.{Completes, CompletesBy, MayComplete}
 use Rattle.bd_thread.specs.Cuts.{may_cut_now, Cuts, CutsBy}
@@ -50,7 +51,7 @@ use Rattle.bd_thread.proofs.Going.{acted_then}
 
 -- ---- entries are only added
 
-pub grown : (o : Thread) (a : Links) (n : Thread) (c : Links) → Acted o a n c → length a.entries ≤ length c.entries
+pub grown : {may : Setup → Act → Bool} (o : Thread) (a : Links) (n : Thread) (c : Links) → ActedBy may o a n c → length a.entries ≤ length c.entries
 grown o a n c h = omega (arith, ap length h.added, length-append a.entries h.entries)
 
 -- one entry was added
@@ -71,9 +72,9 @@ pub idle_so : {P Q : Thread → Links → Type 0} (o : Thread) (a : Links) (n : 
 idle_so o a n c so h = λ few. let i = h few in record { thread = i.thread; links = i.links; waits = so i.waits }
 
 -- one step after the other
-pub idle_then : {P Q R : Thread → Links → Type 0} (o : Thread) (a : Links) (m : Thread) (b : Links) (n : Thread) (c : Links)
-    → Acted o a m b
-    → Acted m b n c
+pub idle_then : {may : Setup → Act → Bool} {P Q R : Thread → Links → Type 0} (o : Thread) (a : Links) (m : Thread) (b : Links) (n : Thread) (c : Links)
+    → ActedBy may o a m b
+    → ActedBy may m b n c
     → (P o a → Q o a → R o a)
     → Idles P o a m b
     → Idles Q m b n c
@@ -88,9 +89,9 @@ idle_then {P = P} {Q = Q} {R = R} o a m b n c g h both f s few =
     }
 
 -- the last step, which promises something only where nothing was done before
-pub idle_last : {P Q R : Thread → Links → Type 0} (o : Thread) (a : Links) (m : Thread) (b : Links) (n : Thread) (c : Links)
-    → Acted o a m b
-    → Acted m b n c
+pub idle_last : {may : Setup → Act → Bool} {P Q R : Thread → Links → Type 0} (o : Thread) (a : Links) (m : Thread) (b : Links) (n : Thread) (c : Links)
+    → ActedBy may o a m b
+    → ActedBy may m b n c
     → (P o a → Q o a → R o a)
     → Idles P o a m b
     → (length a.entries ≡ length b.entries → Idles Q m b n c)

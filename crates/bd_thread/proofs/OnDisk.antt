@@ -22,7 +22,7 @@ use Rattle.bd_tokens.specs.Tokens.{here_in}
 use Rattle.bd_due.specs.Serving.{may_hold}
 use Rattle.bd_thread.specs.declared.links.Links.{Links}
 use Rattle.bd_thread.specs.declared.thread.Thread.{Thread}
-use Rattle.bd_thread.specs.Acted.{Acted}
+use Rattle.bd_thread.specs.Acted.{Went}
 use Rattle.bd_thread.specs.Disks.{disk_due, held_as, IsServedAs, NoPieceOnDisk, ServesAs, ServesAsBy}
 use Rattle.bd_thread.specs.Requests.{KeepsTickets}
 use Rattle.bd_thread.specs.Seen.{untaken}
@@ -47,10 +47,10 @@ pub served_as_acted : (old : Thread) (before : Links) (new : Thread) (after : Li
     → is_first_at req k (find (is_base dev) old.part.bases) ≡ true
     → here_in old.held.items (ids.Piece req k) ≡ Some (keeps.Piece s.piece)
     → same_dev s.piece.base dev ≡ true
-    → Acted old before new after
+    → Went old before new after
 served_as_acted old before new after req k dev end s home aio holds first here on = go (find (is_base dev) old.part.bases) refl
   where
-    go : (c : Option Base) → find (is_base dev) old.part.bases ≡ c → Acted old before new after
+    go : (c : Option Base) → find (is_base dev) old.part.bases ≡ c → Went old before new after
     go None found = not_true (sym (ap (is_first_at req k) found) ∙ first)
     go (Some b) found =
         let size = size_of old.setup.now dev in
@@ -61,7 +61,7 @@ served_as_acted old before new after req k dev end s home aio holds first here o
         (ap (λ (t : Thread). t.me) s.thread) (ap (λ (t : Thread). t.setup) s.thread) (ap (λ (t : Thread). t.part) s.thread)
         (s.held ∙ ap (λ (c : Option Base). held_as req k end size s.piece c now) found) s.links
         (apply_steps old.setup.now old.me old.part now before.registry.state before.shut (length before.entries) (queues_of before.queues.items) req k dev end s.piece size (served end size s.piece b) bases then_is
-        (at_home old.setup.now old.me dev home) refl first here on holds (ap (λ (f : Bool). is_done_or f end) aio ∙ any_end end) refl (ap (option_map (served end size s.piece)) found) refl)
+        (at_home old.setup.now old.me dev home) refl first here on holds (ap (λ (f : Bool). is_done_or f end) aio ∙ any_end end) refl (ap (option_map (served end size s.piece)) found) refl) refl
 
 pub served_as_tickets : (old : Thread) (before : Links) (new : Thread) (after : Links) (req : ReqId) (k : ℕ) (dev : DevId) (end : ApplyEnd) → IsServedAs req k dev end old before new after → KeepsTickets old → KeepsTickets new
 served_as_tickets old before new after req k dev end s keeps =

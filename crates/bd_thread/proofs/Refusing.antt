@@ -73,7 +73,7 @@ sent_back_acted old before new after req k dev due is =
     acted_into old before new after (acts.NoMem req k dev) (untaken (record old.part { bases = change_first (is_base dev) without_last old.part.bases })) (here_refused req k (here_in old.held.items))
     (ap (λ (t : Thread). t.me) is.thread) (ap (λ (t : Thread). t.setup) is.thread) (ap (λ (t : Thread). t.part) is.thread) is.held is.links
     (refuse_steps old.setup.now old.me old.part (here_in old.held.items) before.registry.state before.shut (length before.entries) (queues_of before.queues.items) req k dev
-    (refusal_may old.setup.now old.me (view_of old before) dev req k due))
+    (refusal_may old.setup.now old.me (view_of old before) dev req k due)) refl
 
 pub sent_back_tickets : (old : Thread) (before : Links) (new : Thread) (after : Links) (req : ReqId) (k : ℕ) (dev : DevId) → IsSentBack req k dev old before new after → KeepsTickets old → KeepsTickets new
 sent_back_tickets old before new after req k dev is keeps =

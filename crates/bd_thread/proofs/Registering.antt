@@ -207,7 +207,7 @@ asked_acted t before new after event built asks is =
     ap (λ (n : ℕ). local_at t.me p.part (here_in new.held.items) registry before.shut n queues) (sym (length-longer t.me before.entries act)) in
     subst (λ (n : Thread). Acted t before n after) (sym is.thread)
     (subst (λ (l : Links). Acted t before p l) (sym is.links)
-    (acted_step t before p q act refl refl refl refl refl (subst (Steps t.setup.now t.me (local t before) act) ends stepped)))
+    (acted_step t before p q act refl refl refl refl refl (subst (Steps t.setup.now t.me (local t before) act) ends stepped) refl))
 
 -- open requests and their tickets stay
 pub answered_tickets : (t : Thread) (before : Links) (new : Thread) (event : RegEvent) (answer : Answer)

@@ -30,26 +30,27 @@ use Rattle.bd_links.specs.Queues.{queues_of}
 use Rattle.bd_tokens.specs.Tokens.{here_in}
 use Rattle.bd_thread.specs.declared.links.Links.{Links}
 use Rattle.bd_thread.specs.declared.thread.Thread.{Thread}
-use Rattle.bd_thread.specs.Acted.{Acted}
+use Rattle.bd_thread.specs.Acted.{Acted, ActedBy}
 use Rattle.bd_thread.specs.Requests.{accept_act, accepted, opened, refusal, refuse_act, refused, IsAsked, IsFresh, IsOpened}
 use Rattle.bd_thread.specs.Seen.{local, local_at, view_of}
 use Rattle.bd_thread.proofs.Going.{Steps, steps, still_shut, acted_step}
 
 -- one act that leads to this part and to what is then here
-pub acted_into : (old : Thread) (before : Links) (new : Thread) (after : Links) (act : Act) (part : Part) (here : Id → Option Kept)
+pub acted_into : {may : Setup → Act → Bool} (old : Thread) (before : Links) (new : Thread) (after : Links) (act : Act) (part : Part) (here : Id → Option Kept)
     → new.me ≡ old.me
     → new.setup ≡ old.setup
     → new.part ≡ part
     → here_in new.held.items ≡ here
     → after ≡ record before { entries = longer old.me before.entries act }
     → Steps old.setup.now old.me (local old before) act (local_at old.me part here before.registry.state before.shut (length before.entries + 1) (queues_of before.queues.items))
-    → Acted old before new after
-acted_into old before new after act part here me setup part-is here-is links leads =
+    → may old.setup.now act ≡ true
+    → ActedBy may old before new after
+acted_into old before new after act part here me setup part-is here-is links leads own =
     let then_is : (n : ℕ) → Local = λ n. local_at old.me part here before.registry.state before.shut n (queues_of before.queues.items) in
     let counted : length before.entries + 1 ≡ length (longer old.me before.entries act) = sym (length-append before.entries _) in
     let same : then_is (length (longer old.me before.entries act)) ≡ local new after = λ i. local_at (sym me i) (sym part-is i) (sym here-is i) (sym links i).registry.state (sym links i).shut (length (sym links i).entries) (queues_of (sym links i).queues.items) in
     acted_step old before new after act me setup (ap (λ (l : Links). vec_len l.queues) links) (ap (λ (l : Links). l.registry.setup) links) (ap (λ (l : Links). l.entries) links)
-    (subst (λ (l : Local). Steps old.setup.now old.me (local old before) act l) (ap then_is counted ∙ same) leads)
+    (subst (λ (l : Local). Steps old.setup.now old.me (local old before) act l) (ap then_is counted ∙ same) leads) own
 
 module _ (setup : Setup) (me : ℕ) (part : Part) (here : Id → Option Kept) (registry : Registry) (shut : Bool) (stamp : ℕ) (queues : ℕ → List Message) (running : shut ≡ false) (asked : Submission) where
   -- the thread's handle of this number
@@ -123,7 +124,7 @@ opened_acted old before new after req dev handle asked is fresh admitted on room
     acted_into old before new after (accept_act req dev handle asked) (accepted old.setup.now old.me old.part req dev handle asked) _
     (ap (λ (t : Thread). t.me) opens.thread) (ap (λ (t : Thread). t.setup) opens.thread) opens.part opens.held opens.links
     (accept_steps old.setup.now old.me old.part (here_in old.held.items) before.registry.state before.shut (length before.entries) (queues_of before.queues.items) is.running asked
-    req dev handle is.line is.ranged admitted on fresh.own fresh.above room fresh.names)
+    req dev handle is.line is.ranged admitted on fresh.own fresh.above room fresh.names) refl
 
 pub refused_acted : (old : Thread) (before : Links) (new : Thread) (after : Links) (handle : Option HandleId) (asked : Submission) (errno : Errno)
     → IsAsked old before handle asked
@@ -135,7 +136,7 @@ refused_acted old before new after handle asked errno is due thread links =
     acted_into old before new after (refuse_act handle asked errno) (refused errno old.part) (here_in old.held.items)
     (ap (λ (t : Thread). t.me) thread) (ap (λ (t : Thread). t.setup) thread) (ap (λ (t : Thread). t.part) thread) (ap (λ (t : Thread). here_in t.held.items) thread) links
     (refuse_steps old.setup.now old.me old.part (here_in old.held.items) before.registry.state before.shut (length before.entries) (queues_of before.queues.items) is.running asked
-    handle errno is.line is.ranged due)
+    handle errno is.line is.ranged due) refl
 
 -- the place of a ticket is no matter of the local rules
 pub opened_keeping : (old : Thread) (before : Links) (new : Thread) (after : Links) (req : ReqId) (dev : DevId) (handle : HandleId) (asked : Submission) (purse : Purse)

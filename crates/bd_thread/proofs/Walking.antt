@@ -116,7 +116,7 @@ visited_acted t before new after walk w due is =
     ap (λ (n : ℕ). local_at t.me p.part (here_in new.held.items) before.registry.state before.shut n queues) (sym (length-longer t.me before.entries act)) in
     subst (λ (n : Thread). Acted t before n after) (sym is.thread)
     (subst (λ (l : Links). Acted t before p l) (sym is.links)
-    (acted_step t before p q act refl refl refl refl refl (subst (Steps t.setup.now t.me (local t before) act) ends stepped)))
+    (acted_step t before p q act refl refl refl refl refl (subst (Steps t.setup.now t.me (local t before) act) ends stepped) refl))
 
 -- its open requests and their tickets stay
 pub visited_tickets : (t : Thread) (before : Links) (new : Thread) (after : Links) (walk : WalkId) (w : OpenWalk) → IsVisited walk w t before new after → KeepsTickets t → KeepsTickets new

@@ -1,11 +1,12 @@
 -- Which piece a thread serves next, and what is said of it.
-use Rattle.std.specs.Prelude.{◌≡◌, find, Option, Some, None}
+use Rattle.std.specs.Prelude.{◌≡◌, cond, find, Option, Some, None}
 use Rattle.bd_base.specs.declared.act.Act.TheVariants as acts
 use Rattle.bd_base.specs.declared.act.ApplyEnd.TheVariants as ends
 use Rattle.bd_base.specs.declared.id.DevId.{DevId}
 use Rattle.bd_due.specs.Serving.{next_piece}
 use Rattle.bd_machine.specs.declared.state.Id.{Id}
 use Rattle.bd_machine.specs.declared.state.Id.TheVariants as ids
+use Rattle.bd_machine.specs.BlockMap.{is_aio}
 use Rattle.bd_machine.specs.Homes.{is_base}
 use Rattle.bd_links.specs.Entries.{longer}
 use Rattle.bd_tokens.specs.Tokens.{here_in}
@@ -14,9 +15,9 @@ use Rattle.bd_thread.specs.declared.thread.Thread.{Thread}
 
 -- ---- which is served next
 
--- the piece that a thread serves next on a device
+-- the piece that a thread serves next on a device; none on an aio device, whose disk serves its pieces
 abbrev pub next_due : Thread → DevId → Option Id
-next_due t dev = next_piece t.setup.now t.me (here_in t.held.items) dev (find (is_base dev) t.part.bases)
+next_due t dev = cond (is_aio t.setup.now dev) None (next_piece t.setup.now t.me (here_in t.held.items) dev (find (is_base dev) t.part.bases))
 
 -- ---- what is said of it
 

@@ -1,7 +1,9 @@
 -- What a thread does that asks the registry for nothing: what that leaves, what the thread waits for then, and when it wants the registry.
 use Rattle.std.specs.Prelude.{◌≡◌, ℕ, ◌^◌, Bool, true, false, cond, not, ◌&&◌, ◌||◌, ◌==◌, nat_lt, List, [], ◌++◌, length, None, is_some}
 use Rattle.std.specs.List.{list_any, range_with_len}
+use Rattle.bd_base.specs.declared.act.Act.{Act}
 use Rattle.bd_base.specs.declared.act.Entry.{Entry}
+use Rattle.bd_base.specs.declared.setup.Setup.{Setup}
 use Rattle.bd_machine.specs.Messages.{count_at}
 use Rattle.bd_machine.specs.Users.{dev_of}
 use Rattle.bd_merged.specs.Journals.{events}
@@ -11,7 +13,7 @@ use Rattle.bd_thread.specs.declared.links.Links.{Links}
 use Rattle.bd_thread.specs.declared.thread.Thread.{Thread}
 use Rattle.bd_thread.specs.declared.turn.Turned.{Turned}
 use Rattle.bd_thread.specs.declared.turn.Turned.TheVariants.{Moved, Quiet}
-use Rattle.bd_thread.specs.Acted.{Acted}
+use Rattle.bd_thread.specs.Acted.{is_any, is_own, ActedBy}
 use Rattle.bd_thread.specs.Endings.{left_on}
 use Rattle.bd_thread.specs.Lines.{job_now, outcome_now}
 use Rattle.bd_thread.specs.Waits.{IsIdle, IsWaiting, NoDestruct, NoLine, NoMessage, NoPiece, NoRefusal, NoRetry, NoStep, NoSubmission, NothingToPost, NothingToSend}
@@ -25,11 +27,18 @@ pub record AsksNothing (before after : Links) : Type 0 where
   pub added : after.entries ≡ before.entries ++ entries
   pub none_asks : events entries ≡ []
 
--- the thread went on by the local rules, the registry is as before, and none of the entries that were added asks it or is the Shutdown
-pub record ActedAlone (old : Thread) (before : Links) (new : Thread) (after : Links) : Type 0 where
-  pub acted : Acted old before new after
+-- the thread went on by such acts, the registry is as before, and none of the entries that were added asks it or is the Shutdown
+pub record ActedAloneBy (may : Setup → Act → Bool) (old : Thread) (before : Links) (new : Thread) (after : Links) : Type 0 where
+  pub acted : ActedBy may old before new after
   pub registry : after.registry ≡ before.registry
   pub none_asks : events acted.entries ≡ []
+
+-- by itself, and with its disks
+abbrev pub ActedAlone : Thread → Links → Thread → Links → Type 0
+ActedAlone old before new after = ActedAloneBy is_own old before new after
+
+abbrev pub WentAlone : Thread → Links → Thread → Links → Type 0
+WentAlone old before new after = ActedAloneBy is_any old before new after
 
 -- ---- what a thread waits for then
 

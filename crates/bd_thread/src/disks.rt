@@ -1,6 +1,6 @@
 //! Pieces that the disks of a thread's aio devices serve: which is next, and what a disk did with it.
 ghost use Rattle.std.specs.Prelude.{◌≡◌, ◌<◌, vec_len, option_copied, IfOk, OnOk};
-ghost use Rattle.bd_thread.specs.Acted.{Acted};
+ghost use Rattle.bd_thread.specs.Acted.{Went};
 ghost use Rattle.bd_thread.specs.Disks.{piece_on_disk, NoPieceOnDisk, ServesAs};
 ghost use Rattle.bd_thread.specs.Requests.{KeepsTickets};
 ghost use Rattle.bd_thread.specs.Seen.{block_size, number_of};
@@ -44,7 +44,7 @@ impl<'a> Thread<'a> {
         given: Given,
     ) -> Result<bool, OutOfMemory>
         requires { number_of self.old < vec_len links.old.queues }
-        ensures acted { OnOk result (Acted self.old links.old self.new links.new) }
+        ensures acted { OnOk result (Went self.old links.old self.new links.new) }
         ensures tickets { OnOk result (KeepsTickets self.old → KeepsTickets self.new) }
         ensures quiet { OnOk result (Idles (NoPieceOnDisk dev) self.old links.old self.new links.new) }
         ensures serves { IfOk result (ServesAs dev given.end self.old links.old self.new links.new) }

@@ -13,7 +13,7 @@ ghost use Rattle.bd_thread.specs.Work.{AsksNothing};
 use crate::links::Links;
 use crate::thread::Thread;
 use bd_base::{Act, ApplyEnd, DevId, OutOfMemory, ReqId, Token};
-use bd_blocks::{digest_due, size_of};
+use bd_blocks::{digest_due, is_aio, size_of};
 use bd_changes::destructed;
 use bd_due::{next_due, refusal_due, refuse};
 use bd_home::{drop_last, serve};
@@ -23,7 +23,8 @@ use bd_rules::may_destruct;
 impl<'a> Thread<'a> {
     /// Serves the first piece in the device's queue, and gives its id. None, and nothing changes,
     /// where this thread isn't the device's home, no piece waits there, it isn't here or isn't on
-    /// this device, the content doesn't have its blocks, or the queue holds too many.
+    /// this device, the content doesn't have its blocks, or the queue holds too many; and on an aio
+    /// device, whose disk serves its pieces.
     pub(crate) fn apply(&mut self, links: &mut Links, dev: DevId) -> Result<Option<Id>, OutOfMemory>
         requires { self.old.me < vec_len links.old.queues }
         ensures acted { OnOk result (Acted self.old links.old self.new links.new) }
@@ -36,6 +37,9 @@ impl<'a> Thread<'a> {
         let Some(next) = next_due(bases, &self.held, setup, self.me, dev) else {
             return Ok(None);
         };
+        if is_aio(setup, dev) {
+            return Ok(None);
+        }
         let size = size_of(setup, dev);
         let req = next.req;
         let k = next.k;

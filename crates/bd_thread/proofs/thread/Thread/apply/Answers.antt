@@ -1,10 +1,10 @@
-use Rattle.std.proofs.Common.{◌≡◌, ℕ, List, length, refl, sym, ◌∙◌, ap, subst}
+use Rattle.std.proofs.Common.{◌≡◌, ℕ, true, not, List, length, refl, sym, ◌∙◌, ap, subst}
 use Rattle.std.specs.List.{find}
 use Rattle.bd_base.specs.declared.act.Act.TheVariants as acts
 use Rattle.bd_base.specs.declared.act.ApplyEnd.TheVariants as ends
 use Rattle.bd_home.specs.Serving.{can_serve}
 use Rattle.bd_machine.specs.declared.state.Base.{Base}
-use Rattle.bd_machine.specs.BlockMap.{home}
+use Rattle.bd_machine.specs.BlockMap.{home, is_aio}
 use Rattle.bd_machine.specs.Homes.{is_base, is_first_at}
 use Rattle.bd_links.specs.Entries.{longer}
 use Rattle.bd_links.specs.Queues.{queues_of}
@@ -29,6 +29,7 @@ returns-clause-acted c =
     let act = acts.Apply n.req n.k dev ends.Done in
     let size = c.size_of-size.result in
     let next = c.in-Some.ensures.next in
+    let own : not (is_aio t.setup.now dev) ≡ true = ap not (sym c.is_aio.ensures ∙ c.if-is_aio.false) in
     let here = here_in t.held.items in
     let new : Thread = record t { part = untaken (record t.part { bases = c.serve.new.bases }); held = c.hold.new.self } in
     let after : Links = record links { entries = longer t.me links.entries act } in
@@ -41,7 +42,7 @@ returns-clause-acted c =
     ∙ next.ready.serves in
     let stepped = apply_steps t.setup.now t.me t.part here links.registry.state links.shut (length links.entries) (queues_of links.queues.items) n.req n.k dev ends.Done n.piece.now size c.in_ok-piece.piece c.serve.new.bases (here_in c.hold.new.self.items)
     home-is c.size_of-size.ensures first next.ready.here (serves_own size dev (find (is_base dev) t.part.bases) n.piece.now ready) holds refl c.in_ok-piece.ensures.bases c.in_ok-piece.ensures.piece c.in_ok-hold.ensures.ok in
-    carried (Acted t links) new after _ _ c.in_ok-note.ensures.thread c.in_ok-note.ensures.links (acted_by t links new after act refl refl refl refl refl stepped)
+    carried (Acted t links) new after _ _ c.in_ok-note.ensures.thread c.in_ok-note.ensures.links (acted_by t links new after act refl refl refl refl refl stepped own)
 
 pub returns-clause-tickets : goal.returns-clause-tickets
 returns-clause-tickets c = λ keeps.

@@ -33,7 +33,7 @@ returns c =
     let part : record t { part = untaken c.line_done.new.part } ≡ new = ap (λ (p : Part). let n : Thread = record t { part = untaken p } in n) c.in_ok-line_done.ensures in
     let acted : Acted t links new after =
     acted_into t links new after (acts.Script line.number outcome) (done t line.job) (here_in t.held.items) refl refl refl refl refl
-    (line_steps t.setup.now t.me t.part (here_in t.held.items) links.registry.state links.shut (length links.entries) (queues_of links.queues.items) line outcome c.if-links.false next due) in
+    (line_steps t.setup.now t.me t.part (here_in t.held.items) links.registry.state links.shut (length links.entries) (queues_of links.queues.items) line outcome c.if-links.false next due) refl in
     let ended : IsEnded outcome t links new after = record { line = line; next = next; thread = refl; links = refl } in
     let thread = c.in_ok-note.ensures.thread ∙ part in
     record {

@@ -40,7 +40,7 @@ returns-clause-acted c =
     (ap (λ (id : Id). kept_on_way what (here id)) (sym c.id_of-id.ensures) ∙ c.in_ok-kept.ensures.kept)
     c.in_ok-put.ensures
     (c.in_ok-kept.ensures.gone ∙ ap (λ (id : Id). λ j. cond (same_id id j) None (here j)) c.id_of-id.ensures)
-    (c.in_ok-push.ensures.ok ∙ ap (λ (w : Token). let m : Message = record { sender = t.me; what = w; kept = c.in_ok-kept.kept } in λ r. cond (r == to) (queues r ++ m ∷ []) (queues r)) c.in_ok-told.ensures)))
+    (c.in_ok-push.ensures.ok ∙ ap (λ (w : Token). let m : Message = record { sender = t.me; what = w; kept = c.in_ok-kept.kept } in λ r. cond (r == to) (queues r ++ m ∷ []) (queues r)) c.in_ok-told.ensures)) refl)
 
 pub returns-clause-tickets : goal.returns-clause-tickets
 returns-clause-tickets c = λ keeps.

@@ -11,7 +11,7 @@ use Rattle.bd_links.specs.Entries.{longer}
 use Rattle.bd_tokens.specs.Tokens.{here_in}
 use Rattle.bd_thread.specs.declared.links.Links.{Links}
 use Rattle.bd_thread.specs.declared.thread.Thread.{Thread}
-use Rattle.bd_thread.specs.Acted.{Acted}
+use Rattle.bd_thread.specs.Acted.{Went}
 use Rattle.bd_thread.specs.Disks.{disk_due, IsServedAs, ServesAs}
 use Rattle.bd_thread.specs.Requests.{KeepsTickets}
 use Rattle.bd_thread.specs.Seen.{untaken}
@@ -44,7 +44,7 @@ returns-clause-acted c =
     (ap (λ (bs : List Base). may_hold t.setup.now dev (find (is_base dev) bs)) bases-are ∙ next.holds)
     (ap (λ (bs : List Base). is_first_at n.req n.k (find (is_base dev) bs)) bases-are ∙ next.is_first.first)
     next.is_first.here next.is_first.on in
-    carried (Acted t links) new after _ _ thread c.in_ok-note.ensures.links acted
+    carried (Went t links) new after _ _ thread c.in_ok-note.ensures.links acted
 
 pub returns-clause-tickets : goal.returns-clause-tickets
 returns-clause-tickets c =

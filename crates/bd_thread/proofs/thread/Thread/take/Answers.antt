@@ -54,7 +54,7 @@ returns-clause-acted c =
     carried (Acted t links) new after _ _ c.in_ok-note.ensures.thread c.in_ok-note.ensures.links
     (acted_by t links new after (acts.Took m.sender number m.what) refl refl c.in-Some.ensures.len refl refl
     (took_steps setup t.me t.part here links.registry.state links.shut (length links.entries) queues m number c.arrived.new.part (here_in c.hold_begun.new.self.items) rest (rest t.me)
-    next brought part held first c.in-Some.ensures.some.rest))
+    next brought part held first c.in-Some.ensures.some.rest) refl)
 
 pub returns-clause-tickets : goal.returns-clause-tickets
 returns-clause-tickets c = λ keeps.
