@@ -16,28 +16,28 @@ use Rattle.bd_thread.specs.declared.links.Links.{Links}
 use Rattle.bd_thread.specs.declared.thread.Thread.{Thread}
 use Rattle.bd_thread.specs.declared.turn.Turned.{Turned}
 use Rattle.bd_thread.specs.declared.turn.Turned.TheVariants.{Moved, Quiet}
-use Rattle.bd_thread.specs.Acted.{Acted}
+use Rattle.bd_thread.specs.Acted.{Acted, Went}
 use Rattle.bd_thread.specs.Disks.{disk_due, piece_on_disk, ServesAs, ServesAsBy}
 use Rattle.bd_thread.specs.Moves.{turned_of}
 use Rattle.bd_thread.specs.Seen.{block_size}
 use Rattle.bd_thread.specs.Waits.{Idles, IsIdle, IsWaiting, Quiets}
-use Rattle.bd_thread.specs.Work.{ActedAlone, AsksNothing, IsWaitingAlone, QuietsAlone}
+use Rattle.bd_thread.specs.Work.{ActedAlone, AsksNothing, IsWaitingAlone, QuietsAlone, WentAlone}
 use Rattle.bd_tokens.specs.Tokens.{here_in}
 use Rattle.bd_thread.proofs.Alone.{acted_alone, alone_then}
-use Rattle.bd_thread.proofs.Going.{acted_then}
+use Rattle.bd_thread.proofs.Going.{acted_then, acted_went}
 use Rattle.bd_thread.proofs.Idle.{grown}
 use Rattle.bd_thread.proofs.Waiting.{quiet_by}
 use Rattle.bd_thread.proofs.Working.{quiet_alone_by}
 
 -- ---- disks one after the other
 
-pub still_then : {D : Type 0} (o : Thread) (a : Links) (m : Thread) (b : Links) (n : Thread) (c : Links) (x y z : List (DevId × D)) → Acted o a m b → Acted m b n c → Still a b x y → Still b c y z → Still a c x z
+pub still_then : {D : Type 0} (o : Thread) (a : Links) (m : Thread) (b : Links) (n : Thread) (c : Links) (x y z : List (DevId × D)) → Went o a m b → Went m b n c → Still a b x y → Still b c y z → Still a c x z
 still_then o a m b n c x y z g h first second few = second (omega (arith, few, grown o a m b g)) ∙ first (omega (arith, few, grown m b n c h))
 
 -- a step in which a disk may serve, after others
 pub serves_then : {D : Type 0} {P : Thread → Links → Type 0} (state : D → DiskState) (dev : DevId) (x y : List (DevId × D)) (o : Thread) (a : Links) (m : Thread) (b : Links) (n : Thread) (c : Links)
-    → Acted o a m b
-    → Acted m b n c
+    → Went o a m b
+    → Went m b n c
     → Still a b x y
     → Idles P o a m b
     → Idles (λ t links. NoServiceOn state y dev t) m b n c
@@ -57,8 +57,8 @@ some_same e = cc
 
 -- the disk at a place, after those before it
 pub serves_below : {D : Type 0} (state : D → DiskState) (place : ℕ) (row : DevId × D) (x y : List (DevId × D)) (o : Thread) (a : Links) (m : Thread) (b : Links) (n : Thread) (c : Links)
-    → Acted o a m b
-    → Acted m b n c
+    → Went o a m b
+    → Went m b n c
     → Still a b x y
     → slice_get y place ≡ Some row
     → Idles (λ t links. NoServiceBelow place state x t) o a m b
@@ -84,7 +84,7 @@ still_quiet : (x y : ℕ) → x ≡ y → turned_of x y ≡ Quiet
 still_quiet x y e = ap (λ (b : Bool). cond b Quiet (Moved (y - x))) (eq-eqb x y e)
 
 pub quiet_then : {P : Thread → Links → Type 0} (o : Thread) (a : Links) (m : Thread) (b : Links) (n : Thread) (c : Links) (inner turned : Turned)
-    → Acted o a m b
+    → Went o a m b
     → Acted m b n c
     → inner ≡ turned_of (length b.entries) (length c.entries)
     → turned ≡ turned_of (length a.entries) (length c.entries)
@@ -102,7 +102,7 @@ quiet_then {P = P} o a m b n c inner turned g h is so first quiet = quiet_by o a
     })
 
 pub quiet_alone_then : {P : Thread → Links → Type 0} (o : Thread) (a : Links) (m : Thread) (b : Links) (n : Thread) (c : Links) (inner turned : Turned)
-    → Acted o a m b
+    → Went o a m b
     → Acted m b n c
     → inner ≡ turned_of (length b.entries) (length c.entries)
     → turned ≡ turned_of (length a.entries) (length c.entries)
@@ -181,8 +181,8 @@ one_served {D = D} state dev p end bytes size ds ds' t a t' a' (Ok done) next si
 
 -- the disk of this device, at this place, after those before it
 pub serves_at : {D : Type 0} (state : D → DiskState) (place : ℕ) (dev : DevId) (x y : List (DevId × D)) (o : Thread) (a : Links) (m : Thread) (b : Links) (n : Thread) (c : Links)
-    → Acted o a m b
-    → Acted m b n c
+    → Went o a m b
+    → Went m b n c
     → Still a b x y
     → Some dev ≡ option_map (λ (row : DevId × D). row.0) (slice_get y place)
     → Idles (λ t links. NoServiceBelow place state x t) o a m b
@@ -224,6 +224,6 @@ serves_there {D = D} {Q = Q} place x y a c within none still few = go x place wi
     go (r ∷ rs) (suc i) within none = go rs i (omega (arith, within)) none
 
 -- where neither the disks nor the thread asked the registry, the turn didn't
-pub alone_after : (o : Thread) (a : Links) (m : Thread) (b : Links) (n : Thread) (c : Links) → Acted o a m b → AsksNothing a b → ActedAlone m b n c → ActedAlone o a n c
+pub alone_after : (o : Thread) (a : Links) (m : Thread) (b : Links) (n : Thread) (c : Links) → Went o a m b → AsksNothing a b → ActedAlone m b n c → WentAlone o a n c
 alone_after o a m b n c g first h =
-    acted_alone o a n c (acted_then o a m b n c g h.acted) (alone_then a b c first (record { registry = h.registry; entries = h.acted.entries; added = h.acted.added; none_asks = h.none_asks }))
+    acted_alone o a n c (acted_then o a m b n c g (acted_went m b n c h.acted)) (alone_then a b c first (record { registry = h.registry; entries = h.acted.entries; added = h.acted.added; none_asks = h.none_asks }))
