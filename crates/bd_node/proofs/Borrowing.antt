@@ -13,6 +13,8 @@ use Rattle.bd_turns.specs.declared.queue.Post.{Post}
 use Rattle.bd_wires.specs.declared.wires.Wires.{Wires}
 use Rattle.bd_node.specs.declared.seat.Seat.{Seat}
 use Rattle.bd_node.specs.declared.worker.Worker.{Worker}
+use Rattle.bd_outside.specs.Disk.{DiskState}
+use Rattle.bd_node.specs.Disks.{KeepsDone}
 use Rattle.bd_node.specs.Seats.{Continues, GoesAlone, GoesWith, IsLent, IsLentTo, IsSeat, IsSitting, IsWorking, Sits, WentAlone, WentWith}
 
 -- ---- without the registry
@@ -21,10 +23,12 @@ use Rattle.bd_node.specs.Seats.{Continues, GoesAlone, GoesWith, IsLent, IsLentTo
 abbrev with_worker : {D : Type 0} → Seat D → Worker → List (DevId × D) → Seat D
 with_worker s worker disks = record s { worker = worker; disks = disks }
 
-pub alone : {D : Type 0} → (w : Wires) (s : Seat D) (worker : Worker) (disks : List (DevId × D)) → GoesAlone s.worker worker → Continues w s (with_worker s worker disks)
-alone w s worker disks g = record {
+pub alone : {D : Type 0} → (state : D → DiskState) (w : Wires) (s : Seat D) (worker : Worker) (disks : List (DevId × D)) → GoesAlone s.worker worker → KeepsDone state s.worker s.disks worker disks
+    → Continues state w s (with_worker s worker disks)
+alone state w s worker disks g done = record {
   flag = g.0;
   halted = refl;
+  done = done;
   sits = λ setup t p h. on setup t p h.course h.seat;
 }
   where
@@ -129,5 +133,5 @@ module _ {D : Type 0} (w : Wires) (s : Seat D) (worker : Worker) (disks : List (
         };
       }
 
-  pub borrowed_continues : Continues w s new
-  borrowed_continues = record { flag = g.0; halted = refl; sits = λ setup t p h. on setup t p h.course h.seat }
+  pub borrowed_continues : (state : D → DiskState) → KeepsDone state s.worker s.disks worker disks → Continues state w s new
+  borrowed_continues state done = record { flag = g.0; halted = refl; done = done; sits = λ setup t p h. on setup t p h.course h.seat }

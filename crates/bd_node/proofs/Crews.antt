@@ -1,50 +1,51 @@
 -- The seats of a reactor from turn to turn: each sits, unless it has to halt.
-use Rattle.std.proofs.Common.{◌≡◌, ℕ, ◌<◌, List, length, set, Some, ◌⊎◌, inl, inr, sym, ◌∙◌, ap, subst}
+use Rattle.std.proofs.Common.{◌≡◌, ℕ, ◌<◌, List, length, set, Some, ◌⊎◌, inl, inr, sym, ◌∙◌, subst}
 use Rattle.std.specs.List.{All, slice_get}
 use Rattle.std.specs.Prelude.{slice_index_or}
 use Rattle.std.proofs.lemmas.Bool.{cases_eq}
 use Rattle.std.proofs.lemmas.Option.{get_or_from_slice_get, slice_get-get_or, slice_get_within}
+use Rattle.bd_outside.specs.Disk.{DiskState}
 use Rattle.bd_wires.specs.declared.wires.Wires.{Wires}
 use Rattle.bd_node.specs.declared.seat.Seat.{Seat}
 use Rattle.bd_node.specs.Seats.{AllWentOn, SitsOrHalts, WentOn}
 use Rattle.bd_node.proofs.Places.{set_else, set_here}
 use Rattle.bd_node.proofs.Seats.{continues_still, continues_then, sitting_then}
 
-module _ {D : Type 0} (w : Wires) where
-  went_still : (s : Seat D) → WentOn w s s
-  went_still s goes = continues_still w s
+module _ {D : Type 0} (state : D → DiskState) (w : Wires) where
+  went_still : (s : Seat D) → WentOn state w s s
+  went_still s goes = continues_still state w s
 
-  went_then : (a b c : Seat D) → WentOn w a b → WentOn w b c → WentOn w a c
+  went_then : (a b c : Seat D) → WentOn state w a b → WentOn state w b c → WentOn state w a c
   went_then a b c first second goes = continues_then w a b c (first (sym (second goes).halted ∙ goes)) (second goes)
 
-  still_sits : (a b : Seat D) → SitsOrHalts w a → WentOn w a b → SitsOrHalts w b
+  still_sits : (a b : Seat D) → SitsOrHalts w a → WentOn state w a b → SitsOrHalts w b
   still_sits a b sits on goes = sitting_then w a b (sits (sym (on goes).halted ∙ goes)) (on goes)
 
-  pub all_still : (xs : List (Seat D)) → AllWentOn w xs xs
+  pub all_still : (xs : List (Seat D)) → AllWentOn state w xs xs
   all_still xs i d lt = went_still (slice_index_or xs i d)
 
-  pub all_then : (xs ys zs : List (Seat D)) → length ys ≡ length xs → AllWentOn w xs ys → AllWentOn w ys zs → AllWentOn w xs zs
+  pub all_then : (xs ys zs : List (Seat D)) → length ys ≡ length xs → AllWentOn state w xs ys → AllWentOn state w ys zs → AllWentOn state w xs zs
   all_then xs ys zs len first second i d lt =
       went_then (slice_index_or xs i d) (slice_index_or ys i d) (slice_index_or zs i d) (first i d lt) (second i d (subst (λ (n : ℕ). i < n) (sym len) lt))
 
-  pub all_sit : (xs ys : List (Seat D)) → length ys ≡ length xs → All (SitsOrHalts w) xs → AllWentOn w xs ys → All (SitsOrHalts w) ys
+  pub all_sit : (xs ys : List (Seat D)) → length ys ≡ length xs → All (SitsOrHalts w) xs → AllWentOn state w xs ys → All (SitsOrHalts w) ys
   all_sit xs ys len sit on i d lt =
       let within : i < length xs = subst (λ (n : ℕ). i < n) len lt in
       still_sits (slice_index_or xs i d) (slice_index_or ys i d) (sit i d within) (on i d within)
 
   -- one of them had a turn
-  pub one_stepped : (xs ys : List (Seat D)) (place : ℕ) (s s' : Seat D) → length ys ≡ length xs → AllWentOn w xs ys → slice_get ys place ≡ Some s → WentOn w s s' → AllWentOn w xs (set ys place s')
+  pub one_stepped : (xs ys : List (Seat D)) (place : ℕ) (s s' : Seat D) → length ys ≡ length xs → AllWentOn state w xs ys → slice_get ys place ≡ Some s → WentOn state w s s' → AllWentOn state w xs (set ys place s')
   one_stepped xs ys place s s' len on at step i d lt = go (cases_eq place i)
     where
       within : i < length ys
       within = subst (λ (n : ℕ). i < n) (sym len) lt
 
-      go : (place ≡ i) ⊎ (place ≡ i → ⊥) → WentOn w (slice_index_or xs i d) (slice_index_or (set ys place s') i d)
+      go : (place ≡ i) ⊎ (place ≡ i → ⊥) → WentOn state w (slice_index_or xs i d) (slice_index_or (set ys place s') i d)
       go (inl same) =
           let here : slice_index_or (set ys place s') i d ≡ s' = get_or_from_slice_get (set ys place s') i s' d (subst (λ (k : ℕ). slice_get (set ys place s') k ≡ Some s') same (set_here ys place s' (slice_get_within ys place s at))) in
           let was : slice_index_or ys i d ≡ s = get_or_from_slice_get ys i s d (subst (λ (k : ℕ). slice_get ys k ≡ Some s) same at) in
-          subst (λ (x : Seat D). WentOn w (slice_index_or xs i d) x) (sym here)
-          (went_then (slice_index_or xs i d) s s' (subst (λ (x : Seat D). WentOn w (slice_index_or xs i d) x) was (on i d lt)) step)
+          subst (λ (x : Seat D). WentOn state w (slice_index_or xs i d) x) (sym here)
+          (went_then (slice_index_or xs i d) s s' (subst (λ (x : Seat D). WentOn state w (slice_index_or xs i d) x) was (on i d lt)) step)
       go (inr other) =
           let same : slice_index_or (set ys place s') i d ≡ slice_index_or ys i d = get_or_from_slice_get (set ys place s') i (slice_index_or ys i d) d (set_else ys place i s' other ∙ slice_get-get_or ys i d within) in
-          subst (λ (x : Seat D). WentOn w (slice_index_or xs i d) x) (sym same) (on i d lt)
+          subst (λ (x : Seat D). WentOn state w (slice_index_or xs i d) x) (sym same) (on i d lt)

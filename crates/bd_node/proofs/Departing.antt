@@ -19,7 +19,9 @@ use Rattle.bd_wires.specs.declared.wires.Passes.{Passes}
 use Rattle.bd_wires.specs.declared.wires.Wires.{Wires}
 use Rattle.bd_wires.specs.Wires.{put_by, put_into}
 use Rattle.bd_node.specs.declared.seat.Seat.{Seat}
+use Rattle.bd_outside.specs.Disk.{DiskState}
 use Rattle.bd_node.specs.Seats.{Continues, IsAt, IsSeat}
+use Rattle.bd_node.proofs.Disks.{keeps_log}
 
 -- the seat with what went out
 abbrev with_sent : {D : Type 0} → Seat D → Links → Passes → Seat D
@@ -206,9 +208,10 @@ module _ {D : Type 0} (w : Wires) (s : Seat D) (links : Links) (passes : Passes)
           let count : length passes.sends.items ≡ setup.threads = (let e : length passes.sends.items ≡ vec_len passes.sends = search rules in e) ∙ sends-len ∙ q.linked.sends in
           ap (λ (x : Sender). x.number) (default passes.sends.items k d (subst (λ (m : ℕ). k < m) (sym count) lt)) ∙ (keeps k lt).1 ∙ q.linked.numbers k nobody lt
 
-  pub departed_continues : Continues w s new
-  departed_continues = record {
+  pub departed_continues : (state : D → DiskState) → Continues state w s new
+  departed_continues state = record {
     flag = ap (λ (x : Links). x.shut) links-is;
     halted = refl;
+    done = keeps_log state s.worker new.worker s.disks refl refl refl;
     sits = λ setup t p h. record { course = sent_more h.course posts; seat = seat setup t p h.course h.seat };
   }

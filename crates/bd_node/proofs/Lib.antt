@@ -1,10 +1,12 @@
 pub mod Places
 pub mod Workers
+pub mod Disks
 pub mod Seats
 pub mod Departing
 pub mod Borrowing
 pub mod Resting
 pub mod Settling
+pub mod Histories
 pub mod Lent
 pub mod Rounds
 pub mod Telling

@@ -10,6 +10,7 @@ use Rattle.bd_seat.specs.declared.seat_no.SeatNo.{SeatNo}
 use Rattle.bd_apart.specs.Course.{Phase}
 use Rattle.bd_wires.specs.declared.wires.Wires.{Wires}
 use Rattle.bd_node.specs.declared.seat.Seat.{Seat}
+use Rattle.bd_outside.specs.Disk.{DiskState}
 use Rattle.bd_node.specs.Seats.{Continues, IsSitting}
 use Rattle.bd_node.specs.Whole.{AreSeated, IsIn}
 use Rattle.bd_node.proofs.Places.{set_else, set_here}
@@ -26,11 +27,11 @@ module _ {D : Type 0} (setup : Setup) (w : Wires) (seats : List (Seat D)) (shut 
   pub one_sits : (i : ℕ) (s : Seat D) → slice_get seats i ≡ Some s → IsSitting w s
   one_sits i s at = record { setup = setup; t = i; p = phases i; sits = (a.each i s at).sits }
 
-  went : (i : ℕ) (s s' : Seat D) → slice_get seats i ≡ Some s → Continues w s s' → s'.halted ≡ None → IsIn setup w shut phases i s'
+  went : {state : D → DiskState} (i : ℕ) (s s' : Seat D) → slice_get seats i ≡ Some s → Continues state w s s' → s'.halted ≡ None → IsIn setup w shut phases i s'
   went i s s' at on goes = record { sits = on.sits setup i (phases i) (a.each i s at).sits; flag = on.flag ∙ (a.each i s at).flag; goes = goes }
 
   -- one seat had a turn
-  pub one_turned : (i : ℕ) (s s' : Seat D) → slice_get seats i ≡ Some s → Continues w s s' → AreSeated setup w (set seats i s') shut phases
+  pub one_turned : {state : D → DiskState} (i : ℕ) (s s' : Seat D) → slice_get seats i ≡ Some s → Continues state w s s' → AreSeated setup w (set seats i s') shut phases
   one_turned i s s' at on = record { some = a.some; len = length-set seats i s' ∙ a.len; each = each }
     where
       here : IsIn setup w shut phases i s'

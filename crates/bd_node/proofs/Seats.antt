@@ -17,18 +17,25 @@ use Rattle.bd_thread.specs.declared.links.Links.{Links}
 use Rattle.bd_thread.specs.Seen.{local}
 use Rattle.bd_wires.specs.declared.wires.Wires.{Wires}
 use Rattle.bd_node.specs.declared.seat.Seat.{Seat}
+use Rattle.bd_outside.specs.Disk.{DiskState}
 use Rattle.bd_node.specs.Seats.{Continues, IsAt, IsSeat, IsSitting}
+use Rattle.bd_node.proofs.Disks.{keeps_log, keeps_still, keeps_then}
 
 -- ---- one after the other
 
-pub continues_still : {D : Type 0} → (w : Wires) (s : Seat D) → Continues w s s
-continues_still w s = record { flag = refl; halted = refl; sits = λ setup t p h. h }
+pub continues_still : {D : Type 0} → (state : D → DiskState) (w : Wires) (s : Seat D) → Continues state w s s
+continues_still state w s = record { flag = refl; halted = refl; done = keeps_still state s.worker s.disks; sits = λ setup t p h. h }
 
-pub continues_then : {D : Type 0} → (w : Wires) (a b c : Seat D) → Continues w a b → Continues w b c → Continues w a c
-continues_then w a b c f g = record { flag = g.flag ∙ f.flag; halted = g.halted ∙ f.halted; sits = λ setup t p h. g.sits setup t p (f.sits setup t p h) }
+pub continues_then : {D : Type 0} {state : D → DiskState} → (w : Wires) (a b c : Seat D) → Continues state w a b → Continues state w b c → Continues state w a c
+continues_then {state = state} w a b c f g = record {
+  flag = g.flag ∙ f.flag;
+  halted = g.halted ∙ f.halted;
+  done = keeps_then state a.worker b.worker c.worker a.disks b.disks c.disks f.done g.done;
+  sits = λ setup t p h. g.sits setup t p (f.sits setup t p h);
+}
 
 -- who sat there sits there still
-pub sitting_then : {D : Type 0} → (w : Wires) (a b : Seat D) → IsSitting w a → Continues w a b → IsSitting w b
+pub sitting_then : {D : Type 0} {state : D → DiskState} → (w : Wires) (a b : Seat D) → IsSitting w a → Continues state w a b → IsSitting w b
 sitting_then w a b s f = record { setup = s.setup; t = s.t; p = s.p; sits = f.sits s.setup s.t s.p s.sits }
 
 -- ---- posts come
@@ -101,9 +108,10 @@ module _ {D : Type 0} (w : Wires) (s : Seat D) (take : Receiver) (log : Written)
         count = q.count;
       }
 
-  pub received_continues : Continues w s new
-  received_continues = record {
+  pub received_continues : (state : D → DiskState) → Continues state w s new
+  received_continues state = record {
     flag = ap (λ (x : Links). x.shut) links-is;
     halted = refl;
+    done = keeps_log state s.worker new.worker s.disks refl refl (ap (λ (x : Written). x.entries) f.log_is);
     sits = λ setup t p h. record { course = arrived_more h.course posts log.last; seat = seat setup t p h.course h.seat };
   }

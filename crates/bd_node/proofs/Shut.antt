@@ -33,6 +33,9 @@ use Rattle.bd_wires.specs.declared.wires.Wires.{Wires}
 use Rattle.bd_node.specs.declared.seat.Seat.{Seat}
 use Rattle.bd_node.specs.declared.worker.Worker.{Worker}
 use Rattle.bd_node.specs.Seats.{IsAt, IsLent, IsSeat}
+use Rattle.bd_thread.specs.declared.thread.Thread.{Thread}
+use Rattle.bd_thread.specs.Seen.{setup_of}
+use Rattle.bd_node.proofs.Disks.{keeps_log, keeps_shutdown}
 use Rattle.bd_node.specs.Shutting.{IsShutAt, LearnsShut, Shuts, ShutsWith, ShutWith}
 use Rattle.bd_node.proofs.Borrowing.{lent_is, own_rows}
 use Rattle.bd_node.proofs.Places.{is_below, set_else, set_here}
@@ -221,6 +224,7 @@ module _ {D : Type 0} (w : Wires) (s : Seat D) (lent lent' : Registered) (pass s
         shut.entries
         ∙ ap (λ (n : ℕ). let e : Entry = record { stamp = stamp; thread = n; act = acts.Shutdown } in s.worker.log.entries ++ e ∷ []) thread
         ∙ ap (λ b. s.worker.log.entries ++ cond b (shutdown_at stamp ∷ []) []) (sym (eq-eqb s.worker.me 0 first));
+    done = λ state. keeps_shutdown state s.worker worker s.disks stamp s.worker.log.thread shut.me (ap (λ (x : Thread). setup_of x) shut.thread) shut.entries;
     sits = λ setup t p c q.
         let zero_is : t ≡ 0 = sym q.worker.me ∙ first in
         let q' : IsSeat setup 0 p c w s = subst (λ (n : ℕ). IsSeat setup n p c w s) zero_is q in
@@ -250,6 +254,7 @@ learns_shut stamp s other above w = record {
   halted = refl;
   later = above;
   entries = sym (append-nil s.worker.log.entries) ∙ ap (λ b. s.worker.log.entries ++ cond b (shutdown_at stamp ∷ []) []) (sym (ne_eqb s.worker.me 0 other));
+  done = λ state. keeps_log state s.worker (learnt_by s stamp).worker s.disks refl refl refl;
   sits = λ setup t p c q.
       let a : IsAt setup t p c s.worker = q.worker in
       let l : Local = local s.worker.thread s.worker.links in

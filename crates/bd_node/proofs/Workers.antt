@@ -29,10 +29,10 @@ use Rattle.bd_apart.proofs.Following.{others_are_followed}
 use Rattle.bd_seat.specs.Taking.{Appends, AppendsAlone, TakesOver}
 use Rattle.bd_thread.specs.declared.links.Links.{Links}
 use Rattle.bd_thread.specs.declared.thread.Thread.{Thread}
-use Rattle.bd_thread.specs.Acted.{Acted}
+use Rattle.bd_thread.specs.Acted.{Went}
 use Rattle.bd_thread.specs.Requests.{KeepsTickets}
 use Rattle.bd_thread.specs.Seen.{local, number_of, setup_of}
-use Rattle.bd_thread.specs.Work.{ActedAlone}
+use Rattle.bd_thread.specs.Work as work
 use Rattle.bd_node.specs.declared.worker.Worker.{Worker}
 use Rattle.bd_node.specs.Seats.{GoesAlone, GoesWith, HasSamePosts, IsAt, IsLent, WentAlone, WentWith}
 
@@ -113,7 +113,7 @@ caught_up_at setup t p c w seen lent r a lends left setup-is state-is =
 -- ---- a turn
 
 -- the thread acted, and its log has the acts
-abbrev after_turn : Worker → Thread → Links → Written → Worker
+abbrev pub after_turn : Worker → Thread → Links → Written → Worker
 after_turn w thread links log = record w { thread = thread; links = record links { entries = [] }; log = log }
 
 pub record Acts (setup : Setup) (t : ℕ) (p : Phase) (c : Course) (links : Links) (w : Worker) : Type 0 where
@@ -124,7 +124,7 @@ pub record Acts (setup : Setup) (t : ℕ) (p : Phase) (c : Course) (links : Link
 
 pub acted_at : (setup : Setup) (t : ℕ) (p : Phase) (c : Course) (w : Worker) (thread : Thread) (links : Links) (log : Written)
     → IsAt setup t p c w
-    → Acted w.thread w.links thread links
+    → Went w.thread w.links thread links
     → KeepsTickets thread
     → Appends w.log (restamped w.log.thread w.log.last (acts_of links.entries)) log
     → Acts setup t p c links (after_turn w thread links log)
@@ -191,7 +191,7 @@ leads_shut setup t l l' (e ∷ es) h = leads_shut setup t (local_after setup t l
 
 -- **without the registry it went on**
 pub goes_alone : (w : Worker) (thread : Thread) (links : Links) (log : Written)
-    → ActedAlone w.thread w.links thread links
+    → work.WentAlone w.thread w.links thread links
     → (KeepsTickets w.thread → KeepsTickets thread)
     → AppendsAlone w.log (restamped w.log.thread w.log.last (acts_of links.entries)) log
     → GoesAlone w (after_turn w thread links log)
@@ -276,7 +276,7 @@ module _ (w : Worker) (seen : ℕ) (lent lent' r : Registered) (thread : Thread)
       (record { start = lends.start; begins = lends.begins; own = lends.own; count = lends.count })
       (sym (leaves setup lends.start)) setup-is state-is
 
-  pub goes_with : Acted w.thread caught_up.links thread links → (KeepsTickets w.thread → KeepsTickets thread)
+  pub goes_with : Went w.thread caught_up.links thread links → (KeepsTickets w.thread → KeepsTickets thread)
       → TakesOver caught_up.log lent (restamped caught_up.log.thread caught_up.log.last (acts_of links.entries)) log lent'
       → GoesWith seen w lent (after_turn caught_up thread links log) lent'
   goes_with acted keeps takes = (

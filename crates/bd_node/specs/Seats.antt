@@ -3,6 +3,7 @@ use Rattle.std.specs.Prelude.{◌≡◌, ℕ, ◌+◌, ◌<◌, Bool, true, fals
 use Rattle.bd_base.specs.declared.act.Entry.{Entry}
 use Rattle.bd_base.specs.declared.setup.Setup.{Setup}
 use Rattle.bd_log.specs.Merge.{entries_of}
+use Rattle.bd_outside.specs.Disk.{DiskState}
 use Rattle.bd_registry.specs.State.{Registered, rows_of, start_of}
 use Rattle.bd_merged.specs.Rows.{entries}
 use Rattle.bd_ring.specs.SlotRule.{AddsOwn, StartsWith}
@@ -15,6 +16,7 @@ use Rattle.bd_wires.specs.declared.wires.Wires.{Wires}
 use Rattle.bd_wires.specs.Wires.{put_into, IsLinked}
 use Rattle.bd_node.specs.declared.seat.Seat.{Seat}
 use Rattle.bd_node.specs.declared.worker.Worker.{Worker}
+use Rattle.bd_node.specs.Disks.{KeepsDone}
 
 -- ---- a worker
 
@@ -159,18 +161,19 @@ abbrev pub SitsOrHalts : {D : Type 0} → Wires → Seat D → Type 0
 SitsOrHalts w s = s.halted ≡ None → IsSitting w s
 
 -- whoever sat there sits there still, further on its course
-pub record Continues {D : Type 0} (w : Wires) (old new : Seat D) : Type 0 where
+pub record Continues {D : Type 0} (state : D → DiskState) (w : Wires) (old new : Seat D) : Type 0 where
   pub flag : new.worker.links.shut ≡ old.worker.links.shut
   pub halted : new.halted ≡ old.halted
+  pub done : KeepsDone state old.worker old.disks new.worker new.disks
   pub sits : (setup : Setup) (t : ℕ) (p : Phase) → Sits setup t p w old → Sits setup t p w new
 
 -- whichever the wires
-abbrev pub KeepsOn : {D : Type 0} → Seat D → Seat D → Type 0
-KeepsOn old new = (w : Wires) → Continues w old new
+abbrev pub KeepsOn : {D : Type 0} → (D → DiskState) → Seat D → Seat D → Type 0
+KeepsOn state old new = (w : Wires) → Continues state w old new
 
 -- unless it has to halt
-abbrev pub WentOn : {D : Type 0} → Wires → Seat D → Seat D → Type 0
-WentOn w old new = new.halted ≡ None → Continues w old new
+abbrev pub WentOn : {D : Type 0} → (D → DiskState) → Wires → Seat D → Seat D → Type 0
+WentOn state w old new = new.halted ≡ None → Continues state w old new
 
-abbrev pub AllWentOn : {D : Type 0} → Wires → List (Seat D) → List (Seat D) → Type 0
-AllWentOn {D} w old new = (i : ℕ) (d : Seat D) → i < length old → WentOn w (slice_index_or old i d) (slice_index_or new i d)
+abbrev pub AllWentOn : {D : Type 0} → (D → DiskState) → Wires → List (Seat D) → List (Seat D) → Type 0
+AllWentOn {D} state w old new = (i : ℕ) (d : Seat D) → i < length old → WentOn state w (slice_index_or old i d) (slice_index_or new i d)

@@ -4,6 +4,7 @@ use Rattle.bd_base.specs.declared.act.Act.TheVariants as acts
 use Rattle.bd_base.specs.declared.act.Entry.{Entry}
 use Rattle.bd_base.specs.declared.setup.Setup.{Setup}
 use Rattle.bd_machine.specs.Lines.{shutdown_at}
+use Rattle.bd_outside.specs.Disk.{DiskState}
 use Rattle.bd_registry.specs.State.{Registered, start_of}
 use Rattle.bd_ring.specs.SlotRule.{AddsOwn}
 use Rattle.bd_apart.specs.Course.{Course, Phase}
@@ -13,6 +14,7 @@ use Rattle.bd_wires.specs.declared.wires.Wires.{Wires}
 use Rattle.bd_node.specs.declared.node.Node.{Node}
 use Rattle.bd_node.specs.declared.seat.Seat.{Seat}
 use Rattle.bd_node.specs.declared.worker.Worker.{Worker}
+use Rattle.bd_node.specs.Disks.{KeepsDone}
 use Rattle.bd_node.specs.Seats.{entries_in, HasSamePosts, IsAt, IsLent, IsSeat}
 
 -- ---- a worker
@@ -27,6 +29,8 @@ pub record ShutWith (setup : Setup) (p : Phase) (c : Course) (stamp : ℕ) (old 
   pub start : start_of lent'.setup ≡ start_of lent.setup
 
 pub record ShutsWith (seen met : ℕ) (old : Worker) (lent : Registered) (stamp : ℕ) (new : Worker) (lent' : Registered) : Type 0 where
+  pub me : new.me ≡ old.me
+  pub thread : new.thread ≡ old.thread
   pub flag : new.links.shut ≡ true
   pub above : met < stamp
   pub later : old.log.last < stamp
@@ -49,6 +53,7 @@ pub record Shuts {D : Type 0} (w : Wires) (stamp : ℕ) (old new : Seat D) : Typ
   pub halted : new.halted ≡ old.halted
   pub later : old.worker.log.last < stamp
   pub entries : entries_in new ≡ entries_in old ++ shutdown_by stamp old.worker.me
+  pub done : (state : D → DiskState) → KeepsDone state old.worker old.disks new.worker new.disks
   pub sits : (setup : Setup) (t : ℕ) (p : Phase) (c : Course) → IsSeat setup t p c w old → IsShutAt setup t p c stamp w old new
 
 -- so it is with any wires

@@ -7,6 +7,7 @@ use Rattle.bd_log.specs.Merge.{Part}
 use Rattle.bd_machine.specs.Messages.{count_at}
 use Rattle.bd_machine.specs.View.{View}
 use Rattle.bd_merged.specs.Rows.{Row}
+use Rattle.bd_outside.specs.Disk.{DiskState}
 use Rattle.bd_apart.specs.Course.{Phase}
 use Rattle.bd_apart.specs.Ends.{phase_after, AreMarked}
 use Rattle.bd_apart.specs.Steps.{first_phase}
@@ -18,6 +19,7 @@ use Rattle.bd_node.specs.declared.node.Node.{Node}
 use Rattle.bd_node.specs.declared.node.NodeState.{NodeState}
 use Rattle.bd_node.specs.declared.node.NodeState.TheVariants.{Idle, Done, Busy}
 use Rattle.bd_node.specs.declared.seat.Seat.{Seat}
+use Rattle.bd_node.specs.Disks.{StillHaveDone}
 use Rattle.bd_node.specs.Seats.{made_by, Sits}
 
 -- ---- all seats
@@ -71,6 +73,11 @@ halt_of seats = cond (list_all seat_has_stamps seats) OutOfMemory StampsSpent
 -- whichever setup's threads sat at their places sit there still, where none has to halt
 abbrev pub StaySeated : {D : Type 0} → Wires → List (Seat D) → List (Seat D) → Type 0
 StaySeated w old new = list_all seat_goes new ≡ true → (setup : Setup) (shut : Bool) (phases : ℕ → Phase) → AreSeated setup w old shut phases → AreSeated setup w new shut phases
+
+-- its threads went on with their disks, and what lies on its shelf lies there still
+pub record KeepsDisks {D : Type 0} (state : D → DiskState) (old new : Node D) : Type 0 where
+  pub shelf : new.shelf.items ≡ old.shelf.items
+  pub done : StillHaveDone state old.seats.items new.seats.items
 
 -- ---- how far it is
 

@@ -1,5 +1,6 @@
 //! Seats before any entry.
-ghost use Rattle.std.specs.Prelude.{◌≡◌, ◌<◌, ◌≤◌, ◌+◌, length, vec_len, IfOk, OnOk, OnErr};
+ghost use Rattle.std.specs.Prelude.{◌≡◌, ◌<◌, ◌≤◌, ◌+◌, ◌∷◌, [], length, vec_len, IfOk, OnOk, OnErr};
+ghost use Rattle.bd_node.specs.Disks.{disks_of};
 ghost use Rattle.bd_node.specs.Starting.{AreNewSeats, IsNewSeat};
 
 use crate::seat::Seat;
@@ -25,6 +26,7 @@ pub(crate) fn abandon_all<'a, D>(seats: Vec<Seat<'a, D>>, shelf: &mut Shelf<D>)
 // The disks of the first thread on a shelf that isn't empty.
 fn first_disks<D>(shelf: &mut Shelf<D>) -> Disks<D>
     requires { 0 < length shelf.old.items }
+    ensures first { shelf.old.items ≡ result ∷ shelf.new.items }
     ensures rest { length shelf.new.items + 1 ≡ length shelf.old.items }
     ensures capacity { shelf.old.capacity ≤ shelf.new.capacity }
 {
@@ -44,6 +46,7 @@ fn seat_of<'a, D>(
 ) -> Result<Seat<'a, D>, OutOfMemory>
     requires { 0 < length shelf.old.items }
     ensures new { IfOk result (IsNewSeat me setup.now passes) }
+    ensures disks { IfOk result (λ seat. shelf.old.items ≡ seat.disks ∷ shelf.new.items) }
     ensures rest { OnOk result (length shelf.new.items + 1 ≡ length shelf.old.items) }
     ensures capacity { shelf.old.capacity ≤ shelf.new.capacity }
     ensures same { OnErr result (shelf.new ≡ shelf.old) }
@@ -77,6 +80,8 @@ pub(crate) fn seats_of<'a, D>(
     requires room { setup.now.threads ≤ shelf.old.capacity }
     ensures len { IfOk result (λ seats. length seats.items ≡ setup.now.threads) }
     ensures each { IfOk result (λ seats. AreNewSeats setup.now passes.items seats.items) }
+    ensures disks { IfOk result (λ seats. disks_of seats.items ≡ shelf.old.items) }
+    ensures none { IfOk result (λ _seats. shelf.new.items ≡ []) }
     ensures room { IfOk result (λ seats. vec_len seats + length shelf.new.items ≤ shelf.new.capacity) }
 {
     let mut left = passes;

@@ -88,7 +88,7 @@ impl<'w, 'g, G: Gate> Crew<'w, 'g, G> {
     ) -> bool
         requires within { place < length seats.old }
         requires sit { All (SitsOrHalts wires.now) seats.old }
-        ensures { AllWentOn wires.now seats.old seats.new }
+        ensures { AllWentOn D.state wires.now seats.old seats.new }
     {
         self.turns = self.turns.saturating_add(1);
         let watch = self.watch;
@@ -111,7 +111,7 @@ impl<'w, 'g, G: Gate> Crew<'w, 'g, G> {
     ) -> bool
         requires within { place < length seats.old }
         requires sit { All (SitsOrHalts wires.now) seats.old }
-        ensures { AllWentOn wires.now seats.old seats.new }
+        ensures { AllWentOn D.state wires.now seats.old seats.new }
     {
         let moved = self.turn(rt, alloc, wires, seats, place);
         if moved {
@@ -130,7 +130,7 @@ impl<'w, 'g, G: Gate> Crew<'w, 'g, G> {
         seats: &mut [Seat<D>],
     ) -> bool
         requires { All (SitsOrHalts wires.now) seats.old }
-        ensures { AllWentOn wires.now seats.old seats.new }
+        ensures { AllWentOn D.state wires.now seats.old seats.new }
     {
         let mut moved = false;
         for place in 0..seats.len() {
@@ -149,7 +149,7 @@ impl<'w, 'g, G: Gate> Crew<'w, 'g, G> {
         seats: &mut [Seat<D>],
     ) -> bool
         requires { All (SitsOrHalts wires.now) seats.old }
-        ensures { AllWentOn wires.now seats.old seats.new }
+        ensures { AllWentOn D.state wires.now seats.old seats.new }
     {
         if self.pass(rt, alloc, wires, seats) {
             self.passes = self.passes.saturating_add(1);
@@ -169,7 +169,7 @@ impl<'w, 'g, G: Gate> Crew<'w, 'g, G> {
         seats: &mut [Seat<D>],
     )
         requires { All (SitsOrHalts wires.now) seats.old }
-        ensures { AllWentOn wires.now seats.old seats.new }
+        ensures { AllWentOn D.state wires.now seats.old seats.new }
     {
         for _ in rt.forever() {
             if !self.pass_once(rt, alloc, wires, seats) {
@@ -191,7 +191,7 @@ pub(crate) fn give_turns<W: Wait, G: Gate, D: Disk>(
     seats: &mut [Seat<D>],
 )
     requires { All (SitsOrHalts wires.now) seats.old }
-    ensures { AllWentOn wires.now seats.old seats.new }
+    ensures { AllWentOn D.state wires.now seats.old seats.new }
 {
     let mut crew = Crew {
         watch,

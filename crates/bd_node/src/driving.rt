@@ -1,14 +1,17 @@
 //! What a node does: its turns and rounds, its shutdown, and its end.
-ghost use Rattle.std.specs.Prelude.{◌≡◌, ◌<◌, ◌≤◌, ◌+◌, [], None, false, length, sum_by, vec_len, IfOk, MatchBool, OnOk};
+ghost use Rattle.std.specs.Prelude.{◌≡◌, ◌<◌, ◌≤◌, ◌+◌, List, [], slice_index_or, None, false, length, sum_by, vec_len, IfOk, MatchBool, OnOk};
 ghost use Rattle.std.specs.List.{list_all};
 ghost use Rattle.bd_apart.specs.Steps.{first_phase};
 ghost use Rattle.bd_log.specs.Merge.{IsMerge};
 ghost use Rattle.bd_machine.specs.Run.{IsCompleteRun};
+ghost use Rattle.bd_base.specs.declared.id.DevId.{DevId};
+ghost use Rattle.bd_outside.specs.Disk.{DiskState};
+ghost use Rattle.bd_node.specs.Disks.{disks_of, HaveDone, SaysOfDisks};
 ghost use Rattle.bd_node.specs.Schedule.{advance, advance_by};
 ghost use Rattle.bd_node.specs.Seats.{has_moved, made_by, HasMoved, Tells};
 ghost use Rattle.bd_node.specs.Shutting.{AddsShutdown, IsUnchanged};
 ghost use Rattle.bd_node.specs.Waits.{TurnsQuietly};
-ghost use Rattle.bd_node.specs.Whole.{AreSeated, HasSameFlag, HasSameSetup, IsNode, are_all_taken, entries_made, halt_of, has_taken, is_spent, is_at_rest, is_idle, is_over, logs_of, seat_goes, seat_has_destructed, seat_has_stamps, seat_is_blocked, seat_rests, seed_of, setup_in, state_of};
+ghost use Rattle.bd_node.specs.Whole.{AreSeated, HasSameFlag, KeepsDisks, HasSameSetup, IsNode, are_all_taken, entries_made, halt_of, has_taken, is_spent, is_at_rest, is_idle, is_over, logs_of, seat_goes, seat_has_destructed, seat_has_stamps, seat_is_blocked, seat_rests, seed_of, setup_in, state_of};
 
 use crate::building::{abandon_all, seats_of};
 use crate::crew::Watch;
@@ -128,6 +131,8 @@ fn seat_all<'a, R: Wait, D>(
     requires room { setup.now.threads ≤ shelf.old.capacity }
     ensures seated { IfOk result (λ made. AreSeated setup.now made.0 made.1.items false (first_phase setup.now)) }
     ensures none { IfOk result (λ made. sum_by made_by made.1.items ≡ 0) }
+    ensures disks { IfOk result (λ made. disks_of made.1.items ≡ shelf.old.items) }
+    ensures empty { IfOk result (λ _made. shelf.new.items ≡ []) }
     ensures room { IfOk result (λ made. vec_len made.1 + length shelf.new.items ≤ shelf.new.capacity) }
 {
     let registry = Registry::of(alloc, setup)?;
@@ -153,6 +158,8 @@ impl<'a, D: Disk> Node<'a, D> {
         ensures setup { IfOk result (λ node. setup_in node ≡ setup.now) }
         ensures seed { IfOk result (λ node. seed_of node ≡ seed) }
         ensures none { IfOk result (λ node. entries_made node ≡ 0) }
+        ensures disks { IfOk result (λ node. HaveDone D.state (λ t. slice_index_or disks.items t []) node.seats.items) }
+        ensures shelf { IfOk result (λ node. node.shelf.items ≡ []) }
     {
         let mut shelf = disks;
         match seat_all(rt, alloc, setup, &mut shelf) {
@@ -180,6 +187,7 @@ impl<'a, D: Disk> Node<'a, D> {
         ensures turned { IfOk result (Tells (entries_made self.old) (entries_made self.new)) }
         ensures quiet { IfOk result (TurnsQuietly thread self.old self.new) }
         ensures none { (setup_in self.old).threads ≤ thread → OnOk result (self.new ≡ self.old) }
+        ensures disks { OnOk result (KeepsDisks D.state self.old self.new) }
     {
         let place = thread as usize;
         if place >= self.seats.len() {
@@ -196,6 +204,7 @@ impl<'a, D: Disk> Node<'a, D> {
         ensures setup { OnOk result (HasSameSetup self.old self.new) }
         ensures flag { OnOk result (HasSameFlag self.old self.new) }
         ensures schedule { OnOk result (seed_of self.new ≡ advance (seed_of self.old)) }
+        ensures disks { OnOk result (KeepsDisks D.state self.old self.new) }
         ensures moved { IfOk result (HasMoved (entries_made self.old) (entries_made self.new)) }
     {
         let thread = self.schedule.next(self.setup.threads);
@@ -210,6 +219,7 @@ impl<'a, D: Disk> Node<'a, D> {
         ensures setup { OnOk result (HasSameSetup self.old self.new) }
         ensures flag { OnOk result (HasSameFlag self.old self.new) }
         ensures schedule { OnOk result (seed_of self.new ≡ advance_by 256 (seed_of self.old)) }
+        ensures disks { OnOk result (KeepsDisks D.state self.old self.new) }
         ensures moved { IfOk result (HasMoved (entries_made self.old) (entries_made self.new)) }
     {
         let mut moved = false;
@@ -239,6 +249,7 @@ impl<'a, D: Disk + Send> Node<'a, D> {
         ensures setup { OnOk result (HasSameSetup self.old self.new) }
         ensures flag { OnOk result (HasSameFlag self.old self.new) }
         ensures schedule { OnOk result (seed_of self.new ≡ seed_of self.old) }
+        ensures disks { OnOk result (KeepsDisks D.state self.old self.new) }
     {
         self.rounds = self.rounds.saturating_add(1);
         let deal = Deal::of(self.setup.threads, reactors);
@@ -304,6 +315,7 @@ impl<'a, D> Node<'a, D> {
         ensures setup { OnOk result (HasSameSetup self.old self.new) }
         ensures shut { IfOk result (λ shut. self.new.shut ≡ shut) }
         ensures logs { IfOk result (λ shut. MatchBool shut (AddsShutdown self.old self.new) (IsUnchanged self.old self.new)) }
+        ensures disks { (state : D → DiskState) → OnOk result (KeepsDisks state self.old self.new) }
     {
         let above = greatest(self.seats.as_slice());
         let first = &mut self.seats[0];
@@ -322,6 +334,9 @@ impl<'a, D> Node<'a, D> {
         requires done { state_of self ≡ NodeState.Done }
         ensures merged { IfOk result.0 (λ history. IsMerge (logs_of self.entry) history) }
         ensures complete { IfOk result.0 (λ history. IsCompleteRun (setup_in self.entry) [] history) }
+        ensures disks { (state : D → DiskState) (starts : List (List (DevId × D))) → self.entry.shelf.items ≡ []
+            → length starts ≡ (setup_in self.entry).threads → HaveDone state (λ t. slice_index_or starts t []) self.entry.seats.items
+            → IfOk result.0 (λ history. SaysOfDisks state (setup_in self.entry) history starts result.1.items) }
     {
         let Node {
             alloc,

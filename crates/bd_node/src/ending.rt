@@ -1,5 +1,6 @@
 //! How a node is shut down, and its seats taken apart at the end.
-ghost use Rattle.std.specs.Prelude.{◌≡◌, ◌≢◌, ◌≤◌, ◌<◌, ◌+◌, ℕ, All, Some, length, map, vec_len, slice_get, IfOk, MatchOption};
+ghost use Rattle.std.specs.Prelude.{◌≡◌, ◌≢◌, ◌≤◌, ◌<◌, ◌+◌, ◌++◌, ℕ, All, Some, length, map, vec_len, slice_get, IfOk, MatchOption};
+ghost use Rattle.bd_node.specs.Disks.{disks_of};
 ghost use Rattle.bd_node.specs.Seats.{Continues, IsLentTo, IsSitting};
 ghost use Rattle.bd_node.specs.Shutting.{AreToLearn, LearnsShut, Shuts, ShutsWith};
 
@@ -106,6 +107,7 @@ pub(crate) fn take_all_apart<'a, D>(
     requires { vec_len seats + length shelf.old.items ≤ shelf.old.capacity }
     ensures logs { IfOk result (λ r. r.0.items ≡ map (λ s. s.worker.log) seats.entry.items) }
     ensures passes { IfOk result (λ r. r.1.items ≡ map (λ s. s.passes) seats.entry.items) }
+    ensures disks { IfOk result (λ _r. shelf.new.items ≡ shelf.old.items ++ disks_of seats.entry.items) }
 {
     let mut logs = Vec::new(alloc);
     let mut passes = Vec::new(alloc);

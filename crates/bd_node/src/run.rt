@@ -3,7 +3,8 @@ ghost use Rattle.std.specs.Prelude.{◌≡◌, ◌<◌, ◌≤◌, [], true, len
 ghost use Rattle.bd_machine.specs.Run.{IsCompleteRun};
 ghost use Rattle.bd_node.specs.declared.node.NodeState.TheVariants as states;
 ghost use Rattle.bd_node.specs.Schedule.{seed_by};
-ghost use Rattle.bd_node.specs.Whole.{HasSameSetup, IsNode, state_of};
+ghost use Rattle.bd_node.specs.Disks.{SaysOfDisks};
+ghost use Rattle.bd_node.specs.Whole.{HasSameSetup, IsNode, KeepsDisks, state_of};
 
 use crate::history::History;
 use crate::node::{Node, NodeState};
@@ -37,6 +38,7 @@ impl Drive {
 }
 
 // Rounds until every script is blocked and the node was shut, and then until it is done.
+#[tactic(auto, using(crate::proofs::Histories::keeps_disks_still, crate::proofs::Histories::keeps_disks_then))]
 fn play_out<'a, R: Threads + Wait + Sync, G: Gate + Sync, D: Disk + Send>(
     rt: &R,
     node: &mut Node<'a, D>,
@@ -46,6 +48,7 @@ fn play_out<'a, R: Threads + Wait + Sync, G: Gate + Sync, D: Disk + Send>(
     requires { IsNode node.old }
     ensures node { OnOk result (IsNode node.new) }
     ensures setup { OnOk result (HasSameSetup node.old node.new) }
+    ensures disks { OnOk result (KeepsDisks D.state node.old node.new) }
     ensures done { OnOk result (state_of node.new ≡ states.Done) }
 {
     for _ in rt.forever() {
@@ -80,7 +83,8 @@ pub fn play<R: Threads + Wait + Sync, G: Gate + Sync, D: Disk + Send>(
     requires some { 0 < setup.now.threads }
     requires disks { length disks.items ≡ setup.now.threads }
     requires room { setup.now.threads ≤ disks.capacity }
-    ensures { IfOk result.0 (λ history. IsCompleteRun setup.now [] history) }
+    ensures complete { IfOk result.0 (λ history. IsCompleteRun setup.now [] history) }
+    ensures disks { IfOk result.0 (λ history. SaysOfDisks D.state setup.now history disks.items result.1.items) }
 {
     let mut node = match Node::build(rt, alloc, setup, disks, drive.seed()) {
         Ok(node) => node,

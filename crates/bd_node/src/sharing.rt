@@ -1,8 +1,10 @@
 //! How reactors share the threads of a node.
-ghost use Rattle.std.specs.Prelude.{◌≡◌, ◌<◌, All, IsPermutation, length};
+ghost use Rattle.std.specs.Prelude.{◌≡◌, ◌<◌, All, IsPermutation, true, length};
+ghost use Rattle.std.specs.List.{list_all};
 ghost use Rattle.std.specs.List.Sorted.{IsNonDecreasingBy};
+ghost use Rattle.bd_node.specs.Disks.{StillHaveDone};
 ghost use Rattle.bd_node.specs.Seats.{AllWentOn, IsSitting, number_in};
-ghost use Rattle.bd_node.specs.Whole.{StaySeated};
+ghost use Rattle.bd_node.specs.Whole.{seat_goes, StaySeated};
 
 use crate::crew::{Watch, give_turns};
 use crate::seat::Seat;
@@ -79,7 +81,7 @@ fn turn_each<R: Threads + Wait + Sync, G: Gate + Sync, D: Disk + Send>(
     requires some { 0 < each }
     requires sits { All (IsSitting wires.now) seats.old }
     ensures len { length seats.new ≡ length seats.old }
-    ensures each { AllWentOn wires.now seats.old seats.new }
+    ensures each { AllWentOn D.state wires.now seats.old seats.new }
 {
     thread::for_each_chunk_mut(
         rt,
@@ -102,6 +104,7 @@ pub(crate) fn turn_all<R: Threads + Wait + Sync, G: Gate + Sync, D: Disk + Send>
     requires sits { All (IsSitting wires.now) seats.old }
     ensures len { length seats.new ≡ length seats.old }
     ensures seats { StaySeated wires.now seats.old seats.new }
+    ensures done { list_all seat_goes seats.new ≡ true → StillHaveDone D.state seats.old seats.new }
 {
     deal_out(&deal, seats);
     turn_each(rt, alloc, wires, watch, deal.each as usize, seats);

@@ -15,7 +15,7 @@ impl<'a, D: Disk> Seat<'a, D> {
     // Posts of its ring come into its queue.
     fn receive<W: Wait>(&mut self, rt: &W, wires: &Wires) -> Result<(), SeatNo>
         requires { IsSitting wires.now self.old }
-        ensures goes { OnOk result (Continues wires.now self.old self.new) }
+        ensures goes { OnOk result (Continues D.state wires.now self.old self.new) }
         ensures entries { OnOk result (HasSameEntries self.old self.new) }
         ensures came { OnOk result (Receives self.old self.new) }
     {
@@ -35,7 +35,7 @@ impl<'a, D: Disk> Seat<'a, D> {
     // What is in its queues to others goes into their rings.
     fn send<W: Wait>(&mut self, rt: &W, wires: &Wires) -> Result<(), SeatNo>
         requires { IsSitting wires.now self.old }
-        ensures goes { OnOk result (Continues wires.now self.old self.new) }
+        ensures goes { OnOk result (Continues D.state wires.now self.old self.new) }
         ensures entries { OnOk result (HasSameEntries self.old self.new) }
         ensures went { OnOk result (Sends self.old self.new) }
     {
@@ -60,7 +60,7 @@ impl<'a, D: Disk> Seat<'a, D> {
         wires: &Wires,
     ) -> Result<Option<Turned>, SeatNo>
         requires { IsSitting wires.now self.old }
-        ensures goes { OnOk result (Continues wires.now self.old self.new) }
+        ensures goes { OnOk result (Continues D.state wires.now self.old self.new) }
         ensures turned { IfOk result (TellsIfAny (made_by self.old) (made_by self.new)) }
         ensures quiet { IfOk result (IdlesIfLent self.old self.new) }
     {
@@ -78,7 +78,7 @@ impl<'a, D: Disk> Seat<'a, D> {
     // A turn without the registry.
     fn work(&mut self, alloc: Global) -> Result<Turned, SeatNo>
         requires { IsWorking self.old.worker }
-        ensures goes { OnOk result (KeepsOn self.old self.new) }
+        ensures goes { OnOk result (KeepsOn D.state self.old self.new) }
         ensures turned { IfOk result (Tells (made_by self.old) (made_by self.new)) }
         ensures quiet { IfOk result (IdlesAlone self.old.worker self.new.worker) }
     {
@@ -88,7 +88,7 @@ impl<'a, D: Disk> Seat<'a, D> {
     // A turn with the registry, where the thread wants it and it is in its slot; else one without.
     fn act<W: Wait>(&mut self, rt: &W, alloc: Global, wires: &Wires) -> Result<Turned, SeatNo>
         requires { IsSitting wires.now self.old }
-        ensures goes { OnOk result (Continues wires.now self.old self.new) }
+        ensures goes { OnOk result (Continues D.state wires.now self.old self.new) }
         ensures turned { IfOk result (Tells (made_by self.old) (made_by self.new)) }
         ensures quiet { IfOk result (Idles self.old self.new) }
     {
@@ -104,7 +104,7 @@ impl<'a, D: Disk> Seat<'a, D> {
     /// A turn: what came in its ring, what the thread does, and what it put to others.
     pub fn turn<W: Wait>(&mut self, rt: &W, alloc: Global, wires: &Wires) -> Result<Turned, SeatNo>
         requires { IsSitting wires.now self.old }
-        ensures goes { OnOk result (Continues wires.now self.old self.new) }
+        ensures goes { OnOk result (Continues D.state wires.now self.old self.new) }
         ensures turned { IfOk result (Tells (made_by self.old) (made_by self.new)) }
         ensures quiet { IfOk result (QuietTurns self.old self.new) }
     {
@@ -117,7 +117,7 @@ impl<'a, D: Disk> Seat<'a, D> {
     /// A turn in a round, unless the seat has to halt; true where it moved. What halts it is kept.
     pub fn step<W: Wait>(&mut self, rt: &W, alloc: Global, wires: &Wires) -> bool
         requires { SitsOrHalts wires.now self.old }
-        ensures { WentOn wires.now self.old self.new }
+        ensures { WentOn D.state wires.now self.old self.new }
     {
         if self.halted.is_some() {
             return false;

@@ -1,10 +1,12 @@
-use Rattle.std.proofs.Common.{◌≡◌, ◌<◌, ◌+◌, ◌-◌, ℕ, List, ◌∷◌, [], Some, drop, length, vec_len, refl, subst, sym, ◌∙◌, ap, arith, length-drop, rules}
+use Rattle.std.proofs.Common.{◌≡◌, ◌<◌, ◌+◌, ◌-◌, ◌++◌, ℕ, List, ◌∷◌, [], Some, drop, length, vec_len, refl, subst, sym, ◌∙◌, ap, arith, length-drop, rules}
 use Rattle.std.specs.List.{slice_get}
 use Rattle.std.proofs.lemmas.List.{length-append}
 use Rattle.std.proofs.lemmas.Option.{slice_get_read}
 use Rattle.bd_wires.specs.declared.wires.Passes.{Passes}
 use Rattle.bd_node.specs.declared.seat.Seat.{Seat}
 use Rattle.bd_node.specs.Starting.{AreNewSeats}
+use Rattle.bd_node.specs.Disks.{disks_of}
+use Rattle.bd_node.proofs.Disks.{disks_more, no_more, no_more_disks}
 use Rattle.bd_node.proofs.Starts.{at_drop, drop_next, new_more}
 use Rattle.bd_node.proofs.building.seats_of.Goals as goal
 
@@ -28,5 +30,15 @@ loop-me-preserved g c =
       left = c.remove.ensures.items ∙ ap (λ (qs : List Passes). drop 1 qs) i.left ∙ drop_next passes me;
       many = omega (arith, c.in-Ok.ensures.rest, i.many);
       room = omega (arith, c.in-Ok.ensures.capacity, i.room);
+      disks = ap (λ (ss : List (Seat g.row.D.Denot)). disks_of ss ++ c.seat_of.new.shelf.items) items ∙ disks_more seats seat c.seat_of.new.shelf.items ∙ ap (λ ds. disks_of seats ++ ds) (sym c.in-Ok.ensures.disks) ∙ i.disks;
       each = subst (λ (ss : List (Seat g.row.D.Denot)). AreNewSeats c.args.setup.now passes ss) (sym items) (new_more c.args.setup.now passes seats me seat pass i.len i.each at c.in-Ok.ensures.new);
     }
+
+pub returns-clause-disks : goal.returns-clause-disks
+returns-clause-disks g c =
+    let i = c.loop-me.invariant in
+    let none = no_more c.loop-me.shelf.items (omega (arith, i.many)) in
+    no_more_disks (disks_of c.loop-me.seats.items) c.loop-me.shelf.items none ∙ i.disks
+
+pub returns-clause-none : goal.returns-clause-none
+returns-clause-none g c = no_more c.loop-me.shelf.items (omega (arith, c.loop-me.invariant.many))

@@ -5,5 +5,5 @@ use Rattle.bd_node.proofs.crew.Crew.pass.Given as goal
 abbrev pub invariant-loop-place : goal.invariant-loop-place
 invariant-loop-place g l = record {
   len : length l.seats ≡ length l.initial.seats;
-  on : AllWentOn l.wires l.initial.seats l.seats;
+  on : AllWentOn g.D.Disk.state l.wires l.initial.seats l.seats;
 }

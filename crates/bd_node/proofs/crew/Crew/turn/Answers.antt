@@ -8,12 +8,12 @@ pub returns-then-moved : goal.returns-then-moved
 returns-then-moved g c =
     let seats = c.args.seats.now in
     let old = slice_index_or seats c.args.place c.index-seats-place.result in
-    one_stepped c.args.wires.now seats seats c.args.place old c.step-moved.new.self refl (all_still c.args.wires.now seats)
+    one_stepped g.D.Disk.state c.args.wires.now seats seats c.args.place old c.step-moved.new.self refl (all_still g.D.Disk.state c.args.wires.now seats)
     (slice_get-get_or seats c.args.place c.index-seats-place.result c.requires.within) c.step-moved.ensures
 
 pub returns-else-moved : goal.returns-else-moved
 returns-else-moved g c =
     let seats = c.args.seats.now in
     let old = slice_index_or seats c.args.place c.index-seats-place.result in
-    one_stepped c.args.wires.now seats seats c.args.place old c.step-moved.new.self refl (all_still c.args.wires.now seats)
+    one_stepped g.D.Disk.state c.args.wires.now seats seats c.args.place old c.step-moved.new.self refl (all_still g.D.Disk.state c.args.wires.now seats)
     (slice_get-get_or seats c.args.place c.index-seats-place.result c.requires.within) c.step-moved.ensures

@@ -5,5 +5,5 @@ use Rattle.bd_node.proofs.crew.Crew.work.Given as goal
 abbrev pub invariant-loop : goal.invariant-loop
 invariant-loop g l = record {
   len : length l.seats ≡ length l.initial.seats;
-  on : AllWentOn l.wires l.initial.seats l.seats;
+  on : AllWentOn g.D.Disk.state l.wires l.initial.seats l.seats;
 }

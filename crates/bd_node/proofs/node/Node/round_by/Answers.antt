@@ -3,12 +3,13 @@ use Rattle.bd_node.specs.Schedule.{advance}
 use Rattle.bd_node.specs.Seats.{HasMoved}
 use Rattle.bd_node.specs.Whole.{entries_made}
 use Rattle.bd_node.proofs.Advancing.{advance_next, advance_none}
+use Rattle.bd_node.proofs.Histories.{keeps_disks_still, keeps_disks_then}
 use Rattle.bd_node.proofs.Telling.{moved_more}
 use Rattle.bd_node.proofs.node.Node.round_by.Goals as goal
 use Rattle.bd_node.proofs.node.Node.round_by.Goals.{then-moved, else-moved}
 
 pub loop-init : goal.loop-init
-loop-init g c = record { node = c.requires; setup = refl; flag = refl; moved = refl; schedule = advance_none c.args.self.now.schedule.state }
+loop-init g c = record { node = c.requires; setup = refl; flag = refl; disks = keeps_disks_still g.D.Disk.state c.args.self.now; moved = refl; schedule = advance_none c.args.self.now.schedule.state }
 
 pub loop-preserved : goal.loop-preserved
 loop-preserved g c =
@@ -20,6 +21,7 @@ loop-preserved g c =
       node = c.in_ok-turned.ensures.node;
       setup = c.in_ok-turned.ensures.setup ∙ i.setup;
       flag = c.in_ok-turned.ensures.flag ∙ i.flag;
+      disks = keeps_disks_then g.D.Disk.state c.args.self.now c.loop.self c.next_turn.new.self i.disks c.in_ok-turned.ensures.disks;
       moved = elim c.if-moved.branch [
         | then-moved w ↦
             subst (λ (b : Bool). HasMoved first after b) (sym (w.moved-is ∙ w.if-moved.true))

@@ -1,7 +1,7 @@
 use Rattle.std.proofs.Common.{◌≡◌}
 use Rattle.bd_node.specs.Schedule.{advance_by}
 use Rattle.bd_node.specs.Seats.{HasMoved}
-use Rattle.bd_node.specs.Whole.{entries_made, IsNode}
+use Rattle.bd_node.specs.Whole.{entries_made, IsNode, KeepsDisks}
 use Rattle.bd_node.proofs.node.Node.round_by.Given as goal
 
 abbrev pub invariant-loop : goal.invariant-loop
@@ -9,6 +9,7 @@ invariant-loop g l = record {
   node : IsNode l.self;
   setup : l.self.setup ≡ l.initial.self.setup;
   flag : l.self.shut ≡ l.initial.self.shut;
+  disks : KeepsDisks g.D.Disk.state l.initial.self l.self;
   moved : HasMoved (entries_made l.initial.self) (entries_made l.self) l.moved;
   schedule : l.self.schedule.state ≡ advance_by l.counter l.initial.self.schedule.state;
 }

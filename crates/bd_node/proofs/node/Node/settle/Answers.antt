@@ -1,8 +1,10 @@
 -- The passes may be ended, the logs may be merged, and the merge is a complete run.
-use Rattle.std.proofs.Common.{◌≡◌, List, [], length, vec_len, sym, ◌∙◌, subst, arith}
+use Rattle.std.proofs.Common.{◌≡◌, List, [], ◌++◌, length, ap, vec_len, sym, ◌∙◌, subst, arith}
 use Rattle.bd_base.specs.declared.act.Entry.{Entry}
 use Rattle.bd_machine.specs.Run.{IsCompleteRun}
+use Rattle.bd_node.specs.Disks.{disks_of, SaysOfDisks}
 use Rattle.bd_node.specs.Whole.{setup_in}
+use Rattle.bd_node.proofs.Histories.{settled_says}
 use Rattle.bd_node.proofs.Settling.{logs_fit, node_complete, passes_fit}
 use Rattle.bd_node.proofs.node.Node.settle.Goals as goal
 
@@ -20,3 +22,12 @@ returns-in-Ok-merge-clause-complete g c =
     (node_complete c.args.self c.requires.node c.requires.done c.in-Ok.taken.0.items c.in-Ok.taken.1.items c.in-Ok.ensures.logs c.in-Ok.ensures.passes
     c.disconnect-registry.ensures.delivered c.disconnect-registry.result c.disconnect-registry.ensures.journal c.journal-journal.ensures.ordered c.journal-journal.ensures.replay
     c.in-Ok-merge.merged.items c.in-Ok-merge.ensures)
+
+pub returns-in-Ok-merge-clause-disks : goal.returns-in-Ok-merge-clause-disks
+returns-in-Ok-merge-clause-disks g c =
+    let n = c.args.self in
+    λ state starts empty many have.
+    let shelf-is = c.in-Ok.ensures.disks ∙ ap (λ ds. ds ++ disks_of n.seats.items) empty in
+    subst (λ (es : List Entry). SaysOfDisks state (setup_in n) es starts c.take_all_apart.new.shelf.items) (sym (c.of.ensures ∙ c.from_vec.ensures))
+    (settled_says state (setup_in n) n.wires n.seats.items n.shut c.requires.node.phases starts c.in-Ok.taken.0.items c.in-Ok-merge.merged.items c.take_all_apart.new.shelf.items
+    c.requires.node.seated c.in-Ok.ensures.logs c.in-Ok-merge.ensures many have shelf-is)

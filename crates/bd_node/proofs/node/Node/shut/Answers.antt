@@ -1,11 +1,13 @@
-use Rattle.std.proofs.Common.{◌≡◌, ◌<◌, ◌≤◌, ℕ, true, All, List, Option, length, length-set, refl, set, vec_len, subst, sym, ◌∙◌, ap, rules}
+use Rattle.std.proofs.Common.{◌≡◌, ◌<◌, ◌≤◌, ℕ, true, All, List, Option, Some, length, length-set, refl, set, vec_len, subst, sym, ◌∙◌, ap, rules}
 use Rattle.std.specs.List.{slice_get}
 use Rattle.std.specs.Option.{MatchOption}
 use Rattle.std.specs.Vec.{with_item}
 use Rattle.std.proofs.lemmas.List.{set-get_or, with_items_is}
 use Rattle.bd_node.specs.declared.seat.Seat.{Seat}
+use Rattle.bd_node.specs.Disks.{HaveDone}
 use Rattle.bd_node.specs.Shutting.{AreToLearn, Shuts}
 use Rattle.bd_node.specs.Whole.{AreSeated}
+use Rattle.bd_node.proofs.Disks.{have_all, have_set}
 use Rattle.bd_node.proofs.Marks.{each_adds, first_at, node_shuts, others_learn, AreAllShut}
 use Rattle.bd_node.proofs.node.Node.shut.Goals as goal
 
@@ -81,3 +83,30 @@ returns-in_default-clause-logs g c =
       schedule = refl;
       shut = refl;
     }
+
+pub returns-clause-disks : goal.returns-clause-disks
+returns-clause-disks g c =
+    let o = c.args.self.now in
+    let a = c.index_mut-first.result.now in
+    let news = c.learn_all.new.seats in
+    let shut = subst (λ (s : Option ℕ). MatchOption s (c.shut.new.self ≡ a) (λ k. (c.greatest-above.result < k) × Shuts o.wires k a c.shut.new.self)) c.in-Some.is c.in_ok-stamp.ensures.shut in
+    let v = with_item o.seats 0 c.shut.new.self in
+    let many : vec_len o.seats ≡ length o.seats.items = search rules in
+    let len : length news ≡ vec_len o.seats =
+    c.learn_all.ensures.len ∙ ap (λ (ss : List (Seat g.row.D.Denot)). length ss) c.as_mut_slice.ensures.value ∙ length-set o.seats.items 0 c.shut.new.self ∙ sym many in
+    let at : slice_get o.seats.items 0 ≡ Some a = first_at o a c.requires.node c.index_mut-first.ensures.value in
+    λ state. record {
+      shelf = refl;
+      done = λ starts h. subst (HaveDone state starts) (sym (with_items_is v news len))
+          (have_all state c.as_mut_slice.result.now news c.learn_all.ensures.len c.learn_all.ensures.first (λ i x y positive before after. (c.learn_all.ensures.others i x y positive before after o.wires).done state) starts
+          (subst (HaveDone state starts) (sym c.as_mut_slice.ensures.value) (have_set state o.seats.items 0 a c.shut.new.self at (shut.1.done state) starts h)));
+    }
+
+pub returns-in_default-clause-disks : goal.returns-in_default-clause-disks
+returns-in_default-clause-disks g c =
+    let o = c.args.self.now in
+    let a = c.index_mut-first.result.now in
+    let same : c.shut.new.self ≡ a =
+    subst (λ (s : Option ℕ). MatchOption s (c.shut.new.self ≡ a) (λ k. (c.greatest-above.result < k) × Shuts o.wires k a c.shut.new.self)) c.in_default.is c.in_ok-stamp.ensures.shut in
+    let seats-are = ap (λ (s : Seat g.row.D.Denot). set o.seats.items 0 s) (same ∙ c.index_mut-first.ensures.value) ∙ set-get_or o.seats.items 0 a in
+    λ state. record { shelf = refl; done = λ starts h. subst (HaveDone state starts) (sym seats-are) h }

@@ -3,6 +3,7 @@ use Rattle.std.specs.Coded.{le_prop}
 use Rattle.std.specs.List.{slice_get}
 use Rattle.std.proofs.lemmas.Option.{slice_get_read}
 use Rattle.std.proofs.lemmas.Result.{on_ok_weaker, IfOk-weaker}
+use Rattle.bd_node.proofs.Disks.{have_set}
 use Rattle.bd_node.proofs.Rounds.{one_sits, one_turned}
 use Rattle.bd_node.proofs.Telling.{tells_among}
 use Rattle.bd_node.proofs.Waiting.{turns_at}
@@ -48,3 +49,11 @@ pub returns-then-place-len-clause-none : goal.returns-then-place-len-clause-none
 returns-then-place-len-clause-none g c =
     let o = c.args.self.now in
     λ beyond. ap (λ (room : vec_len o.seats + length o.shelf.items ≤ o.shelf.capacity). record o { room = room }) (le_prop _ o.room)
+
+pub returns-clause-disks : goal.returns-clause-disks
+returns-clause-disks g c =
+    let o = c.args.self.now in
+    let a = c.index_mut-seat.result.now in
+    let lt : c.args.thread < length o.seats.items = search rules in
+    let at : slice_get o.seats.items c.args.thread ≡ Some a = slice_get_read o.seats.items (length o.seats.items) c.args.thread a refl lt c.index_mut-seat.ensures.value in
+    on_ok_weaker c.turn.result (λ on. record { shelf = refl; done = have_set g.D.Disk.state o.seats.items c.args.thread a c.turn.new.self at on.done }) c.turn.ensures.goes

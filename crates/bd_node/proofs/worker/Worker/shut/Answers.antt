@@ -15,6 +15,8 @@ returns c =
     let log : IsLogged c.last_stamp.result c.args.above stamp old.log c.push.new.self =
     logged old.log c.meet.new.self c.meet-2.new.self c.push.new.self c.last_stamp.result c.args.above stamp c.meet.ensures c.meet-2.ensures pushed.stamp pushed.entries pushed.last pushed.thread in
     record {
+      me = refl;
+      thread = refl;
       flag = refl;
       above = log.second;
       later = log.later;

@@ -1,4 +1,4 @@
-use Rattle.std.proofs.Common.{◌≡◌, ℕ, ◌≤◌, false, List, ◌++◌, length, ap, ap₂, subst, sym, ◌∙◌}
+use Rattle.std.proofs.Common.{◌≡◌, ℕ, ◌≤◌, false, List, ◌++◌, length, ap, ap₂, subst, refl, sym, ◌∙◌}
 use Rattle.std.specs.List.{AllByRecursion}
 use Rattle.std.specs.Prelude.{max}
 use Rattle.std.proofs.Math.Nat.{le-max_right}
@@ -11,15 +11,17 @@ use Rattle.bd_log.specs.Log.{Written}
 use Rattle.bd_registry.specs.State.{rows_of}
 use Rattle.bd_registry.proofs.Alike.{rows_are_enough}
 use Rattle.bd_apart.specs.Course.{acts_of, restamped}
-use Rattle.bd_seat.specs.Taking.{TakesOver}
+use Rattle.bd_seat.specs.Taking.{Appends, TakesOver}
 use Rattle.bd_thread.specs.Moves.{turned_of}
 use Rattle.bd_thread.specs.Seen.{local}
 use Rattle.bd_node.specs.declared.worker.Worker.{Worker}
 use Rattle.bd_node.specs.Seats.{GoesWith, Tells}
+use Rattle.bd_node.specs.Disks.{KeepsDone}
+use Rattle.bd_node.proofs.Disks.{keeps_as, log_keeps}
 use Rattle.bd_node.proofs.Lent.{begins_alike, replica_left, seen_within}
 use Rattle.bd_node.proofs.Telling.{tells_appended}
 use Rattle.bd_node.proofs.Waiting.{idles_with}
-use Rattle.bd_node.proofs.Workers.{goes_with, has_queue, leads_no_shutdown, leads_replay, leads_threads}
+use Rattle.bd_node.proofs.Workers.{after_turn, goes_with, has_queue, leads_no_shutdown, leads_replay, leads_threads}
 use Rattle.bd_node.proofs.worker.Worker.work_with.Goals as goal
 
 pub catch_up-requires : goal.catch_up-requires
@@ -111,3 +113,24 @@ returns-clause-quiet g c =
     idles_with c.args.lent.now w (record x { log = log }) c.catch_up.new.replica c.turn_with_disks.new.thread c.turn_with_disks.new.links c.in_ok-turned.turned c.requires.at.empty
     c.in_ok-catch_up.ensures.state c.in_ok-turned.ensures.quiet
     (ap (λ (y : Worker). y.thread) c.take_entries-entries.ensures.left) (ap (λ (y : Worker). y.links) c.take_entries-entries.ensures.left)
+
+pub returns-clause-done : goal.returns-clause-done
+returns-clause-done g c =
+    let w = c.args.self.now in
+    let lent = c.args.lent.now in
+    let now = c.take_over.new.registry in
+    let entries = c.take_entries-entries.result in
+    let log = c.take_over.new.log in
+    let links = c.turn_with_disks.new.links in
+    let state = g.D.Disk.state in
+    let acted = c.in_ok-turned.ensures.acted in
+    let met : Written = record w.log { last = max w.log.last lent.last } in
+    let met-is : c.meet.new.self ≡ met = c.meet.ensures ∙ ap (λ (n : ℕ). record w.log { last = max w.log.last n }) c.last_stamp.ensures in
+    let begun : Worker = record w { links = record w.links { registry = c.catch_up.new.replica }; log = met } in
+    subst (λ (x : Worker). TakesOver x.log lent (restamped x.log.thread x.log.last (acts_of entries)) log now
+    → KeepsDone state w c.args.disks.now (record { me = x.me; thread = x.thread; links = x.links; log = log }) c.turn_with_disks.new.disks) (sym c.take_entries-entries.ensures.left)
+    (λ takes. keeps_as state w begun (after_turn begun c.turn_with_disks.new.thread links log) c.args.disks.now c.turn_with_disks.new.disks refl refl refl
+    (log_keeps state begun c.turn_with_disks.new.thread links log c.args.disks.now c.turn_with_disks.new.disks (ap (λ s. s.now) acted.setup) c.requires.at.empty c.in_ok-turned.ensures.says
+    (subst (λ (x : Written). Appends x (restamped x.thread x.last (acts_of links.entries)) log) met-is
+    (subst (λ (es : List Entry). Appends c.meet.new.self (restamped c.meet.new.self.thread c.meet.new.self.last (acts_of es)) log) c.take_entries-entries.ensures.entries takes.log_is))))
+    c.in_ok-take_over.ensures.taken
