@@ -1,5 +1,5 @@
 -- What the disks of threads did is what the threads' logs say.
-use Rattle.std.proofs.Common.{◌≡◌, ℕ, zero, suc, ◌+◌, ◌<◌, List, [], ◌∷◌, ◌++◌, length, set, Some, Result, Ok, Err, OnOk, ◌⊎◌, inl, inr, refl, sym, ◌∙◌, ap, subst, append-nil, arith}
+use Rattle.std.proofs.Common.{◌≡◌, ℕ, zero, suc, ◌+◌, ◌<◌, true, List, [], ◌∷◌, ◌++◌, length, set, Some, Result, Ok, Err, OnOk, ◌⊎◌, inl, inr, refl, sym, ◌∙◌, ap, subst, append-nil, arith}
 use Rattle.std.specs.List.{slice_get}
 use Rattle.std.specs.Prelude.{slice_index_or}
 use Rattle.std.proofs.lemmas.Bool.{cases_eq}
@@ -12,7 +12,7 @@ use Rattle.bd_base.specs.declared.id.DevId.{DevId}
 use Rattle.bd_base.specs.declared.setup.Setup.{Setup}
 use Rattle.bd_apart.specs.Course.{acts_of, restamped}
 use Rattle.bd_log.specs.Log.{Written}
-use Rattle.bd_machine.specs.BlockMap.{size_of}
+use Rattle.bd_machine.specs.BlockMap.{is_aio, size_of}
 use Rattle.bd_outside.specs.Disk.{DiskState}
 use Rattle.bd_seat.specs.Taking.{Appends}
 use Rattle.bd_storage.specs.Served.{end_then, ends_on, AreDoneBy, DidPiecesIf, SaysAll}
@@ -65,7 +65,7 @@ keeps_shutdown {D = D} state old new disks stamp t me setup entries = record { m
         let e : Entry = record { stamp = stamp; thread = t; act = acts.Shutdown } in
         subst (λ (es : List Entry). AreDoneBy state (setup_of new.thread) es start disks) (sym entries)
         (subst (λ (s : Setup). AreDoneBy state s (old.log.entries ++ e ∷ []) start disks) (sym setup)
-        (done_after state (setup_of old.thread) old.log.entries (e ∷ []) start disks disks h (done_none state (setup_of old.thread) disks)))
+        (done_after state (setup_of old.thread) old.log.entries (e ∷ []) start disks disks h (record { devices = refl; pieces = (done_none state (setup_of old.thread) disks).pieces })))
 
 -- stamps don't matter
 pub restamped_ends : (dev : DevId) (t last : ℕ) (es : List Entry) → ends_on dev (restamped t last (acts_of es)) ≡ ends_on dev es
@@ -87,10 +87,14 @@ log_keeps {D = D} state w thread links log before after setup empty says appends
     is : links.entries ≡ says.entries
     is = says.added ∙ ap (λ (es : List Entry). es ++ says.entries) empty
 
-    said : AreDoneBy state (setup_of w.thread) added before after
-    said dev aio =
+    pieces : (dev : DevId) → is_aio (setup_of w.thread) dev ≡ true
+        → DidPiecesIf (size_of (setup_of w.thread) dev) (ends_on dev added) (option_map state (disk_of dev before)) (option_map state (disk_of dev after))
+    pieces dev aio =
         let same : ends_on dev added ≡ ends_on dev says.entries = restamped_ends dev w.log.thread w.log.last links.entries ∙ ap (ends_on dev) is in
-        subst (λ (ends : List ApplyEnd). DidPiecesIf (size_of (setup_of w.thread) dev) ends (option_map state (disk_of dev before)) (option_map state (disk_of dev after))) (sym same) (says.done dev aio)
+        subst (λ (ends : List ApplyEnd). DidPiecesIf (size_of (setup_of w.thread) dev) ends (option_map state (disk_of dev before)) (option_map state (disk_of dev after))) (sym same) (says.done.pieces dev aio)
+
+    said : AreDoneBy state (setup_of w.thread) added before after
+    said = record { devices = says.done.devices; pieces = pieces }
 
     done : (start : List (DevId × D)) → HasDone state start w before → AreDoneBy state (setup_of thread) log.entries start after
     done start h =

@@ -1,5 +1,5 @@
 -- What disks did in a turn, by the entries that the turn added.
-use Rattle.std.proofs.Common.{◌≡◌, ℕ, ◌+◌, Bool, true, false, not, cond, ◌&&◌, List, [], ◌∷◌, ◌++◌, length, find, Option, Some, None, option_and_then, refl, sym, ◌∙◌, ap, ap₂, subst, append_assoc, append-nil}
+use Rattle.std.proofs.Common.{◌≡◌, ℕ, ◌+◌, Bool, true, false, not, cond, ◌&&◌, List, [], ◌∷◌, ◌++◌, length, map, find, Option, Some, None, option_and_then, refl, sym, ◌∙◌, ap, ap₂, subst, append_assoc, append-nil}
 use Rattle.std.specs.Option.{option_map}
 use Rattle.bd_base.specs.declared.act.Act.{Act}
 use Rattle.bd_base.specs.declared.act.Act.TheVariants as acts
@@ -62,14 +62,17 @@ did_none size None = (refl, refl)
 did_none size (Some a) = refl
 
 pub done_none : {D : Type 0} (state : D → DiskState) (setup : Setup) (disks : List (DevId × D)) → AreDoneBy state setup [] disks disks
-done_none state setup disks dev aio = did_none (size_of setup dev) (option_map state (disk_of dev disks))
+done_none state setup disks = record { devices = refl; pieces = λ dev aio. did_none (size_of setup dev) (option_map state (disk_of dev disks)) }
 
 pub done_after : {D : Type 0} (state : D → DiskState) (setup : Setup) (xs ys : List Entry) (a b c : List (DevId × D)) → AreDoneBy state setup xs a b → AreDoneBy state setup ys b c → AreDoneBy state setup (xs ++ ys) a c
-done_after state setup xs ys a b c f s dev aio =
-    let at : Option DiskState = option_map state (disk_of dev a) in
-    let then : Option DiskState = option_map state (disk_of dev c) in
-    subst (λ (es : List ApplyEnd). DidPiecesIf (size_of setup dev) es at then) (sym (ends_after dev xs ys))
-    (did_after_if (size_of setup dev) (ends_on dev xs) (ends_on dev ys) at (option_map state (disk_of dev b)) then (f dev aio) (s dev aio))
+done_after {D = D} state setup xs ys a b c f s = record { devices = s.devices ∙ f.devices; pieces = pieces }
+  where
+    pieces : (dev : DevId) → is_aio setup dev ≡ true → DidPiecesIf (size_of setup dev) (ends_on dev (xs ++ ys)) (option_map state (disk_of dev a)) (option_map state (disk_of dev c))
+    pieces dev aio =
+        let at : Option DiskState = option_map state (disk_of dev a) in
+        let then : Option DiskState = option_map state (disk_of dev c) in
+        subst (λ (es : List ApplyEnd). DidPiecesIf (size_of setup dev) es at then) (sym (ends_after dev xs ys))
+        (did_after_if (size_of setup dev) (ends_on dev xs) (ends_on dev ys) at (option_map state (disk_of dev b)) then (f.pieces dev aio) (s.pieces dev aio))
 
 -- ---- what a thread did by itself
 
@@ -91,9 +94,12 @@ own_ends setup dev [] aio own = refl
 own_ends setup dev (e ∷ es) aio own = ap (end_then dev e.act) (own_ends setup dev es aio own.1) ∙ own_end setup dev e.act aio own.0
 
 own_done : {D : Type 0} (state : D → DiskState) (setup : Setup) (es : List Entry) (disks : List (DevId × D)) → AreOf is_own setup es → AreDoneBy state setup es disks disks
-own_done state setup es disks own dev aio =
-    let at : Option DiskState = option_map state (disk_of dev disks) in
-    subst (λ (ends : List ApplyEnd). DidPiecesIf (size_of setup dev) ends at at) (sym (own_ends setup dev es aio own)) (did_none (size_of setup dev) at)
+own_done {D = D} state setup es disks own = record { devices = refl; pieces = pieces }
+  where
+    pieces : (dev : DevId) → is_aio setup dev ≡ true → DidPiecesIf (size_of setup dev) (ends_on dev es) (option_map state (disk_of dev disks)) (option_map state (disk_of dev disks))
+    pieces dev aio =
+        let at : Option DiskState = option_map state (disk_of dev disks) in
+        subst (λ (ends : List ApplyEnd). DidPiecesIf (size_of setup dev) ends at at) (sym (own_ends setup dev es aio own)) (did_none (size_of setup dev) at)
 
 -- ---- a disk that changed, and the others
 
@@ -131,6 +137,16 @@ module _ {D : Type 0} (dev : DevId) (So : D → D → Type 0) where
       go others false e c =
           ap (λ (x : DevId × D). cond (is_row other x) (Some x.1) (disk_of other new)) c.0
           ∙ ap (λ (o : Option D). cond (is_row other row) (Some row.1) o) (others c.1)
+
+  pub same_devices : (old new : List (DevId × D)) → ChangesDisk dev So old new → map (λ (row : DevId × D). row.0) new ≡ map (λ (row : DevId × D). row.0) old
+  same_devices [] new h = absurd h
+  same_devices (row ∷ rows) [] h = absurd h
+  same_devices (row ∷ rows) (next ∷ new) h = go (λ c. same_devices rows new c) (is_row dev row) h
+    where
+      go : (ChangesDisk dev So rows new → map (λ (r : DevId × D). r.0) new ≡ map (λ (r : DevId × D). r.0) rows) → (b : Bool) → ChangesRow b So row next (new ≡ rows) (ChangesDisk dev So rows new)
+          → next.0 ∷ map (λ (r : DevId × D). r.0) new ≡ row.0 ∷ map (λ (r : DevId × D). r.0) rows
+      go others true c = ap₂ (λ (d : DevId) (ds : List DevId). d ∷ ds) c.0 (ap (λ (rs : List (DevId × D)). map (λ (r : DevId × D). r.0) rs) c.2)
+      go others false c = ap₂ (λ (d : DevId) (ds : List DevId). d ∷ ds) (ap (λ (r : DevId × D). r.0) c.0) (others c.1)
 
 -- ---- one piece
 
@@ -197,15 +213,22 @@ module _ {D : Type 0} (state : D → DiskState) (before after : Moment D) (s : S
       unchanged_else s.piece.base (λ old new. Does size s.piece s.end s.bytes (state old) (state new)) other before.disks after.disks no s.did
 
   one_done : (e : Entry) (req : ReqId) (k : ℕ) → e.act ≡ acts.Apply req k s.dev s.end → AreDoneBy state before.thread.setup.now (e ∷ []) before.disks after.disks
-  one_done e req k is dev aio =
-      subst (λ (act : Act). DidPiecesIf (size_of before.thread.setup.now dev) (end_then dev act []) (option_map state (disk_of dev before.disks)) (option_map state (disk_of dev after.disks))) (sym is)
-      (go (same_dev s.dev dev) refl)
+  one_done e req k is = record {
+    devices = same_devices s.piece.base (λ old new. Does size s.piece s.end s.bytes (state old) (state new)) before.disks after.disks s.did;
+    pieces = pieces;
+  }
     where
-      go : (b : Bool) → same_dev s.dev dev ≡ b → DidPiecesIf (size_of before.thread.setup.now dev) (cond b ended []) (option_map state (disk_of dev before.disks)) (option_map state (disk_of dev after.disks))
-      go true same = subst (λ (d : DevId). DidPiecesIf (size_of before.thread.setup.now d) ended (option_map state (disk_of d before.disks)) (option_map state (disk_of d after.disks))) (dev_exact s.dev dev same) here
-      go false ne =
-          subst (λ (o : Option D). DidPiecesIf (size_of before.thread.setup.now dev) [] (option_map state (disk_of dev before.disks)) (option_map state o)) (sym (else_same dev ne))
-          (did_none (size_of before.thread.setup.now dev) (option_map state (disk_of dev before.disks)))
+      pieces : (dev : DevId) → is_aio before.thread.setup.now dev ≡ true
+          → DidPiecesIf (size_of before.thread.setup.now dev) (ends_on dev (e ∷ [])) (option_map state (disk_of dev before.disks)) (option_map state (disk_of dev after.disks))
+      pieces dev aio =
+          subst (λ (act : Act). DidPiecesIf (size_of before.thread.setup.now dev) (end_then dev act []) (option_map state (disk_of dev before.disks)) (option_map state (disk_of dev after.disks))) (sym is)
+          (go (same_dev s.dev dev) refl)
+        where
+          go : (b : Bool) → same_dev s.dev dev ≡ b → DidPiecesIf (size_of before.thread.setup.now dev) (cond b ended []) (option_map state (disk_of dev before.disks)) (option_map state (disk_of dev after.disks))
+          go true same = subst (λ (d : DevId). DidPiecesIf (size_of before.thread.setup.now d) ended (option_map state (disk_of d before.disks)) (option_map state (disk_of d after.disks))) (dev_exact s.dev dev same) here
+          go false ne =
+              subst (λ (o : Option D). DidPiecesIf (size_of before.thread.setup.now dev) [] (option_map state (disk_of dev before.disks)) (option_map state o)) (sym (else_same dev ne))
+              (did_none (size_of before.thread.setup.now dev) (option_map state (disk_of dev before.disks)))
 
   pub one_says : SaysAll state before.thread.setup.now before.links after.links before.disks after.disks
   one_says =

@@ -1,5 +1,5 @@
 -- What disks did, by the entries that say it.
-use Rattle.std.specs.Prelude.{◌≡◌, ℕ, true, cond, List, [], ◌∷◌, ◌++◌, Option, Some, None}
+use Rattle.std.specs.Prelude.{◌≡◌, ℕ, true, cond, List, [], ◌∷◌, ◌++◌, map, Option, Some, None}
 use Rattle.std.specs.Option.{option_map}
 use Rattle.bd_base.specs.declared.act.Act.{Act}
 use Rattle.bd_base.specs.declared.act.Act.TheVariants as acts
@@ -40,10 +40,10 @@ DidPiecesIf size ends None new = (new ≡ None) × (ends ≡ [])
 DidPiecesIf size ends (Some old) None = ⊥
 DidPiecesIf size ends (Some old) (Some new) = DidPieces size ends old new
 
--- the disks of a setup's aio devices did just the pieces of which these entries say that they were applied
-abbrev pub AreDoneBy : {D : Type 0} → (D → DiskState) → Setup → List Entry → List (DevId × D) → List (DevId × D) → Type 0
-AreDoneBy state setup entries old new =
-    (dev : DevId) → is_aio setup dev ≡ true → DidPiecesIf (size_of setup dev) (ends_on dev entries) (option_map state (disk_of dev old)) (option_map state (disk_of dev new))
+-- the disks of a setup's aio devices did just the pieces of which these entries say that they were applied; no disk came or went
+pub record AreDoneBy {D : Type 0} (state : D → DiskState) (setup : Setup) (entries : List Entry) (old new : List (DevId × D)) : Type 0 where
+  pub devices : map (λ row. row.0) new ≡ map (λ row. row.0) old
+  pub pieces : (dev : DevId) → is_aio setup dev ≡ true → DidPiecesIf (size_of setup dev) (ends_on dev entries) (option_map state (disk_of dev old)) (option_map state (disk_of dev new))
 
 -- what the disks did is what the entries say that were added
 pub record SaysAll {D : Type 0} (state : D → DiskState) (setup : Setup) (before after : Links) (old new : List (DevId × D)) : Type 0 where
