@@ -1,3 +1,4 @@
+pub mod AioSteps
 pub mod Numbered
 pub mod Settings
 pub mod Steps

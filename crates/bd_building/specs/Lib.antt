@@ -1,3 +1,4 @@
+pub mod AioDevices
 pub mod Disks
 pub mod Made
 pub mod Progress
