@@ -1,0 +1,9 @@
+pub mod Fields
+pub mod Bases
+pub mod Acts
+pub mod Steps
+pub mod Disk
+pub mod Kept
+pub mod Over
+pub mod Start
+pub mod Example
