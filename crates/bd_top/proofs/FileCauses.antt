@@ -9,6 +9,8 @@ use Rattle.bd_building.specs.declared.building.BuildNo.{BuildNo}
 use Rattle.bd_building.specs.declared.building.BuildNo.TheVariants as builds
 use Rattle.bd_config.specs.Commands.{minus}
 use Rattle.bd_config.specs.declared.command.Command.{Command}
+use Rattle.bd_opened.specs.Closing.{KeepsCounts}
+use Rattle.bd_opened.proofs.EachClosed.{kept_same, kept_then}
 use Rattle.bd_outside.specs.Count.{Rises}
 use Rattle.bd_outside.specs.File.{Told, IsAbsent}
 use Rattle.bd_outside.specs.Host.{HostState, IsLater, FailsAt, Misses}
@@ -24,18 +26,12 @@ use Rattle.bd_top.specs.Configure.{CauseBy, IsRefused, NotRefused}
 use Rattle.bd_top.specs.Disks.{AreDisksOf, BeginsWith, IsNamed, MayHave, MayGive, Opens}
 use Rattle.bd_top.specs.Fault.{IsFaultOf, IsScriptFault, config_fault}
 use Rattle.bd_top.specs.Files.{IsRead, IsTooLong, ReadCause}
-use Rattle.bd_top.specs.Opening.{AreDone, DoingCause, IsBuildFault, IsStep, IsStepRefused, KeepsCounts}
+use Rattle.bd_top.specs.Opening.{AreDone, DoingCause, IsBuildFault, IsStep, IsStepRefused}
 use Rattle.bd_top.specs.Run.{AreCommands, FileCause, IsConfigured, IsDevices, IsDue, IsNoText, IsNotSupported, IsWanted, ScriptCause}
 use Rattle.bd_top.proofs.ConfigureLemmas.{cause_by}
 use Rattle.bd_top.proofs.FileLemmas.{later_same, fails_from, misses_from}
 
 -- ---- states of a host
-
-pub kept_same : (a : HostState) → KeepsCounts a a
-kept_same a = record { told = λ name. refl; faults = refl; absences = refl }
-
-pub kept_then : (a b c : HostState) → KeepsCounts a b → KeepsCounts b c → KeepsCounts a c
-kept_then a b c p q = record { told = λ name. q.told name ∙ p.told name; faults = q.faults ∙ p.faults; absences = q.absences ∙ p.absences }
 
 pub later_kept : (a b c : HostState) → IsLater a b → KeepsCounts b c → IsLater a c
 later_kept a b c p q = record {

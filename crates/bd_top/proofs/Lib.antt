@@ -9,3 +9,4 @@ pub mod InForm
 pub mod OneCause
 pub mod Opening
 pub mod Wrong
+pub mod DiskRows

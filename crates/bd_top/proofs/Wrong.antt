@@ -215,7 +215,7 @@ module _ (words : List (List ℕ)) (host : HostState) (fault : Fault) (wrong : I
     only_this faults.OutOfMemory cause = inr refl
 
     -- nor were the two files played
-    not_played : (trace : List Entry) (report : List ℕ) → AreFilesPlayed wrong.arguments host.told trace report → ⊥
+    not_played : (trace : List Entry) (report : List ℕ) → AreFilesPlayed wrong.arguments host new trace report → ⊥
     not_played trace report played = go played.meant wrong.wrong
       where
         of_jobs : (bad : IsScriptWrong threads host.told wrong.config jobs_told fault) (setup : IsMeant threads host.told config_told jobs_told played.setup) → IsNoScript threads jobs_told bad.line → ⊥
@@ -229,8 +229,8 @@ module _ (words : List (List ℕ)) (host : HostState) (fault : Fault) (wrong : I
         go meant (inr bad) = of_jobs bad meant bad.first
 
     -- so what is asked wasn't done
-    pub not_done : (asked : Asked) (trace : List Entry) (text : List ℕ) → asked_of words ≡ Some asked → IsDone asked host.told trace text → ⊥
+    pub not_done : (asked : Asked) (trace : List Entry) (text : List ℕ) → asked_of words ≡ Some asked → IsDone asked host new trace text → ⊥
     not_done asked trace text named done =
         let both : Some asked ≡ Some (Run wrong.arguments) = sym named ∙ wrong.named in
         let same : asked ≡ Run wrong.arguments = cc in
-        not_played trace text (subst (λ (a : Asked). IsDone a host.told trace text) same done)
+        not_played trace text (subst (λ (a : Asked). IsDone a host new trace text) same done)

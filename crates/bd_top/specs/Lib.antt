@@ -8,3 +8,4 @@ pub mod Opening
 pub mod Run
 pub mod Setup
 pub mod Words
+pub mod DiskRows

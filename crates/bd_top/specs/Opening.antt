@@ -9,16 +9,10 @@ use Rattle.bd_building.specs.declared.building.BuildNo.TheVariants as builds
 use Rattle.bd_config.specs.Commands.{minus}
 use Rattle.bd_config.specs.declared.command.Command.{Command}
 use Rattle.bd_outside.specs.File.{Told, IsAbsent}
-use Rattle.bd_outside.specs.Host.{HostState, FailsAt, Misses, TellsTheSame}
+use Rattle.bd_outside.specs.Host.{HostState, FailsAt, Misses}
 use Rattle.bd_top.specs.declared.fault.Fault.{Fault}
 use Rattle.bd_top.specs.declared.fault.Fault.TheVariants.{NoFile, ReadFault, Method, OutOfMemory}
 use Rattle.bd_top.specs.Disks.{AreDisksOf, MayGive}
-
--- it tells the same of each file, and its counts stand
-pub record KeepsCounts (old new : HostState) : Type 0 where
-  pub told : TellsTheSame old new
-  pub faults : new.faults ≡ old.faults
-  pub absences : new.absences ≡ old.absences
 
 -- ---- done
 

@@ -30,6 +30,7 @@ use Rattle.bd_top.specs.declared.inputs.ScriptNo.TheVariants as script_nos
 use Rattle.bd_top.specs.Built.{lines_in, AreBuilt, IsFirstNotBuilt}
 use Rattle.bd_top.specs.Configure.{Configures, ConfiguresAnyhow, ConfigureCause, ConfigureCauseAnyhow}
 use Rattle.bd_top.specs.Disks.{AreDisksOf, Opens}
+use Rattle.bd_top.specs.DiskRows.{TellDisks}
 use Rattle.bd_top.specs.Exercise.{IsExercise}
 use Rattle.bd_top.specs.Fault.{config_fault}
 use Rattle.bd_top.specs.Files.{IsRead, IsTooLong, max_file, ReadCause, AppendsPrefix}
@@ -105,11 +106,12 @@ pub record IsPlayed (setup : Setup) (full : Bool) (trace : List Entry) (report :
   pub last_close : AreAfterLastClose setup trace
   pub says : report ≡ report_of full setup trace
 
--- the two files were played, with a full report
-pub record AreFilesPlayed (arguments : Arguments) (told : List ℕ → Told) (trace : List Entry) (report : List ℕ) : Type 0 where
+-- the two files were played, with a full report; what the host then keeps of the disks is that run's
+pub record AreFilesPlayed (arguments : Arguments) (old new : HostState) (trace : List Entry) (report : List ℕ) : Type 0 where
   pub setup : Setup
-  pub meant : IsMeant arguments.playing.threads told (told arguments.config) (told arguments.jobs) setup
+  pub meant : IsMeant arguments.playing.threads old.told (old.told arguments.config) (old.told arguments.jobs) setup
   pub played : IsPlayed setup true trace report
+  pub disks : TellDisks old.told setup trace old.openings new.openings
 
 -- the built-in configuration was played with the generated script, with a report that isn't full
 pub record IsExercised (numbers threads : ℕ) (trace : List Entry) (report : List ℕ) : Type 0 where
@@ -123,18 +125,18 @@ pub record IsGenerated (numbers threads : ℕ) (trace : List Entry) (text : List
   pub says : text ≡ generated numbers threads
 
 -- what is asked was done: this is the history, and this the text to be written
-abbrev pub IsDone : Asked → (List ℕ → Told) → List Entry → List ℕ → Type 0
-IsDone (Run arguments) told trace text = AreFilesPlayed arguments told trace text
-IsDone (Exercise numbers playing) told trace text = IsExercised numbers playing.threads trace text
-IsDone (Generate numbers threads) told trace text = IsGenerated numbers threads trace text
+abbrev pub IsDone : Asked → HostState → HostState → List Entry → List ℕ → Type 0
+IsDone (Run arguments) old new trace text = AreFilesPlayed arguments old new trace text
+IsDone (Exercise numbers playing) old new trace text = IsExercised numbers playing.threads trace text
+IsDone (Generate numbers threads) old new trace text = IsGenerated numbers threads trace text
 
 -- what the words ask was done, and the output gained the text
-pub record IsRun (words : List (List ℕ)) (host : HostState) (trace : List Entry) (old new : SinkState) : Type 0 where
+pub record IsRun (words : List (List ℕ)) (old new : HostState) (trace : List Entry) (before after : SinkState) : Type 0 where
   pub asked : Asked
   pub named : asked_of words ≡ Some asked
   pub text : List ℕ
-  pub done : IsDone asked host.told trace text
-  pub output : Appends old.written new.written text
+  pub done : IsDone asked old new trace text
+  pub output : Appends before.written after.written text
 
 -- ---- faults
 
@@ -206,19 +208,19 @@ pub record IsOfFiles (words : List (List ℕ)) (old new : HostState) (fault : Fa
   pub of_file : FileCause old new arguments.config arguments.jobs arguments.playing.threads fault
 
 -- what the words ask was done, and the output failed, after a prefix of the text
-pub record IsCutOff (words : List (List ℕ)) (host : HostState) (old new : SinkState) : Type 0 where
+pub record IsCutOff (words : List (List ℕ)) (old new : HostState) (before after : SinkState) : Type 0 where
   pub asked : Asked
   pub named : asked_of words ≡ Some asked
   pub trace : List Entry
   pub text : List ℕ
-  pub done : IsDone asked host.told trace text
-  pub prefix : AppendsPrefix old.written new.written text
-  pub failed : Fails old new
+  pub done : IsDone asked old new trace text
+  pub prefix : AppendsPrefix before.written after.written text
+  pub failed : Fails before after
 
 -- when each fault comes, by the host and the output before and after the call; out of memory is the one free answer
 abbrev pub Cause : List (List ℕ) → HostState → HostState → SinkState → SinkState → Fault → Type 0
 Cause words old new before after Usage = asked_of words ≡ None
-Cause words old new before after WriteFault = IsCutOff words old before after
+Cause words old new before after WriteFault = IsCutOff words old new before after
 Cause words old new before after OutOfMemory = Unit {0}
 Cause words old new before after (NoFile name) = IsOfFiles words old new (NoFile name)
 Cause words old new before after (TooLong name) = IsOfFiles words old new (TooLong name)

@@ -1,18 +1,22 @@
 //! The devices of a configuration's commands, and the disks that these open.
-ghost use Rattle.std.specs.Prelude.{◌≡◌, ◌<◌, length, IfOk, IfErr, All};
+ghost use Rattle.std.specs.Prelude.{◌≡◌, ◌<◌, ◌⊎◌, ℕ, List, length, Option, IfOk, IfErr, All};
 ghost use Rattle.bd_building.specs.Disks.{file_of};
 ghost use Rattle.bd_config.specs.Commands.{IsOpenable};
+ghost use Rattle.bd_outside.specs.File.{Told};
 ghost use Rattle.bd_outside.specs.Host.{IsLater};
+ghost use Rattle.bd_outside.specs.declared.opening.Opening.{Opening};
 ghost use Rattle.bd_top.specs.Configure.{IsRefused};
+ghost use Rattle.bd_top.specs.DiskRows.{IsClosedUnless, OpensFor, StandOpen, TellsSo};
 ghost use Rattle.bd_top.specs.Disks.{IsNamed, MayGive, Opens};
 ghost use Rattle.bd_top.specs.Opening.{AreDone, DoingCause, IsBuildFault, IsStep, IsStepRefused, NeverRefused};
 
 use crate::configure::code_of;
-use crate::disks::{OpenDisks, close_all};
 use crate::fault::Fault;
 use crate::files::{ReadNo, fault_of};
+use bd_base::DevId;
 use bd_building::{BuildNo, Building};
 use bd_config::Command;
+use bd_opened::{OpenDisks, close_all};
 use bd_outside::{Disk, Host, HostNo};
 use std::alloc::Global;
 use std::str;
@@ -32,12 +36,15 @@ fn open_for<H: Host>(
     dev: usize,
     command: &Command,
 ) -> Result<u64, Fault>
-    requires threads { 0 < length disks.old }
+    requires threads { 0 < length disks.old.threads }
     requires openable { IsOpenable command.now }
     ensures blocks { IfOk result (MayGive (H.state host.old).told (file_of command.now)) }
     ensures cause { IfErr result (DoingCause (H.state host.old) (H.state host.new) (IsNamed (file_of command.now)) NeverRefused) }
     ensures later { IsLater (H.state host.old) (H.state host.new) }
-    ensures threads { length disks.new ≡ length disks.old }
+    ensures threads { length disks.new.threads ≡ length disks.old.threads }
+    ensures opened { IfOk result (λ blocks. OpensFor H.Disk.state dev command.now blocks (H.state host.old) disks.old (H.state host.new) disks.new) }
+    ensures unopened { IfErr result (λ fault. (fault ≡ Fault.OutOfMemory)
+        ⊎ (((H.state host.new).openings ≡ (H.state host.old).openings) × (disks.new ≡ disks.old))) }
 {
     let Command::Aio { file, size, .. } = command else {
         return Ok(0);
@@ -57,7 +64,7 @@ fn open_for<H: Host>(
         Err(HostNo::Failed) => return Err(fault_of(alloc, name, ReadNo::Failed)),
     };
     let blocks = disk.blocks();
-    match disks.add(dev, kept, disk) {
+    match disks.add(DevId(dev), kept, disk) {
         Ok(()) => Ok(blocks),
         Err(disk) => {
             host.close_disk(name, disk);
@@ -87,13 +94,19 @@ fn do_command<H: Host>(
     index: u32,
     command: Command,
 ) -> Result<Opened<H::Disk>, Fault>
-    requires threads { 0 < length opened.disks }
+    requires threads { 0 < length opened.disks.threads }
     requires openable { IsOpenable command }
     ensures done { IfOk result (λ o. IsStep (H.state host.old).told opened.devices index command o.devices) }
     ensures cause { IfErr result (DoingCause (H.state host.old) (H.state host.new) (IsNamed (file_of command))
         (IsStepRefused (H.state host.old).told opened.devices index command)) }
     ensures later { IsLater (H.state host.old) (H.state host.new) }
-    ensures threads { IfOk result (λ o. length o.disks ≡ length opened.disks) }
+    ensures threads { IfOk result (λ o. length o.disks.threads ≡ length opened.disks.threads) }
+    ensures opened { (told : List ℕ → Told) (base : Option (List Opening))
+        → StandOpen H.Disk.state told base opened.devices opened.disks (H.state host.old)
+        → IfOk result (λ o. StandOpen H.Disk.state told base o.devices o.disks (H.state host.new)) }
+    ensures closed { (told : List ℕ → Told) (base : Option (List Opening))
+        → StandOpen H.Disk.state told base opened.devices opened.disks (H.state host.old)
+        → IfErr result (λ fault. IsClosedUnless fault base (H.state host.new).openings) }
 {
     let Opened { devices, disks } = opened;
     let mut disks = disks;
@@ -126,7 +139,10 @@ pub(crate) fn open_devices<H: Host>(
     ensures cause { IfErr result (DoingCause (H.state host.old) (H.state host.new) (Opens commands.items)
         (IsRefused threads (H.state host.old).told commands.items)) }
     ensures later { IsLater (H.state host.old) (H.state host.new) }
-    ensures threads { IfOk result (λ o. length o.disks ≡ threads) }
+    ensures threads { IfOk result (λ o. length o.disks.threads ≡ threads) }
+    ensures opened { (told : List ℕ → Told) → TellsSo (H.state host.old) told
+        → IfOk result (λ o. StandOpen H.Disk.state told (H.state host.old).openings o.devices o.disks (H.state host.new)) }
+    ensures closed { IfErr result (λ fault. IsClosedUnless fault (H.state host.old).openings (H.state host.new).openings) }
 {
     let mut opened = Opened {
         devices: Building::new(alloc, threads),

@@ -10,12 +10,12 @@ ghost use Rattle.bd_top.specs.Exercise.{built_in, IsExercise};
 
 use crate::configure::{ConfigureNo, commands_of};
 use crate::devices::{Opened, open_devices};
-use crate::disks::close_all;
 use crate::fault::Fault;
 use crate::setup::{Ready, setup_of};
 use bd_base::{OutOfMemory, Rows, Script};
 use bd_config::Command;
 use bd_jobs::{JobNo, generate, read_jobs};
+use bd_opened::close_all;
 use bd_outside::Host;
 use std::alloc::Global;
 
@@ -48,7 +48,7 @@ fn devices<H: Host>(
 ) -> Result<Opened<H::Disk>, OutOfMemory>
     requires { 0 < threads }
     ensures devices { IfOk result (λ o. Configures threads built_in [] o.devices) }
-    ensures threads { IfOk result (λ o. length o.disks ≡ threads) }
+    ensures threads { IfOk result (λ o. length o.disks.threads ≡ threads) }
 {
     let commands = commands(alloc)?;
     match open_devices(alloc, host, threads, commands) {
@@ -84,7 +84,7 @@ pub(crate) fn exercise_setup<H: Host>(
     requires threads { threads ≤ 16 }
     ensures setup { IfOk result (λ r. IsExercise numbers threads r.setup) }
     ensures threads { IfOk result (λ r. r.setup.threads ≡ threads) }
-    ensures disks { IfOk result (λ r. length r.disks ≡ threads) }
+    ensures disks { IfOk result (λ r. length r.disks.threads ≡ threads) }
 {
     let scripts = scripts(alloc, numbers, threads)?;
     let Opened { devices, disks } = devices(alloc, host, threads)?;

@@ -68,6 +68,7 @@ pub(crate) fn read_file<H: Host>(alloc: Global, host: &mut H, name: &str) -> Res
     ensures read { IfOk result (IsRead ((H.state host.old).told name.now)) }
     ensures cause { IfErr result (ReadCause (H.state host.old) (H.state host.new) name.now) }
     ensures later { IsLater (H.state host.old) (H.state host.new) }
+    ensures openings { (H.state host.new).openings ≡ (H.state host.old).openings }
 {
     let mut all = Bytes::new(alloc);
     let Ok(mut chunk) = buffer(alloc, CHUNK) else {

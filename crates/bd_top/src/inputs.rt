@@ -2,19 +2,21 @@
 ghost use Rattle.std.specs.Prelude.{◌≡◌, ◌<◌, ℕ, List, length, IfOk, IfErr, All};
 ghost use Rattle.bd_config.specs.Commands.{IsOpenable};
 ghost use Rattle.bd_outside.specs.Host.{IsLater};
+ghost use Rattle.bd_building.specs.AioDevices.{aio_devices, AreBasesAlone};
+ghost use Rattle.bd_top.specs.DiskRows.{AreSetOut, IsClosedUnless, StandOpen};
 ghost use Rattle.bd_top.specs.Fault.{IsScriptFault, config_fault};
 ghost use Rattle.bd_top.specs.Run.{AreCommands, IsDevices, IsScript, IsMeant, ScriptCause, FileCause};
 
 use crate::built::first_not_built;
 use crate::configure::{ConfigureNo, commands_of};
 use crate::devices::{Opened, open_devices};
-use crate::disks::close_all;
 use crate::fault::Fault;
 use crate::files::{ReadNo, fault_of, read_file};
 use crate::setup::{Ready, setup_of};
 use bd_base::{OutOfMemory, Rows, Script};
 use bd_config::Command;
 use bd_jobs::{JobNo, read_jobs};
+use bd_opened::close_all;
 use bd_outside::Host;
 use std::alloc::Global;
 
@@ -37,6 +39,7 @@ fn read_commands<H: Host>(alloc: Global, host: &mut H, name: &str) -> Result<Vec
     ensures openable { IfOk result (λ commands. All IsOpenable commands.items) }
     ensures cause { (jobs : List ℕ) (threads : ℕ) → IfErr result (FileCause (H.state host.old) (H.state host.new) name.now jobs threads) }
     ensures later { IsLater (H.state host.old) (H.state host.new) }
+    ensures openings { (H.state host.new).openings ≡ (H.state host.old).openings }
 {
     let bytes = match read_file(alloc, host, name) {
         Ok(bytes) => bytes,
@@ -58,9 +61,11 @@ fn read_devices<H: Host>(
 ) -> Result<Opened<H::Disk>, Fault>
     requires { 0 < threads }
     ensures devices { IfOk result (λ o. IsDevices threads (H.state host.old).told ((H.state host.old).told name.now) o.devices) }
-    ensures threads { IfOk result (λ o. length o.disks ≡ threads) }
+    ensures threads { IfOk result (λ o. length o.disks.threads ≡ threads) }
     ensures cause { (jobs : List ℕ) → IfErr result (FileCause (H.state host.old) (H.state host.new) name.now jobs threads) }
     ensures later { IsLater (H.state host.old) (H.state host.new) }
+    ensures opened { IfOk result (λ o. StandOpen H.Disk.state (H.state host.old).told (H.state host.old).openings o.devices o.disks (H.state host.new)) }
+    ensures closed { IfErr result (λ fault. IsClosedUnless fault (H.state host.old).openings (H.state host.new).openings) }
 {
     let commands = read_commands(alloc, host, name)?;
     open_devices(alloc, host, threads, commands)
@@ -88,6 +93,7 @@ fn scripts<H: Host>(
     ensures script { IfOk result (IsScript threads ((H.state host.old).told name.now)) }
     ensures cause { IfErr result (ScriptCause (H.state host.old) (H.state host.new) name.now threads) }
     ensures later { IsLater (H.state host.old) (H.state host.new) }
+    ensures openings { (H.state host.new).openings ≡ (H.state host.old).openings }
 {
     let bytes = match read_file(alloc, host, name) {
         Ok(bytes) => bytes,
@@ -130,8 +136,12 @@ pub(crate) fn read_setup<H: Host>(
     ensures setup { IfOk result (λ r. IsMeant threads (H.state host.old).told ((H.state host.old).told config.now)
         ((H.state host.old).told jobs.now) r.setup) }
     ensures threads { IfOk result (λ r. r.setup.threads ≡ threads) }
-    ensures disks { IfOk result (λ r. length r.disks ≡ threads) }
+    ensures disks { IfOk result (λ r. length r.disks.threads ≡ threads) }
     ensures cause { IfErr result (FileCause (H.state host.old) (H.state host.new) config.now jobs.now threads) }
+    ensures opened { IfOk result (λ r. AreSetOut H.Disk.state (H.state host.old).told (length r.setup.devices) (aio_devices r.setup) r.disks
+        (H.state host.old).openings (H.state host.new).openings) }
+    ensures alone { IfOk result (λ r. AreBasesAlone r.setup) }
+    ensures closed { IfErr result (λ fault. IsClosedUnless fault (H.state host.old).openings (H.state host.new).openings) }
 {
     let Opened { devices, disks } = read_devices(alloc, host, config, threads)?;
     let scripts = match scripts(alloc, host, jobs, threads) {

@@ -4,7 +4,6 @@
 mod built;
 mod configure;
 mod devices;
-mod disks;
 mod exercise;
 mod fault;
 mod files;

@@ -2,9 +2,9 @@
 ghost use Rattle.std.specs.Prelude.{◌≡◌, IfOk};
 ghost use Rattle.bd_top.specs.Setup.{setup_of};
 
-use crate::disks::OpenDisks;
 use bd_base::{OutOfMemory, Rows, Script, Setup};
 use bd_building::Building;
+use bd_opened::OpenDisks;
 use std::alloc::Global;
 
 /// A setup, and the disks of its devices.

@@ -1,11 +1,15 @@
 //! The top call.
-ghost use Rattle.std.specs.Prelude.{◌≡◌, ◌<◌, ◌≤◌, ◌⊎◌, length, map, string_bytes, IfOk, IfErr, MatchResult, None, Some, Err};
+ghost use Rattle.std.specs.Prelude.{◌≡◌, ◌<◌, ◌≤◌, ◌⊎◌, ℕ, List, length, map, string_bytes, IfOk, IfErr, MatchResult, Option, None, Some, Err};
+ghost use Rattle.bd_building.specs.AioDevices.{aio_devices, AreBasesAlone};
+ghost use Rattle.bd_opened.specs.Covering.{AreClosed};
+ghost use Rattle.bd_outside.specs.File.{Told};
+ghost use Rattle.bd_outside.specs.declared.opening.Opening.{Opening};
 ghost use Rattle.bd_outside.specs.Sink.{StaysUntold};
 ghost use Rattle.bd_top.specs.declared.fault.Fault.{Fault as Refusal};
+ghost use Rattle.bd_top.specs.DiskRows.{AreSetOut, IsClosedUnless, TellDisks};
 ghost use Rattle.bd_top.specs.Run.{IsPlayed, AreFilesPlayed, IsExercised, IsGenerated, IsDone, IsRun, FileCause, AskedCause, Cause, AreInForm, IsWrong, NamesNoFile, NothingFails, WritesNothing};
 ghost use Rattle.bd_top.specs.Words.{Asked as Meant, seen, seen_arguments, asked_of, IsInRange, IsThreadCount};
 
-use crate::disks::{close_all, close_shelf};
 use crate::exercise::exercise_setup;
 use crate::fault::Fault;
 use crate::files::write_all;
@@ -15,6 +19,7 @@ use crate::words::{Arguments, Asked, Playing, parse};
 use bd_base::OutOfMemory;
 use bd_jobs::generate;
 use bd_node::{Drive, History, play};
+use bd_opened::{close_all, close_shelf};
 use bd_outside::{Clock, Failed, Gate, Host, MemHost, Sink};
 use bd_report::report::report;
 use std::alloc::Global;
@@ -50,8 +55,11 @@ fn play_and_report<R: AllocGlobal + Threads + Wait + Sync, H: Host, G: Gate + Sy
 where
     H::Disk: Send,
     requires some { 0 < ready.setup.threads }
-    requires disks { length ready.disks ≡ ready.setup.threads }
-    ensures { IfOk result (λ done. IsPlayed ready.setup full done.trace done.text.items) }
+    requires disks { length ready.disks.threads ≡ ready.setup.threads }
+    ensures played { IfOk result (λ done. IsPlayed ready.setup full done.trace done.text.items) }
+    ensures disks { (told : List ℕ → Told) (base : Option (List Opening)) → AreBasesAlone ready.setup
+        → AreSetOut H.Disk.state told (length ready.setup.devices) (aio_devices ready.setup) ready.disks base (H.state host.old).openings
+        → IfOk result (λ done. TellDisks told ready.setup done.trace base (H.state host.new).openings) }
 {
     let Ready { setup, disks } = ready;
     let (names, shelf) = match disks.shelve(rt.alloc()) {
@@ -62,7 +70,7 @@ where
         }
     };
     let (played, shelf) = play(rt, rt.alloc(), &setup, shelf, drive, gate);
-    close_shelf(host, names.as_slice(), shelf);
+    close_shelf(host, &names, shelf);
     let trace = played?;
     let text = report(rt.alloc(), &setup, trace.entries(), full)?;
     Ok(Done { trace, text })
@@ -78,9 +86,10 @@ fn run_files<R: AllocGlobal + Threads + Wait + Sync, H: Host, G: Gate + Sync>(
 where
     H::Disk: Send,
     requires { IsThreadCount arguments.playing.threads }
-    ensures done { IfOk result (λ done. AreFilesPlayed (seen_arguments arguments.entry) (H.state host.old).told done.trace done.text.items) }
+    ensures done { IfOk result (λ done. AreFilesPlayed (seen_arguments arguments.entry) (H.state host.old) (H.state host.new) done.trace done.text.items) }
     ensures cause { IfErr result
         (FileCause (H.state host.old) (H.state host.new) arguments.entry.config.now arguments.entry.jobs.now arguments.entry.playing.threads) }
+    ensures closed { IfErr result (λ fault. IsClosedUnless fault (H.state host.old).openings (H.state host.new).openings) }
 {
     let Arguments {
         config,
@@ -135,8 +144,9 @@ fn do_asked<R: AllocGlobal + Threads + Wait + Sync, H: Host, G: Gate + Sync>(
 where
     H::Disk: Send,
     requires { IsInRange (seen asked) }
-    ensures done { IfOk result (λ done. IsDone (seen asked.entry) (H.state host.old).told done.trace done.text.items) }
+    ensures done { IfOk result (λ done. IsDone (seen asked.entry) (H.state host.old) (H.state host.new) done.trace done.text.items) }
     ensures cause { IfErr result (AskedCause (seen asked.entry) (H.state host.old) (H.state host.new)) }
+    ensures closed { IfErr result (λ fault. IsClosedUnless fault (H.state host.old).openings (H.state host.new).openings) }
     ensures unread { NamesNoFile (seen asked.entry) → H.state host.new ≡ H.state host.old }
 {
     match asked {
@@ -157,7 +167,9 @@ where
 /// the generated script for as many threads as `--threads` says, and plays nothing.
 ///
 /// The file of each aio device is opened as a disk just before its command is done, and all disks are
-/// closed before this returns, whatever it returns.
+/// closed before this returns, whatever it returns. After a run, a host that tells its openings has one
+/// row for each: the disk was opened over the device's file, did just the pieces of which the history says
+/// that they were applied, with those ends, and was closed with what it told then.
 ///
 /// Faults are looked for in this order: the words; the configuration's file, its text, its shape, its
 /// commands as they are read and as they are served; then command after command, the file that it opens
@@ -176,7 +188,7 @@ pub fn run<R: AllocGlobal + Threads + Wait + Sync, H: Host, K: Sink, C: Clock, G
 ) -> Result<Ran, Fault>
 where
     H::Disk: Send,
-    ensures run { IfOk result (λ r. IsRun (map string_bytes words.now) (H.state host.old) r.trace (K.state out.old) (K.state out.new)) }
+    ensures run { IfOk result (λ r. IsRun (map string_bytes words.now) (H.state host.old) (H.state host.new) r.trace (K.state out.old) (K.state out.new)) }
     ensures status { IfOk result (λ r. r.status ≡ 0) }
     ensures usage { asked_of (map string_bytes words.now) ≡ None → result ≡ Err Fault.Usage }
     ensures cause { IfErr result (Cause (map string_bytes words.now) (H.state host.old) (H.state host.new) (K.state out.old) (K.state out.new)) }
@@ -188,6 +200,7 @@ where
         → MatchResult result (λ _ran. ⊥) (λ given. (given ≡ fault) ⊎ (given ≡ Fault.OutOfMemory)) }
     ensures unread { (asked : Meant) → asked_of (map string_bytes words.now) ≡ Some asked → NamesNoFile asked
         → H.state host.new ≡ H.state host.old }
+    ensures closed { (result ≡ Err Fault.OutOfMemory) ⊎ AreClosed (H.state host.old).openings (H.state host.new).openings }
     ensures nothing { IfErr result (WritesNothing (K.state out.old) (K.state out.new)) }
     ensures untold { StaysUntold (K.state out.old) (K.state out.new) }
 {

@@ -1,4 +1,9 @@
-use Rattle.std.proofs.Common.{rules, ◌≡◌, ◌∙◌, ◌+◌, ℕ, inl, List, [], ◌∷◌, length, ap, sym, refl, subst, arith}
+use Rattle.std.proofs.Common.{rules, ◌≡◌, ◌∙◌, ◌+◌, ℕ, inl, IfErr, List, [], ◌∷◌, length, ap, sym, refl, subst, arith}
+use Rattle.std.proofs.lemmas.List.{length-replicate}
+use Rattle.bd_building.specs.Progress.{nothing_yet, Progress}
+use Rattle.bd_opened.specs.Held.{Held}
+use Rattle.bd_outside.specs.File.{Told}
+use Rattle.bd_top.specs.DiskRows.{IsClosedUnless, StandOpen, TellsSo}
 use Rattle.std.specs.Prelude.{All}
 use Rattle.std.specs.Vec.Iter.{into_iter_items}
 use Rattle.std.proofs.lemmas.List.Elements.{All-head, All-tail}
@@ -9,14 +14,43 @@ use Rattle.bd_config.specs.declared.command.Command.{Command}
 use Rattle.bd_top.specs.Configure.{IsRefused}
 use Rattle.bd_top.specs.Disks.{IsNamed, Opens}
 use Rattle.bd_top.specs.Opening.{IsStepRefused}
-use Rattle.bd_top.proofs.FileCauses.{doing_from, kept_same, step_at, step_refused_at}
-use Rattle.bd_top.proofs.FileLemmas.{later_then}
-use Rattle.bd_top.proofs.Opening.{IsOnWay, ends, goes_on, is_refused}
+use Rattle.bd_opened.proofs.EachClosed.{kept_same}
+use Rattle.bd_top.proofs.DiskRows.{stand_first}
+use Rattle.bd_top.proofs.FileCauses.{doing_from, step_at, step_refused_at}
+use Rattle.bd_top.proofs.FileLemmas.{later_same, later_then}
+use Rattle.bd_top.proofs.Opening.{IsOnWay, ends, goes_on, is_refused, starts}
 use Rattle.bd_top.proofs.devices.open_devices.Goals as goal
 
 none_left : {X : Type 0} (xs : List X) → length xs ≡ 0 → xs ≡ []
 none_left [] h = refl
 none_left (x ∷ xs) h = absurd (omega arith)
+
+pub loop-command-init : goal.loop-command-init
+loop-command-init g c =
+    let old = g.H.Host.state c.args.host.now in
+    let first : (told : List ℕ → Told) → TellsSo old told → StandOpen g.H.Disk.Disk.state told old.openings c.new.result c.in_ok-none.field-0 old =
+    λ told same.
+    subst (λ (p : Progress). StandOpen g.H.Disk.Disk.state told old.openings p c.in_ok-none.field-0 old) (sym c.new.ensures)
+    (subst (λ (h : Held g.row.H-Disk.Denot). StandOpen g.H.Disk.Disk.state told old.openings (nothing_yet c.args.threads) h old) (sym c.in_ok-none.ensures)
+    (stand_first g.H.Disk.Disk.state told c.args.threads old same)) in
+    let items : into_iter_items c.into_iter-command-iterator.result ≡ c.args.commands.items = search rules in
+    record {
+      way =
+          subst (λ (left : List Command). IsOnWay old.told c.args.threads c.args.commands.items 0 c.new.result left) (sym items)
+          (subst (λ (p : Progress). IsOnWay old.told c.args.threads c.args.commands.items 0 p c.args.commands.items) (sym c.new.ensures) (starts old.told c.args.threads c.args.commands.items));
+      later = later_same old;
+      disks = ap (λ (h : Held g.row.H-Disk.Denot). length h.threads) c.in_ok-none.ensures ∙ length-replicate c.args.threads [];
+      counted = search rules;
+      openable = subst (All IsOpenable) (sym items) c.requires.openable;
+      stand = first;
+    }
+
+pub returns-in_err-opened-clause-closed : goal.returns-in_err-opened-clause-closed
+returns-in_err-opened-clause-closed g c =
+    let old = g.H.Host.state c.args.host.now in
+    let new = g.H.Host.state c.do_command.new.host in
+    let closed : IfErr c.do_command.result (λ fault. IsClosedUnless fault old.openings new.openings) = c.do_command.ensures.closed old.told old.openings (c.loop-command.invariant.stand old.told (λ name. refl)) in
+    search rules
 
 pub do_command-requires-clause-openable : goal.do_command-requires-clause-openable
 do_command-requires-clause-openable g c =
@@ -62,6 +96,7 @@ loop-command-preserved g c =
       disks = c.in_ok-opened.ensures.threads ∙ at.invariant.disks;
       counted = omega (arith, c.in-Some.ensures.steps.1, at.invariant.counted, ap length items);
       openable = All-tail IsOpenable command left (subst (All IsOpenable) items at.invariant.openable);
+      stand = λ told same. c.in_ok-opened.ensures.opened told old.openings (at.invariant.stand told same);
     }
 
 pub returns-clause-done : goal.returns-clause-done

@@ -14,6 +14,7 @@ loop-turn-preserved g c =
       later_then _ _ _ c.loop-turn.invariant.1 c.in-Ok-read_at.ensures.later,
       omega (arith, grown, c.min-wanted.ensures, c.loop-turn.invariant.2),
       omega (arith, c.len-in-loop-turn-2.ensures),
+      c.in-Ok-read_at.ensures.same_openings ∙ c.loop-turn.invariant.4,
     )
 
 pub returns-then-n-eq0-clause-read : goal.returns-then-n-eq0-clause-read

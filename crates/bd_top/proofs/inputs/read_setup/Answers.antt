@@ -1,4 +1,6 @@
-use Rattle.std.proofs.Common.{rules, IfErr}
+use Rattle.std.proofs.Common.{rules, IfErr, inr, refl, length}
+use Rattle.bd_building.specs.AioDevices.{aio_devices}
+use Rattle.bd_top.proofs.DiskRows.{closed_after}
 use Rattle.bd_top.specs.Run.{FileCause}
 use Rattle.bd_top.proofs.inputs.read_setup.Goals as goal
 
@@ -6,3 +8,11 @@ pub returns-in_err-devices-clause-cause : goal.returns-in_err-devices-clause-cau
 returns-in_err-devices-clause-cause g c =
     let known : IfErr c.read_devices.result (FileCause (g.H.Host.state c.args.host.now) (g.H.Host.state c.read_devices.new.host) c.args.config.now c.args.jobs.now c.args.threads) = c.read_devices.ensures.cause c.args.jobs.now in
     search rules
+
+pub returns-in-Err-clause-closed : goal.returns-in-Err-clause-closed
+returns-in-Err-clause-closed g c =
+    let old = g.H.Host.state c.args.host.now in
+    let mid = g.H.Host.state c.read_devices.new.host in
+    let opened = c.in_ok-devices.field-0 in
+    inr (closed_after g.H.Disk.Disk.state old.told (length opened.devices.setup.devices) (aio_devices opened.devices.setup) opened.disks opened.disks old.openings mid.openings (g.H.Host.state c.scripts.new.host).openings (g.H.Host.state c.close_all.new.host).openings
+    c.in_ok-devices.ensures.opened.rows refl c.scripts.ensures.openings c.close_all.ensures.openings)

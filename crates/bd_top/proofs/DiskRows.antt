@@ -1,0 +1,321 @@
+-- The disks of a run by the rows that the host tells of them: as they are opened, as the run goes on, and as they are closed.
+use Rattle.std.proofs.Common.{◌≡◌, ℕ, zero, suc, ◌+◌, ◌<◌, ◌≤◌, ◌%◌, true, List, [], ◌∷◌, ◌++◌, length, map, Option, Some, None, Ok, ◌⊎◌, inl, inr, refl, sym, ◌∙◌, ap, subst, append-nil, arith}
+use Rattle.std.specs.List.{slice_get}
+use Rattle.std.specs.Option.{option_map}
+use Rattle.std.specs.Prelude.{is_some}
+use Rattle.std.proofs.lemmas.List.{length-append}
+use Rattle.bd_base.specs.declared.act.ApplyEnd.{ApplyEnd}
+use Rattle.bd_base.specs.declared.act.ApplyEnd.TheVariants as ends
+use Rattle.bd_base.specs.declared.act.Entry.{Entry}
+use Rattle.bd_base.specs.declared.id.DevId.{DevId}
+use Rattle.bd_base.specs.declared.setup.Setup.{Setup}
+use Rattle.bd_building.specs.AioDevices.{aio_devices, aio_of, AioDevice, AreBasesAlone}
+use Rattle.bd_building.specs.Progress.{nothing_yet, stepped, Progress}
+use Rattle.bd_building.proofs.AioSteps.{aio_is, plain_first, stepped_grows}
+use Rattle.bd_config.specs.declared.command.Command.{Command}
+use Rattle.bd_config.specs.declared.command.Command.TheVariants as commands
+use Rattle.bd_disks.specs.Rows.{disk_of}
+use Rattle.bd_log.specs.Merge.{entries_of}
+use Rattle.bd_machine.specs.BlockMap.{base_of, home, is_aio, size_of}
+use Rattle.bd_machine.specs.Users.{dev_of}
+use Rattle.bd_node.specs.Disks.{SaysOfDisks}
+use Rattle.bd_opened.specs.Closing.{closing_all}
+use Rattle.bd_opened.specs.Covering.{AreClosed, AreDone, AreOpen, Begun, HasAdded, HaveGoneOn, IsClosed, IsDone, WhereTold}
+use Rattle.bd_opened.specs.Held.{none_held, with_disk, Held}
+use Rattle.bd_opened.proofs.Lists.{at_last, has_at, is_below}
+use Rattle.bd_opened.proofs.EachClosed.{untold_all}
+use Rattle.bd_opened.proofs.Opens.{closed_again, closed_so, none_open, one_more, raised}
+use Rattle.bd_outside.specs.Count.{last_count, Rises}
+use Rattle.bd_outside.specs.Disk.{closing_of, DiskState, HasWholeBlocks, IsOpenedOver}
+use Rattle.bd_outside.specs.File.{Told}
+use Rattle.bd_outside.specs.Host.{HostState, IsLater, Opens}
+use Rattle.bd_outside.specs.Opening.{open_row, AddsOpening}
+use Rattle.bd_outside.specs.declared.opening.Opening.{Opening}
+use Rattle.bd_storage.specs.Served.{ends_on, DidPieces, DidPiecesIf}
+use Rattle.bd_top.specs.declared.fault.Fault.{Fault}
+use Rattle.bd_top.specs.declared.fault.Fault.TheVariants.{OutOfMemory}
+use Rattle.bd_top.specs.Run.{IsDone as IsAskedDone, NamesNoFile}
+use Rattle.bd_top.specs.Words.{Asked, Exercise, Generate, Run}
+use Rattle.bd_top.specs.DiskRows.{ends_of, faults_in, AreFresh, AreSetOut, HasDisks, IsClosedUnless, IsDiskOf, IsFresh, IsSetOut, OpensFor, StandOpen, TellDisks, TellsSo}
+
+none_is_some : {X : Type 0} {Q : Type 0} {x : X} → None ≡ Some x → Q
+none_is_some e = cc
+
+-- ---- opening
+
+-- no disk is open, and none was
+pub none_set_out : {D : Type 0} (state : D → DiskState) (told : List ℕ → Told) (threads : ℕ) (now : Option (List Opening)) → AreSetOut state told 0 [] (none_held {D = D} threads) now now
+none_set_out state told threads None = tt
+none_set_out state told threads (Some rows) = record {
+  begun = [];
+  stand = none_open state threads rows;
+  fresh = record { many = refl; each = λ k device b at at'. none_is_some at };
+}
+
+pub stand_first : {D : Type 0} (state : D → DiskState) (told : List ℕ → Told) (threads : ℕ) (host : HostState) → TellsSo host told → StandOpen state told host.openings (nothing_yet threads) (none_held {D = D} threads) host
+stand_first {D = D} state told threads host same = record { same = same; plain = plain_first threads; rows = none_set_out {D = D} state told threads host.openings }
+
+-- a disk more, after those of devices with lower numbers
+fresh_more : (told : List ℕ → Told) (devices : List AioDevice) (begun : List Begun) (device : AioDevice) (b : Begun) → AreFresh told devices begun → IsFresh told device b → AreFresh told (devices ++ device ∷ []) (begun ++ b ∷ [])
+fresh_more told devices begun device b are is = record {
+  many = length-append begun (b ∷ []) ∙ ap (λ (n : ℕ). n + 1) are.many ∙ sym (length-append devices (device ∷ []));
+  each = each;
+}
+  where
+    each : (k : ℕ) (d : AioDevice) (c : Begun) → slice_get (devices ++ device ∷ []) k ≡ Some d → slice_get (begun ++ b ∷ []) k ≡ Some c → IsFresh told d c
+    each k d c at at' = go (at_last devices device k d at) (at_last begun b k c at')
+      where
+        go : (slice_get devices k ≡ Some d) ⊎ ((k ≡ length devices) × (device ≡ d)) → (slice_get begun k ≡ Some c) ⊎ ((k ≡ length begun) × (b ≡ c)) → IsFresh told d c
+        go (inl old) (inl was) = are.each k d c old was
+        go (inl old) (inr last) = let lt : k < length devices = is_below devices k d old in absurd (omega (arith, lt, last.0, are.many))
+        go (inr last) (inl was) = let lt : k < length begun = is_below begun k c was in absurd (omega (arith, lt, last.0, are.many))
+        go (inr last) (inr now) = subst (λ (x : Begun). IsFresh told d x) now.1 (subst (λ (x : AioDevice). IsFresh told x b) last.1 is)
+
+pub opened_more : {D : Type 0} (state : D → DiskState) (told : List ℕ → Told) (n : ℕ) (devices : List AioDevice) (held : Held D) (base now next : Option (List Opening)) (device : AioDevice) (name : List ℕ) (disk : D)
+    → AreSetOut state told n devices held base now
+    → AddsOpening now next (open_row name (state disk).blocks) (state disk).place
+    → 0 < length held.threads
+    → IsFresh told device (record { dev = dev_of n; name = name; disk = state disk })
+    → AreSetOut state told (n + 1) (devices ++ device ∷ []) (with_disk held (dev_of n) name disk) base next
+opened_more {D = D} state told n devices held base None next device name disk are adds some is =
+    subst (AreSetOut state told (n + 1) (devices ++ device ∷ []) (with_disk held (dev_of n) name disk) base) (sym adds) tt
+opened_more {D = D} state told n devices held None (Some rows) next device name disk are adds some is = absurd are
+opened_more {D = D} state told n devices held (Some base) (Some rows) next device name disk are (inr silent) some is =
+    subst (AreSetOut state told (n + 1) (devices ++ device ∷ []) (with_disk held (dev_of n) name disk) (Some base)) (sym silent) tt
+opened_more {D = D} state told n devices held (Some base) (Some rows) next device name disk are (inl added) some is =
+    subst (AreSetOut state told (n + 1) (devices ++ device ∷ []) (with_disk held (dev_of n) name disk) (Some base)) (sym added.0)
+    (record {
+      begun = are.begun ++ record { dev = dev_of n; name = name; disk = state disk } ∷ [];
+      stand =
+          raised state (suc n) (n + 1) (with_disk held (dev_of n) name disk) (are.begun ++ record { dev = dev_of n; name = name; disk = state disk } ∷ []) base (rows ++ open_row name (state disk).blocks ∷ []) (omega arith)
+          (one_more state n held are.begun base rows (dev_of n) name disk are.stand (omega arith) some added.1);
+      fresh = fresh_more told devices are.begun device (record { dev = dev_of n; name = name; disk = state disk }) are.fresh is;
+    })
+
+-- a command's file was opened as the disk of its device
+pub opened_aio : {D : Type 0} (state : D → DiskState) (n : ℕ) (command : Command) (name file : List ℕ) (size depth blocks : ℕ) (disk : D) (before after : Held D) (old new : HostState)
+    → command ≡ commands.Aio name file size depth
+    → blocks ≡ (state disk).blocks
+    → (state disk).block_size ≡ size
+    → IsOpenedOver (old.told file) (state disk)
+    → HasWholeBlocks (state disk)
+    → (state disk).faults ≡ 0
+    → (state disk).flushes ≡ 0
+    → Opens old new file (state disk)
+    → 0 < length before.threads
+    → after ≡ with_disk before (dev_of n) file disk
+    → OpensFor state n command blocks old before new after
+opened_aio {D = D} state n command name file size depth blocks disk before after old new is many of-size over whole no-faults no-flushes opens some added told base devices same are =
+    subst (λ (c : Command). AreSetOut state told (n + length (aio_of n c blocks)) (devices ++ aio_of n c blocks) after base new.openings) (sym is)
+    (subst (λ (held : Held D). AreSetOut state told (n + 1) (devices ++ device ∷ []) held base new.openings) (sym added)
+    (opened_more state told n devices before base old.openings new.openings device file disk are opens some fresh))
+  where
+    device : AioDevice
+    device = record { dev = dev_of n; file = Some file; size = size; blocks = blocks }
+
+    fresh : IsFresh told device (record { dev = dev_of n; name = file; disk = state disk })
+    fresh = record {
+      device_is = refl;
+      file = refl;
+      size = of-size;
+      blocks = sym many;
+      over = subst (λ (t : Told). IsOpenedOver t (state disk)) (same file) over;
+      whole = whole;
+      no_faults = no-faults;
+      no_flushes = no-flushes;
+    }
+
+-- ---- commands
+
+raised_told : {D : Type 0} (state : D → DiskState) (told : List ℕ → Told) (n m : ℕ) (devices : List AioDevice) (held : Held D) (base now : Option (List Opening)) → n ≤ m → AreSetOut state told n devices held base now → AreSetOut state told m devices held base now
+raised_told state told n m devices held base None le are = tt
+raised_told state told n m devices held None (Some rows) le are = absurd are
+raised_told state told n m devices held (Some base) (Some rows) le are = record { begun = are.begun; stand = raised state n m held are.begun base rows le are.stand; fresh = are.fresh }
+
+-- **a command was done, its disk opened before**
+pub stand_next : {D : Type 0} (state : D → DiskState) (told : List ℕ → Told) (base : Option (List Opening)) (progress next : Progress) (index : ℕ) (command : Command) (blocks : ℕ) (before after : Held D) (old new : HostState)
+    → OpensFor state (length progress.setup.devices) command blocks old before new after
+    → IsLater old new
+    → stepped progress index command blocks ≡ Ok next
+    → StandOpen state told base progress before old
+    → StandOpen state told base next after new
+stand_next {D = D} state told base progress next index command blocks before after old new opens later is stand =
+    let grows = stepped_grows progress next index command blocks stand.plain is in
+    let own : List AioDevice = aio_of (length progress.setup.devices) command blocks in
+    record {
+      same = λ name. later.told name ∙ stand.same name;
+      plain = grows.plain;
+      rows =
+          subst (λ (devices : List AioDevice). AreSetOut state told (length next.setup.devices) devices after base new.openings) (sym grows.devices)
+          (raised_told state told (length progress.setup.devices + length own) (length next.setup.devices) (aio_devices progress.setup ++ own) after base new.openings grows.more
+          (opens told base (aio_devices progress.setup) stand.same stand.rows));
+    }
+
+-- ---- closing
+
+-- **disks that were open and are closed again**
+pub set_out_closed : {D : Type 0} (state : D → DiskState) (told : List ℕ → Told) (n : ℕ) (devices : List AioDevice) (held : Held D) (base now : Option (List Opening)) → AreSetOut state told n devices held base now
+    → AreClosed base (closing_all state held.names held.threads now)
+set_out_closed state told n devices held base None are = subst (AreClosed base) (sym (untold_all state held.names held.threads)) tt
+set_out_closed state told n devices held None (Some rows) are = absurd are
+set_out_closed state told n devices held (Some base) (Some rows) are =
+    let end = closed_again state n held are.begun base rows are.stand in
+    subst (AreClosed (Some base)) (sym end.1) end.2
+
+-- the same, by what the closing left
+pub closed_after : {D : Type 0} (state : D → DiskState) (told : List ℕ → Told) (n : ℕ) (devices : List AioDevice) (held last : Held D) (base now then final : Option (List Opening)) → AreSetOut state told n devices held base now
+    → last ≡ held → then ≡ now → final ≡ closing_all state last.names last.threads then → AreClosed base final
+closed_after {D = D} state told n devices held last base now then final are same still is =
+    subst (AreClosed base) (sym (is ∙ ap (λ (h : Held D). closing_all state h.names h.threads then) same ∙ ap (closing_all state held.names held.threads) still)) (set_out_closed state told n devices held base now are)
+
+-- a disk that wasn't opened: those that are open are closed, unless there was no memory
+pub closed_unless : {D : Type 0} (state : D → DiskState) (told : List ℕ → Told) (base : Option (List Opening)) (progress : Progress) (before after : Held D) (old new final : HostState) (fault : Fault) → StandOpen state told base progress before old
+    → (fault ≡ OutOfMemory) ⊎ ((new.openings ≡ old.openings) × (after ≡ before)) → final.openings ≡ closing_all state after.names after.threads new.openings → IsClosedUnless fault base final.openings
+closed_unless state told base progress before after old new final fault stand (inl memory) is = inl memory
+closed_unless state told base progress before after old new final fault stand (inr (openings, disks)) is =
+    inr (closed_after state told (length progress.setup.devices) (aio_devices progress.setup) before after base old.openings new.openings final.openings stand.rows disks openings is)
+
+pub closed_same : (now : Option (List Opening)) → AreClosed now now
+closed_same None = tt
+closed_same (Some rows) = record { added = []; are = sym (append-nil rows); each = λ k row at. none_is_some at }
+
+-- ---- what a disk did
+
+keeps_place : (size : ℕ) (es : List ApplyEnd) (a b : DiskState) → DidPieces size es a b → b.place ≡ a.place
+keeps_place size [] a b did = ap (λ (d : DiskState). d.place) did
+keeps_place size (e ∷ es) a b did = keeps_place size es did.0 b did.4 ∙ did.3.shape.place
+
+keeps_faults : (size : ℕ) (es : List ApplyEnd) (a b : DiskState) → DidPieces size es a b → a.faults ≤ b.faults
+keeps_faults size [] a b did = subst (λ (d : DiskState). a.faults ≤ d.faults) (sym did) (omega arith)
+keeps_faults size (e ∷ es) a b did = let first : a.faults ≤ did.0.faults = did.3.faults in let rest = keeps_faults size es did.0 b did.4 in omega (arith, first, rest)
+
+bounded : (size : ℕ) (es : List ApplyEnd) (a b : DiskState) → DidPieces size es a b → (faults_in es + a.faults ≤ b.faults) ⊎ (last_count ≤ b.faults)
+bounded size [] a b did = inl (let le = keeps_faults size [] a b did in omega (arith, le))
+bounded size (ends.Done ∷ es) a b did = go (bounded size es did.0 b did.4)
+  where
+    go : (faults_in es + did.0.faults ≤ b.faults) ⊎ (last_count ≤ b.faults) → (faults_in es + a.faults ≤ b.faults) ⊎ (last_count ≤ b.faults)
+    go (inl le) = inl (let first : a.faults ≤ did.0.faults = did.3.faults in omega (arith, le, first))
+    go (inr full) = inr full
+bounded size (ends.Fault ∷ es) a b did = go did.3.served.faults (bounded size es did.0 b did.4)
+  where
+    go : Rises a.faults did.0.faults → (faults_in es + did.0.faults ≤ b.faults) ⊎ (last_count ≤ b.faults) → (faults_in es + 1 + a.faults ≤ b.faults) ⊎ (last_count ≤ b.faults)
+    go (inl rose) (inl le) = inl (omega (arith, rose, le))
+    go (inl rose) (inr full) = inr full
+    go (inr full) more = inr (let rest : did.0.faults ≤ b.faults = keeps_faults size es did.0 b did.4 in subst (λ (n : ℕ). n ≤ b.faults) full rest)
+
+-- ---- after a run
+
+module _ {D : Type 0} (state : D → DiskState) (told : List ℕ → Told) (setup : Setup) (trace : List Entry) (held : Held D) (after : List (List (DevId × D))) (alone : AreBasesAlone setup)
+    (threads : length held.threads ≡ setup.threads) (says : SaysOfDisks state setup trace held.threads after) where
+  -- what a device's disk did, by the history
+  abbrev Did : DevId → DiskState → DiskState → Type 0
+  Did dev a b = DidPieces (size_of setup dev) (ends_on dev (entries_of (home setup dev) trace)) a b
+
+  module _ (base rows : List Opening) (are : IsSetOut state told (length setup.devices) (aio_devices setup) held base rows) where
+    -- the aio device of a disk that was opened
+    device_of : (k : ℕ) (b : Begun) → slice_get are.begun k ≡ Some b → (device : AioDevice) × (slice_get (aio_devices setup) k ≡ Some device) × IsFresh told device b
+    device_of k b at =
+        let there = has_at (aio_devices setup) k (subst (λ (n : ℕ). k < n) are.fresh.many (is_below are.begun k b at)) in
+        (there.0, there.1, are.fresh.each k there.0 b there.1 at)
+
+    did_so : (k : ℕ) (is : Begun) (a b : List (DevId × D)) (x y : D) → slice_get are.begun k ≡ Some is
+        → slice_get held.threads (is.dev.0 % length held.threads) ≡ Some a → slice_get after (is.dev.0 % length held.threads) ≡ Some b → disk_of is.dev a ≡ Some x → disk_of is.dev b ≡ Some y
+        → Did is.dev (state x) (state y)
+    did_so k is a b x y at at-a at-b at-x at-y =
+        let device = device_of k is at in
+        let facts = aio_is setup k device.0 alone device.1 in
+        let aio : is_aio setup is.dev ≡ true = subst (λ (d : DevId). is_aio setup d ≡ true) (sym device.2.device_is) facts.0 in
+        let own : base_of setup is.dev ≡ is.dev = subst (λ (d : DevId). base_of setup d ≡ d) (sym device.2.device_is) facts.1 in
+        let t : is.dev.0 % length held.threads ≡ home setup is.dev = ap (λ (n : ℕ). is.dev.0 % n) threads ∙ ap (λ (d : DevId). d.0 % setup.threads) (sym own) in
+        let pieces = (says.each (is.dev.0 % length held.threads) a b at-a at-b).pieces is.dev aio in
+        subst (λ (n : ℕ). DidPieces (size_of setup is.dev) (ends_on is.dev (entries_of n trace)) (state x) (state y)) t
+        (subst (λ (o : Option D). DidPiecesIf (size_of setup is.dev) (ends_on is.dev (entries_of (is.dev.0 % length held.threads) trace)) (Some (state x)) (option_map state o)) at-y
+        (subst (λ (o : Option D). DidPiecesIf (size_of setup is.dev) (ends_on is.dev (entries_of (is.dev.0 % length held.threads) trace)) (option_map state o) (option_map state (disk_of is.dev b))) at-x pieces))
+
+    went_on : HaveGoneOn state Did are.begun held.threads after
+    went_on = record {
+      len = says.len;
+      devices = λ t a b at at'. (says.each t a b at at').devices;
+      did = did_so;
+      place = λ dev a b did. keeps_place (size_of setup dev) (ends_on dev (entries_of (home setup dev) trace)) a b did;
+    }
+
+    end : (final : List Opening) × (closing_all state held.names after (Some rows) ≡ Some final) × AreDone Did are.begun base final
+    end = closed_so state Did (length setup.devices) held are.begun base rows after are.stand went_on
+
+    each : (k : ℕ) (device : AioDevice) (row : Opening) → slice_get (aio_devices setup) k ≡ Some device → slice_get end.2.added k ≡ Some row → IsDiskOf told setup trace device row
+    each k device row at there = of_row (end.2.each k b row at-b there)
+      where
+        begins : (b : Begun) × (slice_get are.begun k ≡ Some b)
+        begins = has_at are.begun k (subst (λ (n : ℕ). k < n) end.2.many (is_below end.2.added k row there))
+
+        b : Begun
+        b = begins.0
+
+        at-b : slice_get are.begun k ≡ Some b
+        at-b = begins.1
+
+        fresh : IsFresh told device b
+        fresh = are.fresh.each k device b at at-b
+
+        of_row : IsDone Did b row → IsDiskOf told setup trace device row
+        of_row is =
+            let name : row.name ≡ b.name = ap (λ (r : Opening). r.name) is.is in
+            let size : size_of setup b.dev ≡ device.size = ap (size_of setup) fresh.device_is ∙ (aio_is setup k device alone at).2 in
+            let did : DidPieces device.size (ends_of setup trace device) b.disk is.last =
+            subst (λ (n : ℕ). DidPieces n (ends_of setup trace device) b.disk is.last) size
+            (subst (λ (d : DevId). DidPieces (size_of setup b.dev) (ends_on d (entries_of (home setup d) trace)) b.disk is.last) fresh.device_is is.did) in
+            record {
+              opened = b.disk;
+              closed = is.last;
+              fresh = record {
+                device_is = refl;
+                file = fresh.file ∙ ap Some (sym name);
+                size = fresh.size;
+                blocks = fresh.blocks;
+                over = subst (λ (n : List ℕ). IsOpenedOver (told n) b.disk) (sym name) fresh.over;
+                whole = fresh.whole;
+                no_faults = fresh.no_faults;
+                no_flushes = fresh.no_flushes;
+              };
+              did = did;
+              is = is.is ∙ ap (λ (n : List ℕ). record { name = n; blocks = b.disk.blocks; closing = Some (closing_of is.last) }) (sym name);
+              faults = at_start (bounded device.size (ends_of setup trace device) b.disk is.last did);
+            }
+          where
+            at_start : (faults_in (ends_of setup trace device) + b.disk.faults ≤ is.last.faults) ⊎ (last_count ≤ is.last.faults) → (faults_in (ends_of setup trace device) ≤ is.last.faults) ⊎ (last_count ≤ is.last.faults)
+            at_start (inl le) = inl (omega (arith, le))
+            at_start (inr full) = inr full
+
+    has_disks : (final : List Opening) × (closing_all state held.names after (Some rows) ≡ Some final) × HasDisks told setup trace base final
+    has_disks = (end.0, end.1, record { added = end.2.added; are = end.2.are; many = end.2.many ∙ are.fresh.many; each = each })
+
+  -- **the host keeps of each disk what the history says that was done to it**
+  pub set_out_done : (base now : Option (List Opening)) → AreSetOut state told (length setup.devices) (aio_devices setup) held base now → TellDisks told setup trace base (closing_all state held.names after now)
+  set_out_done base None are = subst (TellDisks told setup trace base) (sym (untold_all state held.names after)) tt
+  set_out_done None (Some rows) are = absurd are
+  set_out_done (Some base) (Some rows) are =
+      let end = has_disks base rows are in
+      subst (TellDisks told setup trace (Some base)) (sym end.1) end.2
+
+-- ---- closed after all
+
+each_is_closed : (told : List ℕ → Told) (setup : Setup) (trace : List Entry) (base rows : List Opening) → HasDisks told setup trace base rows → HasAdded IsClosed base rows
+each_is_closed told setup trace base rows has = record { added = has.added; are = has.are; each = each }
+  where
+    each : (k : ℕ) (row : Opening) → slice_get has.added k ≡ Some row → IsClosed k row
+    each k row at =
+        let device = has_at (aio_devices setup) k (subst (λ (n : ℕ). k < n) has.many (is_below has.added k row at)) in
+        ap (λ (r : Opening). is_some r.closing) (has.each k device.0 row device.1 at).is
+
+-- where the host keeps so much of each disk, each is closed
+pub tells_closed : (told : List ℕ → Told) (setup : Setup) (trace : List Entry) (base now : Option (List Opening)) → TellDisks told setup trace base now → AreClosed base now
+tells_closed told setup trace base None tells = tt
+tells_closed told setup trace None (Some rows) tells = absurd tells
+tells_closed told setup trace (Some base) (Some rows) tells = each_is_closed told setup trace base rows tells
+
+-- what was asked was done: each disk that was opened is closed
+pub done_closed : (asked : Asked) (old new : HostState) (trace : List Entry) (text : List ℕ) → IsAskedDone asked old new trace text → (NamesNoFile asked → new ≡ old) → AreClosed old.openings new.openings
+done_closed (Run arguments) old new trace text done unread = tells_closed old.told done.setup trace old.openings new.openings done.disks
+done_closed (Exercise numbers playing) old new trace text done unread = subst (λ (h : HostState). AreClosed old.openings h.openings) (sym (unread tt)) (closed_same old.openings)
+done_closed (Generate numbers threads) old new trace text done unread = subst (λ (h : HostState). AreClosed old.openings h.openings) (sym (unread tt)) (closed_same old.openings)

@@ -1,9 +1,0 @@
-use Rattle.std.proofs.Common.{length}
-use Rattle.bd_top.specs.Opening.{KeepsCounts}
-use Rattle.bd_top.proofs.disks.close_shelf.Given as goal
-
-abbrev pub invariant-loop-own : goal.invariant-loop-own
-invariant-loop-own g l = KeepsCounts (g.H.Host.state l.fn.host) (g.H.Host.state l.host)
-
-abbrev pub decreases-loop-own : goal.decreases-loop-own
-decreases-loop-own g l = length l.shelf.items

@@ -1,0 +1,11 @@
+use Rattle.bd_top.proofs.top.run_files.Goals as goal
+
+pub returns-in-Ok-clause-done : goal.returns-in-Ok-clause-done
+returns-in-Ok-clause-done g c =
+    let old = g.H.Host.state c.args.host.now in
+    record {
+      setup = c.in_ok-ready.ready.setup;
+      meant = c.in_ok-ready.ensures.setup;
+      played = c.in-Ok.ensures.played;
+      disks = c.in-Ok.ensures.disks old.told old.openings c.in_ok-ready.ensures.alone c.in_ok-ready.ensures.opened;
+    }
