@@ -16,7 +16,8 @@ use Rattle.bd_base.specs.declared.act.Entry.{Entry}
 use Rattle.bd_base.specs.declared.job.Script.{Script}
 use Rattle.bd_report.specs.declared.handles.OpenedHandle.{OpenedHandle}
 use Rattle.bd_report.specs.Handles.{as_handle, line_of_opened}
-use Rattle.bd_report.specs.Report.{Handle, gone_in, closed_in, is_number, is_told, is_closed, was_told, is_meant, is_script, lines_done, opened_in, opened_at, greatest_of, gone_line_at, thread_gone_lines, ordered_lines}
+use Rattle.bd_report.specs.Counts.{is_meant}
+use Rattle.bd_report.specs.Report.{Handle, gone_in, closed_in, is_number, is_told, is_closed, was_told, is_script, lines_done, opened_in, opened_at, greatest_of, gone_line_at, thread_gone_lines, ordered_lines}
 use Rattle.bd_report.proofs.OrderLemmas.{all_before_map, each_greatest, flat_map_agree, has, sorted_writes}
 use Rattle.bd_report.proofs.ReportLemmas.{range_more, filter_map_push}
 

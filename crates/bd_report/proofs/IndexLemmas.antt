@@ -9,7 +9,9 @@ use Rattle.bd_base.specs.declared.id.ReqId.{ReqId}
 use Rattle.bd_base.specs.declared.request.Shown.{Shown}
 use Rattle.bd_base.specs.declared.request.Status.{Status}
 use Rattle.bd_base.specs.declared.request.Status.TheVariants.{Success, Failed, Aborted}
-use Rattle.bd_report.specs.Report.{first_found, is_status, is_success_of, same_request}
+use Rattle.bd_report.specs.Counts.{is_status}
+use Rattle.bd_report.specs.Report.{first_found}
+use Rattle.bd_report.specs.Traffic.{is_success_of, same_request}
 use Rattle.bd_report.proofs.ReportLemmas.{filter_map_push}
 
 -- a value at a key of two parts

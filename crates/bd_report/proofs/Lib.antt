@@ -1,5 +1,6 @@
+pub mod CounterLemmas
 pub mod HandleLemmas
 pub mod IndexLemmas
-pub mod MovedLemmas
 pub mod OrderLemmas
 pub mod ReportLemmas
+pub mod WritingLemmas

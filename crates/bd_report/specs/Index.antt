@@ -8,7 +8,8 @@ use Rattle.bd_base.specs.declared.act.Outcome.{Outcome}
 use Rattle.bd_base.specs.declared.id.ReqId.{ReqId}
 use Rattle.bd_base.specs.declared.request.Shown.{Shown}
 use Rattle.bd_base.specs.declared.request.Status.{Status}
-use Rattle.bd_report.specs.Report.{first_found, outcome_in, completion_in, has_succeeded, digest_in, is_closed, was_told}
+use Rattle.bd_report.specs.Report.{first_found, outcome_in, completion_in, digest_in, is_closed, was_told}
+use Rattle.bd_report.specs.Traffic.{has_succeeded}
 
 -- the same two numbers, as of a thread and a line there or a request there
 abbrev pub same_pair : ℕ × ℕ → ℕ × ℕ → Bool

@@ -1,8 +1,11 @@
+pub mod Counter
+pub mod Counts
 pub mod First
 pub mod Handles
 pub mod Index
-pub mod Moved
 pub mod Order
 pub mod Report
-pub mod Tally
+pub mod Stats
 pub mod TraceIndex
+pub mod Traffic
+pub mod Writing

@@ -1,5 +1,5 @@
 -- The report of a run, as a function of its setup and its trace.
-use Rattle.std.specs.Prelude.{ℕ, ◌+◌, ◌-◌, ◌*◌, ◌^◌, Bool, true, false, not, ◌&&◌, ◌==◌, if◌then◌else◌, List, [], ◌∷◌, ◌++◌, take, length, max, min, codes, decimal, flat_map, filter_map, count_by, sum_by, fold, Option, Some, None}
+use Rattle.std.specs.Prelude.{ℕ, ◌+◌, Bool, true, false, not, ◌&&◌, ◌==◌, if◌then◌else◌, List, [], ◌∷◌, ◌++◌, take, length, max, codes, decimal, flat_map, filter_map, fold, Option, Some, None}
 use Rattle.std.specs.List.{before_first, filter, find, list_any, range_with_len, slice_get}
 use Rattle.std.specs.Option.{option_and_then, option_map}
 use Rattle.hex.specs.Hex.{encode_lower}
@@ -21,15 +21,16 @@ use Rattle.bd_base.specs.declared.job.Job.{Job}
 use Rattle.bd_base.specs.declared.job.Job.TheVariants as jobs
 use Rattle.bd_base.specs.declared.job.Line.{Line}
 use Rattle.bd_base.specs.declared.job.Script.{Script}
-use Rattle.bd_base.specs.declared.request.Op.{Op}
-use Rattle.bd_base.specs.declared.request.Op.TheVariants as ops
 use Rattle.bd_base.specs.declared.request.Shown.{Shown}
 use Rattle.bd_base.specs.declared.request.Status.{Status}
-use Rattle.bd_base.specs.declared.request.Status.TheVariants.{Success, Failed, Aborted}
-use Rattle.bd_base.specs.declared.request.Way.{Way}
-use Rattle.bd_base.specs.declared.request.Way.TheVariants as ways
 use Rattle.bd_base.specs.declared.setup.Setup.{Setup}
 use Rattle.bd_base.specs.declared.setup.Waiting.{Waiting}
+use Rattle.bd_report.specs.declared.counts.Counts.{Counts}
+use Rattle.bd_report.specs.declared.stats.Stats.{Stats}
+use Rattle.bd_report.specs.declared.traffic.Traffic.{Traffic}
+use Rattle.bd_report.specs.Counts.{count_acts}
+use Rattle.bd_report.specs.Stats.{stats_of}
+use Rattle.bd_report.specs.Traffic.{same_request}
 
 -- ---- what the trace says
 
@@ -45,10 +46,6 @@ outcome_in_act number _ = None
 -- the outcome of a thread's line, if the entry is that line's
 abbrev pub outcome_in : ℕ → ℕ → Entry → Option Outcome
 outcome_in thread number entry = if entry.thread == thread then outcome_in_act number entry.act else None
-
--- whether two names are of one request: the same thread and the same number there
-abbrev pub same_request : ReqId → ReqId → Bool
-same_request a b = (a.thread == b.thread) && (a.seq == b.seq)
 
 -- a request's status and what it showed, if the act is its completion
 abbrev pub completion_in_act : ReqId → Act → Option (Status × Option Shown)
@@ -67,15 +64,6 @@ digest_in_act device _ = None
 -- the same of an entry
 abbrev pub digest_in : ℕ → Entry → Option (List ℕ)
 digest_in device entry = digest_in_act device entry.act
-
--- whether a thread's entries are meant; with no thread those of all are
-abbrev pub is_meant : Option ℕ → ℕ → Bool
-is_meant None thread = true
-is_meant (Some meant) thread = thread == meant
-
--- how many of a thread's acts, or of all, pass a test
-abbrev pub count_acts : (Act → Bool) → Option ℕ → List Entry → ℕ
-count_acts test thread trace = count_by (λ entry. is_meant thread entry.thread && test entry.act) trace
 
 -- ---- lines of commands
 
@@ -257,88 +245,31 @@ waiting_line waiting = codes "waiting " ++ decimal waiting.index ++ codes " " ++
 
 -- ---- lines of threads
 
--- a request was accepted
-abbrev pub is_accept : Act → Bool
-is_accept (acts.Accept req dev handle op lba count) = true
-is_accept _ = false
-
--- a submission was refused
-abbrev pub is_refusal : Act → Bool
-is_refusal (acts.Refuse handle op lba count errno) = true
-is_refusal _ = false
-
--- whether two statuses are the same
-abbrev pub is_status : Status → Status → Bool
-is_status Success Success = true
-is_status Failed Failed = true
-is_status Aborted Aborted = true
-is_status _ _ = false
-
--- a completion with this status
-abbrev pub is_end : Status → Act → Bool
-is_end status (acts.Complete req ended shown) = is_status status ended
-is_end status _ = false
-
--- how many requests of a thread, or of all, were accepted, and how they ended
-abbrev pub tally_words : Option ℕ → List Entry → List ℕ
-tally_words thread trace =
-    codes " accepted " ++ decimal (count_acts is_accept thread trace) ++
-    codes " success " ++ decimal (count_acts (is_end Success) thread trace) ++
-    codes " failed " ++ decimal (count_acts (is_end Failed) thread trace) ++
-    codes " aborted " ++ decimal (count_acts (is_end Aborted) thread trace)
+-- how many requests were accepted, and how they ended
+abbrev pub ends_words : Counts → List ℕ
+ends_words counts =
+    codes " accepted " ++ decimal counts.accepted ++ codes " success " ++ decimal counts.success ++
+    codes " failed " ++ decimal counts.failed ++ codes " aborted " ++ decimal counts.aborted
 
 -- a thread's counts
-abbrev pub thread_line : List Entry → ℕ → List ℕ
-thread_line trace thread =
-    codes "thread " ++ decimal thread ++ tally_words (Some thread) trace ++
-    codes " refused " ++ decimal (count_acts is_refusal (Some thread) trace) ++ codes "\n"
+abbrev pub thread_line : ℕ → Counts → List ℕ
+thread_line thread counts =
+    codes "thread " ++ decimal thread ++ ends_words counts ++ codes " refused " ++ decimal counts.refused ++ codes "\n"
 
 -- a script of this thread with a command
 abbrev pub is_busy_script : ℕ → Script → Bool
 is_busy_script thread script = (script.thread == thread) && not (length script.lines == 0)
 
 -- a thread's counts, where it has a command
-abbrev pub thread_line_if : Setup → List Entry → ℕ → List ℕ
-thread_line_if setup trace thread = if list_any (is_busy_script thread) setup.scripts then thread_line trace thread else []
+abbrev pub thread_line_if : List Script → ℕ → Counts → List ℕ
+thread_line_if scripts thread counts = if list_any (is_busy_script thread) scripts then thread_line thread counts else []
 
--- the counts of each thread that has a command
-abbrev pub thread_lines : Setup → List Entry → List ℕ
-thread_lines setup trace = flat_map (thread_line_if setup trace) (range_with_len 0 setup.threads)
+-- the counts of each thread that has a command, of the threads from this number on
+abbrev pub thread_lines : List Script → ℕ → List Counts → List ℕ
+thread_lines scripts thread [] = []
+thread_lines scripts thread (counts ∷ rest) = thread_line_if scripts thread counts ++ thread_lines scripts (thread + 1) rest
 
 -- ---- lines of devices
-
--- a read for the way of reads, a write for that of writes
-abbrev pub is_way : Way → Op → Bool
-is_way ways.Read ops.Read = true
-is_way ways.Write (ops.Write fill) = true
-is_way _ _ = false
-
--- a request's completion with success
-abbrev pub is_success_of : ReqId → Act → Bool
-is_success_of request (acts.Complete req Success shown) = same_request req request
-is_success_of request _ = false
-
--- whether a request completed with success
-abbrev pub has_succeeded : List Entry → ReqId → Bool
-has_succeeded trace request = list_any (λ entry. is_success_of request entry.act) trace
-
--- the blocks of a read or write, if the act submits it on the device and it completed with success
-abbrev pub moved_in_act : List Entry → ℕ → Way → Act → Option ℕ
-moved_in_act trace device way (acts.Accept req dev handle op lba count) =
-    if (dev.0 == device) && is_way way op && has_succeeded trace req then Some count else None
-moved_in_act trace device way _ = None
-
--- the same of an entry
-abbrev pub moved_in_entry : List Entry → ℕ → Way → Entry → Option ℕ
-moved_in_entry trace device way entry = moved_in_act trace device way entry.act
-
--- the blocks of each read or write that was submitted on the device and completed with success
-abbrev pub moved : List Entry → ℕ → Way → List ℕ
-moved trace device way = filter_map (moved_in_entry trace device way) trace
-
--- the bytes of requests, by the number of blocks of each, capped at 2^64 - 1
-abbrev pub bytes_in : ℕ → List ℕ → ℕ
-bytes_in size counts = min (sum_by (λ count. count * size) counts) (2 ^ 64 - 1)
 
 -- the digest of a malloc device's contents, where its destruction told it
 abbrev pub digest_words : Option (List ℕ) → List ℕ
@@ -360,42 +291,39 @@ device_size_words row =
     codes "device " ++ row.name ++ codes " " ++ kind_word row.kind ++
     codes " blocks " ++ decimal row.blocks ++ codes " size " ++ decimal row.size
 
--- counts of requests and of bytes, of reads and of writes
-abbrev pub counts_words : ℕ → ℕ → ℕ → ℕ → List ℕ
-counts_words reads writes read_bytes write_bytes =
-    codes " reads " ++ decimal reads ++ codes " writes " ++ decimal writes ++
-    codes " read_bytes " ++ decimal read_bytes ++ codes " write_bytes " ++ decimal write_bytes
-
 -- how much was read and written with success, in requests and in bytes
-abbrev pub moved_words : List Entry → ℕ → ℕ → List ℕ
-moved_words trace device size =
-    counts_words
-    (length (moved trace device ways.Read)) (length (moved trace device ways.Write))
-    (bytes_in size (moved trace device ways.Read)) (bytes_in size (moved trace device ways.Write))
+abbrev pub moved_words : Traffic → List ℕ
+moved_words traffic =
+    codes " reads " ++ decimal traffic.reads ++ codes " writes " ++ decimal traffic.writes ++
+    codes " read_bytes " ++ decimal traffic.read_bytes ++ codes " write_bytes " ++ decimal traffic.write_bytes
 
 -- a device's size, and how much was read and written with success
-abbrev pub device_line : List Entry → ℕ → DevRow → List ℕ
-device_line trace device row =
-    device_size_words row ++ moved_words trace device row.size ++ contents_words trace device row.kind ++ codes "\n"
+abbrev pub device_line : List Entry → ℕ → DevRow → Traffic → List ℕ
+device_line trace device row traffic =
+    device_size_words row ++ moved_words traffic ++ contents_words trace device row.kind ++ codes "\n"
 
--- the devices from this number on
-abbrev pub device_lines : List Entry → ℕ → List DevRow → List ℕ
-device_lines trace device [] = []
-device_lines trace device (row ∷ rows) = device_line trace device row ++ device_lines trace (device + 1) rows
+-- the devices from this number on, each with what it moved
+abbrev pub device_lines : List Entry → ℕ → List DevRow → List Traffic → List ℕ
+device_lines trace device (row ∷ rows) (traffic ∷ rest) = device_line trace device row traffic ++ device_lines trace (device + 1) rows rest
+device_lines trace device _ _ = []
 
 -- ---- the whole
 
 -- the counts of all threads together
-abbrev pub end_line : List Entry → List ℕ
-end_line trace = codes "end" ++ tally_words None trace ++ codes "\n"
+abbrev pub end_line : Counts → List ℕ
+end_line counts = codes "end" ++ ends_words counts ++ codes "\n"
 
 -- what a report says of single commands, where it is full: the commands by line number, then removed handles
 abbrev pub detail_lines : Bool → Setup → List Entry → List ℕ
 detail_lines true setup trace = job_lines setup.scripts trace ++ gone_lines setup.scripts trace
 detail_lines false setup trace = []
 
--- the commands and removed handles where it is full, then waiting commands, threads, devices, and the end
+-- the commands and removed handles where it is full, then waiting commands, threads, devices, and the end: with these statistics
+abbrev pub report_with : Bool → Setup → List Entry → Stats → List ℕ
+report_with full setup trace stats =
+    detail_lines full setup trace ++ flat_map waiting_line setup.waiting ++ thread_lines setup.scripts 0 stats.threads ++
+    device_lines trace 0 setup.devices stats.devices ++ end_line stats.all
+
+-- the report of a run: with the statistics of its trace
 abbrev pub report_of : Bool → Setup → List Entry → List ℕ
-report_of full setup trace =
-    detail_lines full setup trace ++ flat_map waiting_line setup.waiting ++ thread_lines setup trace ++
-    device_lines trace 0 setup.devices ++ end_line trace
+report_of full setup trace = report_with full setup trace (stats_of setup trace)

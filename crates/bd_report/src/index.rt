@@ -1,30 +1,23 @@
-//! What a trace says, found by key: of a line, a request, a thread or a device.
+//! What a trace says, found by key: of a line, a request, a handle or a device.
 ghost use Rattle.std.specs.Prelude.{◌≡◌, IfOk};
-ghost use Rattle.bd_report.specs.Moved.{moved_of};
 ghost use Rattle.bd_report.specs.Report.{first_found, outcome_in, completion_in, digest_in, was_told};
-ghost use Rattle.bd_report.specs.Tally.{tally_of};
 
+use crate::completions::{Completions, first_completions};
 use crate::digests::{Digests, first_digests};
-use crate::ends::Ends;
-use crate::moved::{DeviceMoves, Moved, device_moves, moved_at};
 use crate::outcomes::{Outcomes, first_outcomes};
-use crate::tally::{Tallies, Tally, tally_at, thread_tallies, whole_tally};
 use crate::told::{ToldHandles, told_handles};
-use bd_base::{Entry, OutOfMemory, Outcome, ReqId, Shown, Status, Way};
+use bd_base::{Entry, OutOfMemory, Outcome, ReqId, Shown, Status};
 use std::alloc::Global;
 use std::marker::Model;
 
 /// A trace with an index, in which what it says is found without a search. It is seen as the trace.
 #[derive(Drop)]
 pub(crate) struct TraceIndex<'a> {
-    ends: Ends<'a>,
+    trace: &'a [Entry],
+    completions: Completions,
     outcomes: Outcomes,
     digests: Digests,
     told: ToldHandles,
-    whole: Tally,
-    tallies: Tallies,
-    reads: DeviceMoves,
-    writes: DeviceMoves,
 }
 
 impl<'a> Model for TraceIndex<'a> {
@@ -45,18 +38,12 @@ impl<'a> TraceIndex<'a> {
     pub(crate) fn new(alloc: Global, trace: &'a [Entry]) -> Result<TraceIndex<'a>, OutOfMemory>
         ensures { IfOk result (λ t. t ≡ trace.now) }
     {
-        let ends = Ends::new(alloc, trace)?;
-        let reads = device_moves(alloc, &ends, Way::Read)?;
-        let writes = device_moves(alloc, &ends, Way::Write)?;
         Ok(TraceIndex {
-            ends,
+            trace,
+            completions: first_completions(alloc, trace)?,
             outcomes: first_outcomes(alloc, trace)?,
             digests: first_digests(alloc, trace)?,
             told: told_handles(alloc, trace)?,
-            whole: whole_tally(trace),
-            tallies: thread_tallies(alloc, trace)?,
-            reads,
-            writes,
         })
     }
 
@@ -64,7 +51,7 @@ impl<'a> TraceIndex<'a> {
     pub(crate) fn trace(&self) -> &'a [Entry]
         ensures { result.now ≡ self.now }
     {
-        self.ends.trace()
+        self.trace
     }
 
     /// The first outcome of a thread's line.
@@ -78,7 +65,9 @@ impl<'a> TraceIndex<'a> {
     pub(crate) fn completion(&self, request: ReqId) -> Option<(Status, Option<Shown>)>
         ensures { result ≡ first_found (completion_in request) self.now }
     {
-        self.ends.completion(request)
+        self.completions
+            .get(&(request.thread, request.seq))
+            .copied()
     }
 
     /// The first digest of a device's contents.
@@ -93,25 +82,5 @@ impl<'a> TraceIndex<'a> {
         ensures { result ≡ was_told self.now thread number }
     {
         self.told.contains(&(thread, number))
-    }
-
-    /// The counts of a thread's acts, or of all.
-    pub(crate) fn tally(&self, thread: Option<u32>) -> Tally
-        ensures { result ≡ tally_of thread self.now }
-    {
-        match thread {
-            None => self.whole,
-            Some(thread) => tally_at(&self.tallies, thread),
-        }
-    }
-
-    /// The reads or writes that were submitted on a device and completed with success.
-    pub(crate) fn moved(&self, device: usize, way: Way) -> Moved
-        ensures { result ≡ moved_of self.now way self.now device }
-    {
-        match way {
-            Way::Read => moved_at(&self.reads, device),
-            Way::Write => moved_at(&self.writes, device),
-        }
     }
 }

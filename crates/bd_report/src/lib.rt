@@ -1,14 +1,19 @@
-//! The report of a run.
+//! The statistics and the report of a run.
 #![tactic(auto)]
 
+mod completions;
+pub mod counter;
+pub mod counts;
 mod digests;
-mod ends;
 mod first;
 mod handles;
 mod index;
-mod moved;
 mod order;
 mod outcomes;
 pub mod report;
-mod tally;
+pub mod stats;
+mod submitted;
+mod successes;
 mod told;
+pub mod traffic;
+pub mod writing;

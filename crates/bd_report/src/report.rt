@@ -1,18 +1,22 @@
 //! The report of a run: a line for each command, for each handle of a script whose device was removed
 //! while it was open, for each command that waits for its base, for each thread that has a command and
 //! for each device, and one for the whole run. One that isn't full leaves out the first two.
-ghost use Rattle.std.specs.Prelude.{◌≡◌, ◌++◌, ◌*◌, ◌-◌, ◌^◌, ◌&&◌, ◌==◌, length, min, flat_map, IfOk, OnOk, codes};
+ghost use Rattle.std.specs.Prelude.{◌≡◌, ◌++◌, ◌&&◌, ◌==◌, length, flat_map, IfOk, OnOk, codes};
 ghost use Rattle.std.specs.List.{list_any};
 ghost use Rattle.hex.specs.Hex.{encode_lower};
 ghost use Rattle.bd_report.specs.Handles.{line_of_opened};
 ghost use Rattle.bd_report.specs.Order.{command_line};
-ghost use Rattle.bd_report.specs.Report.{report_of, detail_lines, job_lines, job_line, gone_lines, outcome_words, completion_words, shown_words, waiting_line, tally_words, thread_line, thread_line_if, thread_lines, is_busy_script, is_malloc, contents_words, digest_words, device_size_words, moved_words, counts_words, device_line, device_lines, end_line};
+ghost use Rattle.bd_report.specs.Report.{report_of, report_with, detail_lines, job_lines, job_line, gone_lines, outcome_words, completion_words, shown_words, waiting_line, ends_words, thread_line, thread_line_if, thread_lines, is_busy_script, is_malloc, contents_words, digest_words, device_size_words, moved_words, device_line, device_lines, end_line};
 
+use crate::counter::stats;
+use crate::counts::Counts;
 use crate::handles::{OpenedHandle, removed_in_order};
 use crate::index::TraceIndex;
 use crate::order::{Command, in_order};
+use crate::stats::Stats;
+use crate::traffic::Traffic;
 use bd_base::{
-    DevRow, Entry, Kind, Line, OutOfMemory, Outcome, Script, Setup, Shown, Status, Waiting, Way,
+    DevRow, Entry, Kind, Line, OutOfMemory, Outcome, Script, Setup, Shown, Status, Waiting,
 };
 use std::alloc::Global;
 
@@ -28,25 +32,34 @@ pub fn report(
 ) -> Result<Vec<u8>, OutOfMemory>
     ensures { IfOk result (λ v. v.items ≡ report_of full setup.now trace.now) }
 {
-    let index = TraceIndex::new(alloc, trace)?;
-    write_report(alloc, setup, &index, full)
+    let stats = stats(alloc, setup, trace)?;
+    report_with(alloc, setup, trace, &stats, full)
 }
 
-// The report by the index of the trace.
-fn write_report(
+/// The report of a run by its statistics, as a counter gives them that counted the trace part by part.
+/// Out of memory is the only error.
+pub fn report_with(
     alloc: Global,
     setup: &Setup,
-    index: &TraceIndex,
+    trace: &[Entry],
+    stats: &Stats,
     full: bool,
 ) -> Result<Vec<u8>, OutOfMemory>
-    ensures { IfOk result (λ v. v.items ≡ report_of full setup.now index.now) }
+    ensures { IfOk result (λ v. v.items ≡ report_with full setup.now trace.now stats.now) }
 {
+    let index = &TraceIndex::new(alloc, trace)?;
     let mut out = Vec::new(alloc);
+    let devices = setup.devices.as_slice();
     write_details(alloc, &mut out, setup, index, full)?;
     write_waiting(alloc, &mut out, setup.waiting.as_slice())?;
-    write_threads(alloc, &mut out, setup, index)?;
-    write_devices(alloc, &mut out, index, setup.devices.as_slice())?;
-    write_end(alloc, &mut out, index)?;
+    write_threads(
+        alloc,
+        &mut out,
+        setup.scripts.as_slice(),
+        stats.threads.as_slice(),
+    )?;
+    write_devices(alloc, &mut out, index, devices, stats.devices.as_slice())?;
+    write_end(alloc, &mut out, &stats.all)?;
     Ok(out)
 }
 
@@ -271,13 +284,13 @@ fn write_waiting_line(
 fn write_threads(
     alloc: Global,
     out: &mut Vec<u8>,
-    setup: &Setup,
-    index: &TraceIndex,
+    scripts: &[Script],
+    threads: &[Counts],
 ) -> Result<(), OutOfMemory>
-    ensures { OnOk result (out.new.items ≡ out.old.items ++ thread_lines setup.now index.now) }
+    ensures { OnOk result (out.new.items ≡ out.old.items ++ thread_lines scripts.now 0 threads.now) }
 {
-    for thread in 0..setup.threads {
-        write_thread_if(alloc, out, setup, index, thread)?;
+    for (thread, counts) in threads.iter().enumerate() {
+        write_thread_if(alloc, out, scripts, thread, counts)?;
     }
     Ok(())
 }
@@ -286,57 +299,51 @@ fn write_threads(
 fn write_thread_if(
     alloc: Global,
     out: &mut Vec<u8>,
-    setup: &Setup,
-    index: &TraceIndex,
-    thread: u32,
+    scripts: &[Script],
+    thread: usize,
+    counts: &Counts,
 ) -> Result<(), OutOfMemory>
-    ensures { OnOk result (out.new.items ≡ out.old.items ++ thread_line_if setup.now index.now thread) }
+    ensures { OnOk result (out.new.items ≡ out.old.items ++ thread_line_if scripts.now thread counts.now) }
 {
-    if has_command(setup.scripts.as_slice(), thread) {
-        write_thread(alloc, out, index, thread)?;
+    if has_command(scripts, thread) {
+        write_thread(alloc, out, thread, counts)?;
     }
     Ok(())
 }
 
 // Whether some script of a thread has a command.
-fn has_command(scripts: &[Script], thread: u32) -> bool
+fn has_command(scripts: &[Script], thread: usize) -> bool
     ensures { result ≡ list_any (is_busy_script thread) scripts.now }
 {
-    scripts.iter().any(|script| script.thread == thread && script.lines.len() != 0)
+    scripts.iter().any(|script| script.thread as usize == thread && script.lines.len() != 0)
 }
 
 // Writes a thread's counts.
 fn write_thread(
     alloc: Global,
     out: &mut Vec<u8>,
-    index: &TraceIndex,
-    thread: u32,
+    thread: usize,
+    counts: &Counts,
 ) -> Result<(), OutOfMemory>
-    ensures { OnOk result (out.new.items ≡ out.old.items ++ thread_line index.now thread) }
+    ensures { OnOk result (out.new.items ≡ out.old.items ++ thread_line thread counts.now) }
 {
     let start = format!(in alloc; "thread {thread}")?;
     out.extend_from_slice(start.as_bytes())?;
-    write_tally(alloc, out, index, Some(thread))?;
-    let refused = index.tally(Some(thread)).refused;
+    write_ends(alloc, out, counts)?;
+    let refused = counts.refused;
     let end = format!(in alloc; " refused {refused}\n")?;
     out.extend_from_slice(end.as_bytes())?;
     Ok(())
 }
 
-// Writes how many requests were accepted, and how they ended, on one thread or on all.
-fn write_tally(
-    alloc: Global,
-    out: &mut Vec<u8>,
-    index: &TraceIndex,
-    thread: Option<u32>,
-) -> Result<(), OutOfMemory>
-    ensures { OnOk result (out.new.items ≡ out.old.items ++ tally_words thread index.now) }
+// Writes how many requests were accepted, and how they ended.
+fn write_ends(alloc: Global, out: &mut Vec<u8>, counts: &Counts) -> Result<(), OutOfMemory>
+    ensures { OnOk result (out.new.items ≡ out.old.items ++ ends_words counts.now) }
 {
-    let tally = index.tally(thread);
-    let accepted = tally.accepted;
-    let success = tally.success;
-    let failed = tally.failed;
-    let aborted = tally.aborted;
+    let accepted = counts.accepted;
+    let success = counts.success;
+    let failed = counts.failed;
+    let aborted = counts.aborted;
     let text = format!(in alloc;
         " accepted {accepted} success {success} failed {failed} aborted {aborted}"
     )?;
@@ -346,17 +353,18 @@ fn write_tally(
 
 // ---- devices
 
-// Writes the devices by number.
+// Writes the devices by number, those for which it is told what they moved.
 fn write_devices(
     alloc: Global,
     out: &mut Vec<u8>,
     index: &TraceIndex,
     devices: &[DevRow],
+    traffic: &[Traffic],
 ) -> Result<(), OutOfMemory>
-    ensures { OnOk result (out.new.items ≡ out.old.items ++ device_lines index.now 0 devices.now) }
+    ensures { OnOk result (out.new.items ≡ out.old.items ++ device_lines index.now 0 devices.now traffic.now) }
 {
-    for (device, row) in devices.iter().enumerate() {
-        write_device(alloc, out, index, device, row)?;
+    for device in 0..devices.len().min(traffic.len()) {
+        write_device(alloc, out, index, device, &devices[device], traffic[device])?;
     }
     Ok(())
 }
@@ -368,52 +376,25 @@ fn write_device(
     index: &TraceIndex,
     device: usize,
     row: &DevRow,
+    traffic: Traffic,
 ) -> Result<(), OutOfMemory>
-    ensures { OnOk result (out.new.items ≡ out.old.items ++ device_line index.now device row.now) }
+    ensures { OnOk result (out.new.items ≡ out.old.items ++ device_line index.now device row.now traffic) }
 {
     write_device_size(alloc, out, row)?;
-    write_moved(alloc, out, index, device, row.size)?;
+    write_moved(alloc, out, traffic)?;
     write_contents(alloc, out, index, device, row.kind)?;
     out.extend_from_slice(b"\n")?;
     Ok(())
 }
 
 // Writes how much was read and written with success.
-fn write_moved(
-    alloc: Global,
-    out: &mut Vec<u8>,
-    index: &TraceIndex,
-    device: usize,
-    size: u32,
-) -> Result<(), OutOfMemory>
-    ensures { OnOk result (out.new.items ≡ out.old.items ++ moved_words index.now device size) }
+fn write_moved(alloc: Global, out: &mut Vec<u8>, traffic: Traffic) -> Result<(), OutOfMemory>
+    ensures { OnOk result (out.new.items ≡ out.old.items ++ moved_words traffic) }
 {
-    let read = index.moved(device, Way::Read);
-    let written = index.moved(device, Way::Write);
-    let read_bytes = read.bytes(size);
-    let write_bytes = written.bytes(size);
-    write_counts(
-        alloc,
-        out,
-        read.requests,
-        written.requests,
-        read_bytes,
-        write_bytes,
-    )?;
-    Ok(())
-}
-
-// Writes counts of requests and of bytes.
-fn write_counts(
-    alloc: Global,
-    out: &mut Vec<u8>,
-    reads: usize,
-    writes: usize,
-    read_bytes: u64,
-    write_bytes: u64,
-) -> Result<(), OutOfMemory>
-    ensures { OnOk result (out.new.items ≡ out.old.items ++ counts_words reads writes read_bytes write_bytes) }
-{
+    let reads = traffic.reads;
+    let writes = traffic.writes;
+    let read_bytes = traffic.read_bytes;
+    let write_bytes = traffic.write_bytes;
     let text = format!(in alloc;
         " reads {reads} writes {writes} read_bytes {read_bytes} write_bytes {write_bytes}"
     )?;
@@ -473,11 +454,11 @@ fn write_digest_if(
 // ---- the end
 
 // Writes the counts of all threads together.
-fn write_end(alloc: Global, out: &mut Vec<u8>, index: &TraceIndex) -> Result<(), OutOfMemory>
-    ensures { OnOk result (out.new.items ≡ out.old.items ++ end_line index.now) }
+fn write_end(alloc: Global, out: &mut Vec<u8>, counts: &Counts) -> Result<(), OutOfMemory>
+    ensures { OnOk result (out.new.items ≡ out.old.items ++ end_line counts.now) }
 {
     out.extend_from_slice(b"end")?;
-    write_tally(alloc, out, index, None)?;
+    write_ends(alloc, out, counts)?;
     out.extend_from_slice(b"\n")?;
     Ok(())
 }

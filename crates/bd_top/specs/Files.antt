@@ -1,6 +1,5 @@
--- What is read of a file, why it isn't, and what is written of a text.
-use Rattle.std.specs.Prelude.{ℕ, ◌<◌, ◌≤◌, List, length, take, Option}
-use Rattle.std.specs.Io.KnownBytes.{Appends}
+-- What is read of a file, and why it isn't.
+use Rattle.std.specs.Prelude.{ℕ, ◌<◌, ◌≤◌, List, length}
 use Rattle.bd_outside.specs.File.{Told, Untold, NoFile, Content, IsAbsent, IsWhole}
 use Rattle.bd_outside.specs.Host.{HostState, FailsAt, Misses}
 use Rattle.bd_top.specs.declared.files.ReadNo.{ReadNo}
@@ -27,7 +26,3 @@ ReadCause old new name Absent = IsAbsent (old.told name) × Misses old new name
 ReadCause old new name TooLong = IsTooLong (old.told name)
 ReadCause old new name Failed = FailsAt old new name
 ReadCause old new name OutOfMemory = Unit {0}
-
--- what was taken of these bytes is a prefix of them
-abbrev pub AppendsPrefix : Option (List ℕ) → Option (List ℕ) → List ℕ → Type 0
-AppendsPrefix old new bytes = (n : ℕ) × Appends old new (take n bytes)

@@ -21,6 +21,7 @@ use Rattle.bd_outside.specs.File.{Told, IsAbsent, Content}
 use Rattle.bd_outside.specs.Host.{HostState, FailsAt, Misses}
 use Rattle.bd_outside.specs.Sink.{SinkState, Fails}
 use Rattle.bd_report.specs.Report.{report_of}
+use Rattle.bd_report.specs.Writing.{AppendsPrefix}
 use Rattle.bd_top.specs.declared.fault.Fault.{Fault}
 use Rattle.bd_top.specs.declared.fault.Fault.TheVariants.{Usage, NoFile, TooLong, ReadFault, ConfigText, ConfigShape, Method, JobText, WriteFault, OutOfMemory}
 use Rattle.bd_top.specs.declared.configure.ConfigureNo.{ConfigureNo}
@@ -33,7 +34,7 @@ use Rattle.bd_top.specs.Disks.{AreDisksOf, Opens}
 use Rattle.bd_top.specs.DiskRows.{TellDisks}
 use Rattle.bd_top.specs.Exercise.{IsExercise}
 use Rattle.bd_top.specs.Fault.{config_fault}
-use Rattle.bd_top.specs.Files.{IsRead, IsTooLong, max_file, ReadCause, AppendsPrefix}
+use Rattle.bd_top.specs.Files.{IsRead, IsTooLong, max_file, ReadCause}
 use Rattle.bd_top.specs.Setup.{setup_of}
 use Rattle.bd_top.specs.Words.{Arguments, Asked, Run, Exercise, Generate, asked_of}
 

@@ -1,14 +1,12 @@
-//! Whole files, and whole texts.
-ghost use Rattle.std.specs.Prelude.{◌≡◌, ◌≤◌, length, IfOk, IfErr, OnOk, OnErr};
-ghost use Rattle.std.specs.Io.KnownBytes.{Appends};
+//! Whole files.
+ghost use Rattle.std.specs.Prelude.{◌≡◌, ◌≤◌, length, IfOk, IfErr};
 ghost use Rattle.bd_outside.specs.Host.{IsLater};
-ghost use Rattle.bd_outside.specs.Sink.{Fails, StaysUntold};
 ghost use Rattle.bd_top.specs.Fault.{IsFaultOf};
-ghost use Rattle.bd_top.specs.Files.{IsRead, ReadCause, AppendsPrefix};
+ghost use Rattle.bd_top.specs.Files.{IsRead, ReadCause};
 
 use crate::fault::Fault;
 use bd_base::{Bytes, OutOfMemory};
-use bd_outside::{Failed, Host, HostNo, Sink};
+use bd_outside::{Host, HostNo};
 use std::alloc::{AllocError, Global};
 
 /// The most bytes that a file may have.
@@ -91,20 +89,4 @@ pub(crate) fn read_file<H: Host>(alloc: Global, host: &mut H, name: &str) -> Res
         }
     }
     unreachable!()
-}
-
-/// Writes all of the bytes. Where the sink fails, a prefix of them was written.
-#[tactic(auto, using(crate::proofs::FileLemmas::appends_nothing, crate::proofs::FileLemmas::appends_kept, crate::proofs::FileLemmas::appends_next, crate::proofs::FileLemmas::rises_from))]
-pub(crate) fn write_all<K: Sink>(out: &mut K, bytes: &[u8]) -> Result<(), Failed>
-    ensures ok { OnOk result (Appends (K.state out.old).written (K.state out.new).written bytes.now) }
-    ensures prefix { OnErr result (AppendsPrefix (K.state out.old).written (K.state out.new).written bytes.now) }
-    ensures untold { StaysUntold (K.state out.old) (K.state out.new) }
-    ensures count { (K.state out.old).faults ≤ (K.state out.new).faults }
-    ensures err { OnErr result (Fails (K.state out.old) (K.state out.new)) }
-{
-    let mut at = 0;
-    while at < bytes.len() {
-        at += out.put(&bytes[at..])?;
-    }
-    Ok(())
 }

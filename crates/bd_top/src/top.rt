@@ -12,7 +12,6 @@ ghost use Rattle.bd_top.specs.Words.{Asked as Meant, seen, seen_arguments, asked
 
 use crate::exercise::exercise_setup;
 use crate::fault::Fault;
-use crate::files::write_all;
 use crate::inputs::read_setup;
 use crate::setup::Ready;
 use crate::words::{Arguments, Asked, Playing, parse};
@@ -22,6 +21,7 @@ use bd_node::{Drive, History, play};
 use bd_opened::{close_all, close_shelf};
 use bd_outside::{Clock, Failed, Gate, Host, MemHost, Sink};
 use bd_report::report::report;
+use bd_report::writing::write_all;
 use std::alloc::Global;
 use std::marker::Send;
 use std::sync::Wait;

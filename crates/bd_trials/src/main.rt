@@ -42,9 +42,11 @@ fn answer(alloc: Global, subject: &str, case: &str) -> Result<String, OutOfMemor
         "qos" => qos::answer(alloc, case),
         "report" => report::answer(alloc, case, true),
         "retry" => steps::told(alloc, &mut Retries::new(alloc), case),
+        "stats" => report::statistics(alloc, case),
         "sums" => report::answer(alloc, case, false),
         "tables" => steps::told(alloc, &mut Tables::new(alloc), case),
         "user" => user::answer(alloc, case),
+        "written" => report::written(alloc, case),
         _ => steps::said(alloc, "no such subject"),
     }
 }

@@ -1,7 +1,6 @@
-use Rattle.std.proofs.Common.{◌≡◌, ◌++◌, flat_map}
-use Rattle.std.specs.List.{range_with_len}
-use Rattle.bd_report.specs.Report.{thread_line_if}
+use Rattle.std.proofs.Common.{◌≡◌, ◌++◌, drop}
+use Rattle.bd_report.specs.Report.{thread_lines}
 use Rattle.bd_report.proofs.report.write_threads.Given as goal
 
 abbrev pub invariant-loop-thread : goal.invariant-loop-thread
-invariant-loop-thread l = l.out.items ≡ l.fn.out.items ++ flat_map (thread_line_if l.setup l.index) (range_with_len 0 l.thread)
+invariant-loop-thread l = l.out.items ++ thread_lines l.scripts l.thread (drop l.thread l.threads) ≡ l.fn.out.items ++ thread_lines l.scripts 0 l.threads
