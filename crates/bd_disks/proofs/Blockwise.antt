@@ -1,11 +1,11 @@
 -- Bytes of blocks of one size: taken and dropped block by block, and written over.
-use Rattle.std.proofs.Common.{◌≡◌, ℕ, zero, suc, ◌+◌, ◌*◌, List, [], ◌∷◌, ◌++◌, length, take, drop, refl, sym, ◌∙◌, ap, arith, append_assoc}
+use Rattle.std.proofs.Common.{◌≡◌, ℕ, zero, suc, ◌+◌, ◌*◌, List, [], ◌∷◌, ◌++◌, length, take, drop, refl, sym, ◌∙◌, ap, arith, append_assoc, append-nil}
 use Rattle.std.specs.List.{concat}
-use Rattle.std.proofs.lemmas.List.{drop-drop, length-append, take-append-drop}
+use Rattle.std.proofs.lemmas.List.{drop-drop, length-append, length-drop, length-take-le, take-append-drop}
 use Rattle.std.proofs.lemmas.List.Folds.{concat-append}
 use Rattle.std.proofs.Math.Nat.{add-mul, suc-mul, zero-mul}
 use Rattle.bd_outside.specs.Disk.{overwritten}
-use Rattle.bd_disks.specs.Holding.{AreOfSize}
+use Rattle.bd_disks.specs.Holding.{AreOfSize, in_blocks}
 
 take_none : {A : Type 0} → (xs : List A) → take 0 xs ≡ []
 take_none [] = refl
@@ -90,3 +90,41 @@ all_blocks lba count bs =
     ∙ ap (λ (ys : List (List ℕ)). take lba bs ++ (take count (drop lba bs) ++ ys)) (sym (drop-drop count lba bs))
     ∙ ap (λ (ys : List (List ℕ)). take lba bs ++ ys) (take-append-drop count (drop lba bs))
     ∙ take-append-drop lba bs
+
+-- ---- bytes cut into blocks
+
+no_bytes : (bytes : List ℕ) → length bytes ≡ 0 → [] ≡ bytes
+no_bytes [] h = refl
+no_bytes (x ∷ xs) h = absurd (omega (arith, h))
+
+length_rest : (size n : ℕ) (bytes : List ℕ) → length bytes ≡ suc n * size → length (drop size bytes) ≡ n * size
+length_rest size n bytes h =
+    let s : suc n * size ≡ n * size + size = suc-mul n size in
+    omega (arith, s, h, length-drop size bytes)
+
+pub concat_in_blocks : (size n : ℕ) (bytes : List ℕ) → length bytes ≡ n * size → concat (in_blocks size n bytes) ≡ bytes
+concat_in_blocks size zero bytes h = no_bytes bytes (h ∙ zero-mul size)
+concat_in_blocks size (suc n) bytes h =
+    ap (λ (xs : List ℕ). take size bytes ++ xs) (concat_in_blocks size n (drop size bytes) (length_rest size n bytes h)) ∙ take-append-drop size bytes
+
+pub length_in_blocks : (size n : ℕ) (bytes : List ℕ) → length (in_blocks size n bytes) ≡ n
+length_in_blocks size zero bytes = refl
+length_in_blocks size (suc n) bytes = ap suc (length_in_blocks size n (drop size bytes))
+
+pub sizes_in_blocks : (size n : ℕ) (bytes : List ℕ) → length bytes ≡ n * size → AreOfSize size (in_blocks size n bytes)
+sizes_in_blocks size zero bytes h = tt
+sizes_in_blocks size (suc n) bytes h =
+    let s : suc n * size ≡ n * size + size = suc-mul n size in
+    (length-take-le size bytes (omega (arith, s, h)), sizes_in_blocks size n (drop size bytes) (length_rest size n bytes h))
+
+pub in_blocks_concat : (size : ℕ) (bs : List (List ℕ)) → AreOfSize size bs → in_blocks size (length bs) (concat bs) ≡ bs
+in_blocks_concat size [] h = refl
+in_blocks_concat size (b ∷ bs) h =
+    let here : size ≡ length b + 0 = omega (arith, h.0) in
+    let first : take size (b ++ concat bs) ≡ b =
+    ap (λ (k : ℕ). take k (b ++ concat bs)) here ∙ take_front b (concat bs) 0 ∙ ap (λ (xs : List ℕ). b ++ xs) (take_none (concat bs)) ∙ append-nil b
+    in
+    let rest : drop size (b ++ concat bs) ≡ concat bs = ap (λ (k : ℕ). drop k (b ++ concat bs)) here ∙ drop_front b (concat bs) 0 in
+    ap (λ (x : List ℕ). x ∷ in_blocks size (length bs) (drop size (b ++ concat bs))) first
+    ∙ ap (λ (xs : List ℕ). b ∷ in_blocks size (length bs) xs) rest
+    ∙ ap (λ (ys : List (List ℕ)). b ∷ ys) (in_blocks_concat size bs h.1)

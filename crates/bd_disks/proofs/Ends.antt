@@ -1,5 +1,5 @@
 -- How a piece ends.
-use Rattle.std.proofs.Common.{◌≡◌, ℕ, ◌+◌, ◌*◌, ◌%◌, ◌≤◌, Bool, false, cond, List, [], length, replicate, refl, sym, ◌∙◌, ap, subst, arith}
+use Rattle.std.proofs.Common.{◌≡◌, ℕ, ◌+◌, ◌*◌, ◌%◌, ◌≤◌, Bool, false, cond, List, [], length, replicate, Option, Some, None, is_some, IfSome, refl, sym, ◌∙◌, ap, subst, arith}
 use Rattle.std.specs.List.{concat}
 use Rattle.std.proofs.lemmas.List.{length-replicate}
 use Rattle.std.proofs.Math.Nat.{add-mul, mul-le-mul_right, mul-mod_left}
@@ -13,8 +13,8 @@ use Rattle.bd_machine.specs.declared.state.OpenPiece.{OpenPiece}
 use Rattle.bd_outside.specs.Count.{one_more}
 use Rattle.bd_outside.specs.Disk.{DiskState, HasSameShape, IsInside, Reads, content_written}
 use Rattle.bd_disks.specs.Holding.{Has}
-use Rattle.bd_disks.specs.Serving.{AreTold, IsDone, IsInsideDisk, IsNoPiece, IsServed, IsWriting, IsZeroing, is_flush}
-use Rattle.bd_disks.proofs.Held.{has_kept, has_written, told_nothing, told_read}
+use Rattle.bd_disks.specs.Serving.{IsDone, IsInsideDisk, IsNoPiece, IsServed, IsWriting, IsZeroing, is_flush}
+use Rattle.bd_disks.proofs.Held.{has_kept, has_written, told_amount, told_nothing, told_read}
 use Rattle.bd_disks.proofs.Rewriting.{sizes_zero_blocks, zeros_joined}
 
 -- as many bytes as the piece has lie inside the disk, in whole blocks
@@ -96,62 +96,64 @@ idle_flushes_not ops.Unmap h = refl
 idle_flushes_not ops.Read h = refl
 idle_flushes_not ops.Flush h = absurd h
 
-module _ (size : ℕ) (p : OpenPiece) (old new : DiskState) (inside : IsInsideDisk old size p) (shape : HasSameShape old new) (end : ApplyEnd) (bytes : List ℕ) (is_done : end ≡ Done) where
-  ended : IsDone size p old new bytes → IsServed size p old new end bytes
-  ended h = subst (λ (e : ApplyEnd). IsServed size p old new e bytes) (sym is_done) h
+module _ (size : ℕ) (p : OpenPiece) (old new : DiskState) (inside : IsInsideDisk old size p) (shape : HasSameShape old new) (end : ApplyEnd) (read : Option (List ℕ)) (is_done : end ≡ Done) where
+  ended : IsDone size p old new read → IsServed size p old new end read
+  ended h = subst (λ (e : ApplyEnd). IsServed size p old new e read) (sym is_done) h
 
-  none_told : bytes ≡ [] → is_read p.op ≡ false → (c : Content) → Has old c → AreTold (bytes_read size c p) bytes
-  none_told none reads_not c h = subst (λ (xs : List ℕ). AreTold (bytes_read size c p) xs) (sym none) (told_nothing size p c reads_not)
+  none_told : read ≡ Some [] → is_read p.op ≡ false → (c : Content) → Has old c → read ≡ bytes_read size c p
+  none_told none reads_not c h = none ∙ told_nothing size p c reads_not
 
-  no_amount : bytes ≡ [] → is_read p.op ≡ false → length bytes ≡ cond (is_read p.op) (p.count * size) 0
-  no_amount none reads_not = ap length none ∙ sym (ap (λ (b : Bool). cond b (p.count * size) 0) reads_not)
+  no_amount : read ≡ Some [] → is_read p.op ≡ false → IfSome read (λ bytes. length bytes ≡ cond (is_read p.op) (p.count * size) 0)
+  no_amount none reads_not =
+      subst (λ (o : Option (List ℕ)). IfSome o (λ bytes. length bytes ≡ cond (is_read p.op) (p.count * size) 0)) (sym none) (sym (ap (λ (b : Bool). cond b (p.count * size) 0) reads_not))
 
   -- a write was done
   pub done_writing : IsWriting p.op → (from : List ℕ) → from ≡ concat (rewritten p.op p.first (zero_blocks size p.count))
-      → new.content ≡ content_written old.content (p.lba * old.block_size) from → new.flushes ≡ old.flushes → bytes ≡ []
-      → IsServed size p old new end bytes
+      → new.content ≡ content_written old.content (p.lba * old.block_size) from → new.flushes ≡ old.flushes → read ≡ Some []
+      → IsServed size p old new end read
   done_writing writing from put is same none =
       let put_here : from ≡ concat (rewritten p.op p.first (zero_blocks old.block_size p.count)) =
       put ∙ ap (λ (s : ℕ). concat (rewritten p.op p.first (zero_blocks s p.count))) inside.same_size
       in
       ended (record {
         content = has_written old new p shape inside.inside writing from put_here is;
-        told = none_told none (writing_reads_not p.op writing);
+        reads = none_told none (writing_reads_not p.op writing);
         amount = no_amount none (writing_reads_not p.op writing);
         flushes = same ∙ sym (ap (λ (b : Bool). cond b (one_more old.flushes) old.flushes) (writing_flushes_not p.op writing));
       })
 
   -- a flush was done
-  pub done_flushing : p.op ≡ ops.Flush → new.content ≡ old.content → new.flushes ≡ one_more old.flushes → bytes ≡ []
-      → IsServed size p old new end bytes
+  pub done_flushing : p.op ≡ ops.Flush → new.content ≡ old.content → new.flushes ≡ one_more old.flushes → read ≡ Some []
+      → IsServed size p old new end read
   done_flushing flush is more none =
       ended (record {
         content = has_kept old new p shape inside.inside (λ bs. ap (λ (op : Op). rewritten op p.first bs) flush) is;
-        told = none_told none (ap is_read flush);
+        reads = none_told none (ap is_read flush);
         amount = no_amount none (ap is_read flush);
         flushes = more ∙ sym (ap (λ (op : Op). cond (is_flush op) (one_more old.flushes) old.flushes) flush);
       })
 
   -- what is no piece was passed
-  pub done_passing : IsNoPiece p.op → new.content ≡ old.content → new.flushes ≡ old.flushes → bytes ≡ [] → IsServed size p old new end bytes
+  pub done_passing : IsNoPiece p.op → new.content ≡ old.content → new.flushes ≡ old.flushes → read ≡ Some [] → IsServed size p old new end read
   done_passing idle is same none =
       ended (record {
         content = has_kept old new p shape inside.inside (λ bs. idle_keeps p.op p.first bs idle) is;
-        told = none_told none (idle_reads_not p.op idle);
+        reads = none_told none (idle_reads_not p.op idle);
         amount = no_amount none (idle_reads_not p.op idle);
         flushes = same ∙ sym (ap (λ (b : Bool). cond b (one_more old.flushes) old.flushes) (idle_flushes_not p.op idle));
       })
 
-  -- a read was done
-  pub done_reading : p.op ≡ ops.Read → length bytes ≡ p.count * size → Reads old.content (p.lba * old.block_size) bytes
-      → new.content ≡ old.content → new.flushes ≡ old.flushes → IsServed size p old new end bytes
-  done_reading read long given is same =
-      let there : (c : Content) → Has old c → AreTold (bytes_read old.block_size c p) bytes =
-      told_read old p bytes read (long ∙ ap (λ (s : ℕ). p.count * s) inside.same_size) given
+  -- a read was done of a disk that tells these bytes, or doesn't
+  pub done_reading : p.op ≡ ops.Read → (bytes : List ℕ) (told : Bool) → length bytes ≡ p.count * size → Reads old.content (p.lba * old.block_size) bytes
+      → told ≡ is_some old.content → read ≡ cond told (Some bytes) None
+      → new.content ≡ old.content → new.flushes ≡ old.flushes → IsServed size p old new end read
+  done_reading reading bytes told long given tells of is same =
+      let there : (c : Content) → Has old c → read ≡ bytes_read old.block_size c p =
+      told_read old p bytes told read reading (long ∙ ap (λ (s : ℕ). p.count * s) inside.same_size) given tells of
       in
       ended (record {
-        content = has_kept old new p shape inside.inside (λ bs. ap (λ (op : Op). rewritten op p.first bs) read) is;
-        told = λ c h. subst (λ (s : ℕ). AreTold (bytes_read s c p) bytes) (sym inside.same_size) (there c h);
-        amount = long ∙ sym (ap (λ (op : Op). cond (is_read op) (p.count * size) 0) read);
-        flushes = same ∙ sym (ap (λ (op : Op). cond (is_flush op) (one_more old.flushes) old.flushes) read);
+        content = has_kept old new p shape inside.inside (λ bs. ap (λ (op : Op). rewritten op p.first bs) reading) is;
+        reads = λ c h. subst (λ (s : ℕ). read ≡ bytes_read s c p) (sym inside.same_size) (there c h);
+        amount = told_amount (cond (is_read p.op) (p.count * size) 0) bytes told read of (long ∙ sym (ap (λ (op : Op). cond (is_read op) (p.count * size) 0) reading));
+        flushes = same ∙ sym (ap (λ (op : Op). cond (is_flush op) (one_more old.flushes) old.flushes) reading);
       })

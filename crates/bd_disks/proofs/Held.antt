@@ -1,5 +1,5 @@
 -- What a disk has after a piece.
-use Rattle.std.proofs.Common.{◌≡◌, ℕ, ◌+◌, ◌-◌, ◌*◌, ◌≤◌, Bool, false, cond, List, [], ◌++◌, length, take, drop, replicate, Option, Some, refl, sym, ◌∙◌, ap, subst, arith}
+use Rattle.std.proofs.Common.{◌≡◌, ℕ, ◌+◌, ◌-◌, ◌*◌, ◌≤◌, Bool, true, false, cond, List, [], ◌++◌, length, take, drop, replicate, Option, Some, None, is_some, IfSome, sym, ◌∙◌, ap, subst, arith}
 use Rattle.std.specs.List.{concat}
 use Rattle.std.proofs.lemmas.List.{length-append, length-drop, length-replicate, length-take-le}
 use Rattle.bd_base.specs.declared.request.Op.{Op}
@@ -10,7 +10,7 @@ use Rattle.bd_machine.specs.declared.state.Content.TheVariants.{Blocks, Zeros, U
 use Rattle.bd_machine.specs.declared.state.OpenPiece.{OpenPiece}
 use Rattle.bd_outside.specs.Disk.{DiskState, HasSameShape, Reads, content_written}
 use Rattle.bd_disks.specs.Holding.{AreOfSize, Has, HoldsBlocks}
-use Rattle.bd_disks.specs.Serving.{AreTold, IsWriting}
+use Rattle.bd_disks.specs.Serving.{IsWriting}
 use Rattle.bd_disks.proofs.Blockwise.{all_blocks, drop_blocks, length_blocks, sizes_append, sizes_drop, sizes_take, take_blocks, written_blocks}
 use Rattle.bd_disks.proofs.Rewriting.{length_rewritten, sizes_rewritten, sizes_zero_blocks, written_by_size, zeros_joined}
 
@@ -111,26 +111,38 @@ module _ (old new : DiskState) (p : OpenPiece) (shape : HasSameShape old new) (i
     has_kept Zeros h = h
     has_kept Untold h = is ∙ h
 
--- a read gives what the content has
-pub told_read : (old : DiskState) (p : OpenPiece) (bytes : List ℕ) → p.op ≡ ops.Read
+-- a read gives what the content has, told where the disk tells it
+pub told_read : (old : DiskState) (p : OpenPiece) (bytes : List ℕ) (told : Bool) (read : Option (List ℕ)) → p.op ≡ ops.Read
     → length bytes ≡ p.count * old.block_size → Reads old.content (p.lba * old.block_size) bytes
-    → (c : Content) → Has old c → AreTold (bytes_read old.block_size c p) bytes
-told_read old p bytes read long given c h =
-    subst (λ (op : Op). AreTold (cond (is_read op) (bytes_at old.block_size c p.lba p.count) (Some [])) bytes) (sym read) (go c h)
+    → told ≡ is_some old.content → read ≡ cond told (Some bytes) None
+    → (c : Content) → Has old c → read ≡ bytes_read old.block_size c p
+told_read old p bytes told read reading long given tells is c h =
+    go c h ∙ sym (ap (λ (op : Op). cond (is_read op) (bytes_at old.block_size c p.lba p.count) (Some [])) reading)
   where
-    go : (c : Content) → Has old c → AreTold (bytes_at old.block_size c p.lba p.count) bytes
+    go : (c : Content) → Has old c → read ≡ bytes_at old.block_size c p.lba p.count
     go (Blocks bs) h =
         let size : ℕ = old.block_size in
-        let told : bytes ≡ take (length bytes) (drop (p.lba * size) (concat bs)) =
+        let there : bytes ≡ take (length bytes) (drop (p.lba * size) (concat bs)) =
         subst (λ (c : Option (List ℕ)). Reads c (p.lba * size) bytes) h.bytes given
         in
-        told
+        let same : bytes ≡ concat (take p.count (drop p.lba bs)) =
+        there
         ∙ ap (λ (k : ℕ). take k (drop (p.lba * size) (concat bs))) long
         ∙ ap (λ (xs : List ℕ). take (p.count * size) xs) (drop_blocks size p.lba bs h.sizes)
         ∙ take_blocks size p.count (drop p.lba bs) (sizes_drop size p.lba bs h.sizes)
+        in
+        is ∙ ap (λ (b : Bool). cond b (Some bytes) None) (tells ∙ ap is_some h.bytes) ∙ ap Some same
     go Zeros h = absurd h
-    go Untold h = tt
+    go Untold h = is ∙ ap (λ (b : Bool). cond b (Some bytes) None) (tells ∙ ap is_some h)
+
+-- where it is told it has as many bytes as were read
+pub told_amount : (n : ℕ) (bytes : List ℕ) (told : Bool) (read : Option (List ℕ)) → read ≡ cond told (Some bytes) None → length bytes ≡ n → IfSome read (λ xs. length xs ≡ n)
+told_amount n bytes told read is long = subst (λ (o : Option (List ℕ)). IfSome o (λ xs. length xs ≡ n)) (sym is) (go told)
+  where
+    go : (b : Bool) → IfSome (cond b (Some bytes) None) (λ xs. length xs ≡ n)
+    go true = long
+    go false = tt
 
 -- a piece that isn't a read reads nothing
-pub told_nothing : (size : ℕ) (p : OpenPiece) (c : Content) → is_read p.op ≡ false → AreTold (bytes_read size c p) []
-told_nothing size p c e = subst (λ (b : Bool). AreTold (cond b (bytes_at size c p.lba p.count) (Some [])) []) (sym e) refl
+pub told_nothing : (size : ℕ) (p : OpenPiece) (c : Content) → is_read p.op ≡ false → Some [] ≡ bytes_read size c p
+told_nothing size p c e = sym (ap (λ (b : Bool). cond b (bytes_at size c p.lba p.count) (Some [])) e)

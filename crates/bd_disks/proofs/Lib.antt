@@ -1,5 +1,6 @@
 pub mod Blockwise
 pub mod Changing
+pub mod Contents
 pub mod Ends
 pub mod Held
 pub mod Rewriting

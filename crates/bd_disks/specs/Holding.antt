@@ -1,5 +1,5 @@
 -- What a disk holds, in blocks as the machine has them.
-use Rattle.std.specs.Prelude.{◌≡◌, ℕ, List, [], ◌∷◌, length, None, Some}
+use Rattle.std.specs.Prelude.{◌≡◌, ℕ, zero, suc, List, [], ◌∷◌, length, take, drop, Option, None, Some}
 use Rattle.std.specs.List.{concat}
 use Rattle.bd_machine.specs.declared.state.Content.{Content}
 use Rattle.bd_machine.specs.declared.state.Content.TheVariants.{Blocks, Zeros, Untold}
@@ -21,3 +21,18 @@ abbrev pub Has : DiskState → Content → Type 0
 Has disk (Blocks blocks) = HoldsBlocks disk blocks
 Has disk Zeros = ⊥
 Has disk Untold = disk.content ≡ None
+
+-- ---- the content that a disk has
+
+-- bytes in n blocks of this size, one after the other
+abbrev pub in_blocks : ℕ → ℕ → List ℕ → List (List ℕ)
+in_blocks size zero bytes = []
+in_blocks size (suc n) bytes = take size bytes ∷ in_blocks size n (drop size bytes)
+
+abbrev pub content_in : ℕ → ℕ → Option (List ℕ) → Content
+content_in size n None = Untold
+content_in size n (Some bytes) = Blocks (in_blocks size n bytes)
+
+-- its bytes in its blocks, if it tells them: the one content that it has
+abbrev pub content_of : DiskState → Content
+content_of disk = content_in disk.block_size disk.blocks disk.content

@@ -3,7 +3,7 @@ use Rattle.std.specs.Prelude.{◌≡◌, ◌==◌, ◌≤◌, ℕ, Bool, true, f
 use Rattle.bd_base.specs.declared.act.ApplyEnd.{ApplyEnd}
 use Rattle.bd_base.specs.declared.id.DevId.{DevId}
 use Rattle.bd_machine.specs.declared.state.OpenPiece.{OpenPiece}
-use Rattle.bd_outside.specs.Disk.{DiskState, HasSameShape}
+use Rattle.bd_outside.specs.Disk.{DiskState, HasSameShape, HasWholeBlocks}
 use Rattle.bd_disks.specs.Serving.{IsInsideDisk, IsServed}
 
 -- the row of a device
@@ -20,9 +20,10 @@ abbrev pub IsInsideOne : Option DiskState → ℕ → OpenPiece → Type 0
 IsInsideOne None size piece = ⊥
 IsInsideOne (Some disk) size piece = IsInsideDisk disk size piece
 
--- a disk did what the piece asks, and is the same disk after it; no fault is forgotten
-pub record Does (size : ℕ) (piece : OpenPiece) (end : ApplyEnd) (read : List ℕ) (old new : DiskState) : Type 0 where
+-- a disk, which tells whole blocks where it tells its bytes, did what the piece asks, and is the same disk after it; no fault is forgotten
+pub record Does (size : ℕ) (piece : OpenPiece) (end : ApplyEnd) (read : Option (List ℕ)) (old new : DiskState) : Type 0 where
   pub served : IsServed size piece old new end read
+  pub whole : HasWholeBlocks old
   pub shape : HasSameShape old new
   pub faults : old.faults ≤ new.faults
 

@@ -1,5 +1,5 @@
 -- What serving a piece does to a disk, and what it answers.
-use Rattle.std.specs.Prelude.{◌≡◌, ℕ, ◌+◌, ◌*◌, ◌<◌, ◌≤◌, ◌^◌, Bool, true, false, cond, List, [], length, Option, None, Some}
+use Rattle.std.specs.Prelude.{◌≡◌, ℕ, ◌+◌, ◌*◌, ◌<◌, ◌≤◌, ◌^◌, Bool, true, false, cond, List, length, Option, None, IfSome}
 use Rattle.bd_base.specs.declared.act.ApplyEnd.{ApplyEnd}
 use Rattle.bd_base.specs.declared.act.ApplyEnd.TheVariants.{Done, Fault}
 use Rattle.bd_base.specs.declared.request.Op.{Op}
@@ -42,27 +42,22 @@ IsNoPiece ops.Reset = Unit {0}
 IsNoPiece (ops.Abort seq) = Unit {0}
 IsNoPiece _ = ⊥
 
--- the bytes are those that are told
-abbrev pub AreTold : Option (List ℕ) → List ℕ → Type 0
-AreTold None bytes = Unit {0}
-AreTold (Some told) bytes = bytes ≡ told
-
--- the piece was done: the disk has the content after it, its bytes are those of the content before, as many as it asks,
--- and a flush raised the count of flushes
-pub record IsDone (size : ℕ) (piece : OpenPiece) (old new : DiskState) (bytes : List ℕ) : Type 0 where
+-- the piece was done: the disk has the content after it; the piece read what it reads of the content before, so it is told where the disk
+-- tells its bytes, and then has as many bytes as the piece asks; and a flush raised the count of flushes
+pub record IsDone (size : ℕ) (piece : OpenPiece) (old new : DiskState) (read : Option (List ℕ)) : Type 0 where
   pub content : (content : Content) → Has old content → Has new (content_after content piece)
-  pub told : (content : Content) → Has old content → AreTold (bytes_read size content piece) bytes
-  pub amount : length bytes ≡ cond (is_read piece.op) (piece.count * size) 0
+  pub reads : (content : Content) → Has old content → read ≡ bytes_read size content piece
+  pub amount : IfSome read (λ bytes. length bytes ≡ cond (is_read piece.op) (piece.count * size) 0)
   pub flushes : new.flushes ≡ cond (is_flush piece.op) (one_more old.flushes) old.flushes
 
 -- the disk failed: its count of faults rose, and all else is as it was
-pub record IsFault (old new : DiskState) (bytes : List ℕ) : Type 0 where
+pub record IsFault (old new : DiskState) (read : Option (List ℕ)) : Type 0 where
   pub faults : Rises old.faults new.faults
   pub content : new.content ≡ old.content
   pub flushes : new.flushes ≡ old.flushes
-  pub nothing : bytes ≡ []
+  pub nothing : read ≡ None
 
 -- what the end of a piece says
-abbrev pub IsServed : ℕ → OpenPiece → DiskState → DiskState → ApplyEnd → List ℕ → Type 0
-IsServed size piece old new Done bytes = IsDone size piece old new bytes
-IsServed size piece old new Fault bytes = IsFault old new bytes
+abbrev pub IsServed : ℕ → OpenPiece → DiskState → DiskState → ApplyEnd → Option (List ℕ) → Type 0
+IsServed size piece old new Done read = IsDone size piece old new read
+IsServed size piece old new Fault read = IsFault old new read

@@ -100,7 +100,7 @@ fn serve_row<D: Disk>(
     piece: &OpenPiece,
 ) -> Result<Given, OutOfMemory>
     requires inside { IsInsideDisk (D.state row.old.1) size piece.now }
-    ensures does { IfOk result (λ s. Does size piece.now s.end s.bytes (D.state row.old.1) (D.state row.new.1)) }
+    ensures does { IfOk result (λ s. Does size piece.now s.end s.read (D.state row.old.1) (D.state row.new.1)) }
     ensures same_device { row.new.0 ≡ row.old.0 }
     ensures out_of_memory { OnErr result (row.new ≡ row.old) }
 {
@@ -136,7 +136,7 @@ fn serve_in<D: Disk>(
 ) -> Result<Given, OutOfMemory>
     requires inside { IsInsideOne (option_map D.state (disk_of piece.now.base rows.old)) size piece.now }
     ensures does { IfOk result (λ s. ChangesDisk piece.now.base
-        (λ old new. Does size piece.now s.end s.bytes (D.state old) (D.state new)) rows.old rows.new) }
+        (λ old new. Does size piece.now s.end s.read (D.state old) (D.state new)) rows.old rows.new) }
     ensures out_of_memory { OnErr result (rows.new ≡ rows.old) }
 {
     let Some(i) = place(rows, piece.base) else {
@@ -167,7 +167,7 @@ impl<D: Disk> Disks<D> {
     pub fn serve(&mut self, size: u32, piece: &OpenPiece) -> Result<Given, OutOfMemory>
         requires inside { IsInsideOne (option_map D.state (disk_of piece.now.base self.old)) size piece.now }
         ensures does { IfOk result (λ s. ChangesDisk piece.now.base
-            (λ old new. Does size piece.now s.end s.bytes (D.state old) (D.state new)) self.old self.new) }
+            (λ old new. Does size piece.now s.end s.read (D.state old) (D.state new)) self.old self.new) }
         ensures out_of_memory { OnErr result (self.new ≡ self.old) }
     {
         let alloc = *self.rows.allocator();

@@ -1,39 +1,57 @@
 //! What a piece asks, done to a disk.
-ghost use Rattle.std.specs.Prelude.{◌≡◌, ◌<◌, ◌≤◌, ◌+◌, ◌*◌, ◌^◌, ◌↔◌, [], length, IsTrue, IfOk, OnOk, OnErr};
+ghost use Rattle.std.specs.Prelude.{◌≡◌, ◌<◌, ◌≤◌, ◌+◌, ◌*◌, ◌^◌, ◌↔◌, [], cond, is_some, length, IsTrue, IfOk, OnOk, OnErr};
 ghost use Rattle.std.specs.List.{concat};
 ghost use Rattle.bd_base.specs.declared.request.Op.TheVariants as ops;
 ghost use Rattle.bd_base.specs.declared.act.ApplyEnd.TheVariants as ends;
 ghost use Rattle.bd_machine.specs.Effect.{rewritten, zero_blocks};
-ghost use Rattle.bd_outside.specs.Disk.{HasSameShape, IsInside, Reads};
+ghost use Rattle.bd_outside.specs.Disk.{HasSameShape, HasWholeBlocks, IsInside, Reads};
 ghost use Rattle.bd_outside.specs.Count.{Rises};
 ghost use Rattle.bd_disks.specs.Serving.{IsInsideDisk, IsNoPiece, IsServed, IsWriting, IsZeroing};
 
 use crate::image::{written, zeros};
 use bd_base::{ApplyEnd, Bytes, Op, OutOfMemory};
 use bd_home::Given;
-use bd_machine::OpenPiece;
+use bd_machine::{OpenPiece, ReadBytes};
 use bd_outside::{Disk, Failed};
 use std::alloc::Global;
 
 // A piece that was done.
-fn done(bytes: Bytes) -> Given
+fn done(read: ReadBytes) -> Given
     ensures end { result.end ≡ ends.Done }
-    ensures bytes { result.bytes ≡ bytes }
+    ensures read { result.read ≡ read }
 {
     Given {
         end: ApplyEnd::Done,
-        bytes,
+        read,
     }
 }
 
 // A piece at which the disk failed.
-fn fault(alloc: Global) -> Given
+fn fault() -> Given
     ensures end { result.end ≡ ends.Fault }
-    ensures bytes { result.bytes ≡ [] }
+    ensures read { result.read ≡ None }
 {
     Given {
         end: ApplyEnd::Fault,
-        bytes: Bytes::new(alloc),
+        read: ReadBytes::none(),
+    }
+}
+
+// What a piece reads that isn't a read: no bytes, which is told of every disk.
+fn no_bytes(alloc: Global) -> ReadBytes
+    ensures { result ≡ Some [] }
+{
+    ReadBytes::told(Bytes::new(alloc))
+}
+
+// Bytes of a disk: told where the disk tells them.
+fn bytes_of(told: bool, bytes: Bytes) -> ReadBytes
+    ensures { result ≡ cond told (Some bytes) None }
+{
+    if told {
+        ReadBytes::told(bytes)
+    } else {
+        ReadBytes::untold(bytes)
     }
 }
 
@@ -51,24 +69,26 @@ fn fill<D: Disk>(disk: &mut D, lba: u64, to: &mut Vec<u8>) -> Result<(), Failed>
     disk.read(lba, to.as_mut_slice())
 }
 
-// Reads the blocks of a piece.
+// Reads the blocks of a piece, of a disk that tells its bytes or doesn't.
 fn read<D: Disk>(
     alloc: Global,
     disk: &mut D,
     size: u32,
     piece: &OpenPiece,
+    told: bool,
 ) -> Result<Given, OutOfMemory>
     requires inside { IsInsideDisk (D.state disk.old) size piece.now }
     requires read { piece.now.op ≡ ops.Read }
-    ensures served { IfOk result (λ s. IsServed size piece.now (D.state disk.old) (D.state disk.new) s.end s.bytes) }
+    requires told { told ≡ is_some (D.state disk.old).content }
+    ensures served { IfOk result (λ s. IsServed size piece.now (D.state disk.old) (D.state disk.new) s.end s.read) }
     ensures same_shape { HasSameShape (D.state disk.old) (D.state disk.new) }
     ensures fault_count { (D.state disk.old).faults ≤ (D.state disk.new).faults }
     ensures out_of_memory { OnErr result (disk.new ≡ disk.old) }
 {
     let mut bytes = zeros(alloc, piece.count, size)?;
     match fill(disk, piece.lba, &mut bytes) {
-        Ok(()) => Ok(done(Bytes::from_vec(bytes))),
-        Err(Failed) => Ok(fault(alloc)),
+        Ok(()) => Ok(done(bytes_of(told, Bytes::from_vec(bytes)))),
+        Err(Failed) => Ok(fault()),
     }
 }
 
@@ -77,13 +97,13 @@ fn write<D: Disk>(alloc: Global, disk: &mut D, size: u32, piece: &OpenPiece, fro
     requires inside { IsInsideDisk (D.state disk.old) size piece.now }
     requires writing { IsWriting piece.now.op }
     requires bytes { from.now ≡ concat (rewritten piece.now.op piece.now.first (zero_blocks size piece.now.count)) }
-    ensures served { IsServed size piece.now (D.state disk.old) (D.state disk.new) result.end result.bytes }
+    ensures served { IsServed size piece.now (D.state disk.old) (D.state disk.new) result.end result.read }
     ensures same_shape { HasSameShape (D.state disk.old) (D.state disk.new) }
     ensures fault_count { (D.state disk.old).faults ≤ (D.state disk.new).faults }
 {
     match disk.write(piece.lba, from) {
-        Ok(()) => done(Bytes::new(alloc)),
-        Err(Failed) => fault(alloc),
+        Ok(()) => done(no_bytes(alloc)),
+        Err(Failed) => fault(),
     }
 }
 
@@ -96,7 +116,7 @@ fn clear<D: Disk>(
 ) -> Result<Given, OutOfMemory>
     requires inside { IsInsideDisk (D.state disk.old) size piece.now }
     requires zeroing { IsZeroing piece.now.op }
-    ensures served { IfOk result (λ s. IsServed size piece.now (D.state disk.old) (D.state disk.new) s.end s.bytes) }
+    ensures served { IfOk result (λ s. IsServed size piece.now (D.state disk.old) (D.state disk.new) s.end s.read) }
     ensures same_shape { HasSameShape (D.state disk.old) (D.state disk.new) }
     ensures fault_count { (D.state disk.old).faults ≤ (D.state disk.new).faults }
     ensures out_of_memory { OnErr result (disk.new ≡ disk.old) }
@@ -109,22 +129,22 @@ fn clear<D: Disk>(
 fn pass<D: Disk>(alloc: Global, _disk: &D, _size: u32, _piece: &OpenPiece) -> Given
     requires inside { IsInsideDisk (D.state _disk.now) _size _piece.now }
     requires no_piece { IsNoPiece _piece.now.op }
-    ensures { IsServed _size _piece.now (D.state _disk.now) (D.state _disk.now) result.end result.bytes }
+    ensures { IsServed _size _piece.now (D.state _disk.now) (D.state _disk.now) result.end result.read }
 {
-    done(Bytes::new(alloc))
+    done(no_bytes(alloc))
 }
 
 // Flushes the disk.
 fn flush<D: Disk>(alloc: Global, disk: &mut D, size: u32, piece: &OpenPiece) -> Given
     requires inside { IsInsideDisk (D.state disk.old) size piece.now }
     requires flush { piece.now.op ≡ ops.Flush }
-    ensures served { IsServed size piece.now (D.state disk.old) (D.state disk.new) result.end result.bytes }
+    ensures served { IsServed size piece.now (D.state disk.old) (D.state disk.new) result.end result.read }
     ensures same_shape { HasSameShape (D.state disk.old) (D.state disk.new) }
     ensures fault_count { (D.state disk.old).faults ≤ (D.state disk.new).faults }
 {
     match disk.flush() {
-        Ok(()) => done(Bytes::new(alloc)),
-        Err(Failed) => fault(alloc),
+        Ok(()) => done(no_bytes(alloc)),
+        Err(Failed) => fault(),
     }
 }
 
@@ -162,8 +182,9 @@ pub fn can_serve<D: Disk>(disk: &D, size: u32, piece: &OpenPiece) -> bool
 /// request's device; zeroes put zeros, and so would an unmap, which no aio device supports; a flush
 /// flushes. A reset or an abort, which is never a piece, ends as Done without a call.
 ///
-/// The end is Fault only where the disk failed in this call: then what it tells of its content is as
-/// it was. Out of memory leaves the disk as it was.
+/// What a read gives is told where the disk tells its bytes, and else not. The end is Fault only where
+/// the disk failed in this call: then what it tells of its content is as it was, and nothing was read.
+/// Out of memory leaves the disk as it was.
 pub fn serve<D: Disk>(
     alloc: Global,
     disk: &mut D,
@@ -171,13 +192,15 @@ pub fn serve<D: Disk>(
     piece: &OpenPiece,
 ) -> Result<Given, OutOfMemory>
     requires { IsInsideDisk (D.state disk.old) size piece.now }
-    ensures served { IfOk result (λ s. IsServed size piece.now (D.state disk.old) (D.state disk.new) s.end s.bytes) }
+    ensures served { IfOk result (λ s. IsServed size piece.now (D.state disk.old) (D.state disk.new) s.end s.read) }
+    ensures whole { HasWholeBlocks (D.state disk.old) }
     ensures same_shape { HasSameShape (D.state disk.old) (D.state disk.new) }
     ensures fault_count { (D.state disk.old).faults ≤ (D.state disk.new).faults }
     ensures out_of_memory { OnErr result (disk.new ≡ disk.old) }
 {
+    let told = disk.tells();
     match piece.op {
-        Op::Read => read(alloc, disk, size, piece),
+        Op::Read => read(alloc, disk, size, piece, told),
         Op::Write(fill) => {
             let bytes = written(alloc, fill, piece.first, piece.count, size)?;
             Ok(write(alloc, disk, size, piece, bytes.as_slice()))

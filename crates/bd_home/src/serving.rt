@@ -5,11 +5,11 @@ ghost use Rattle.bd_base.specs.declared.act.ApplyEnd.TheVariants as ends;
 ghost use Rattle.bd_machine.specs.Homes.{applied, is_base, served, without_last};
 ghost use Rattle.bd_machine.specs.Table.{change_first};
 ghost use Rattle.bd_home.specs.Fitting.{fits, is_inside};
-ghost use Rattle.bd_home.specs.Serving.{can_serve, first_at, first_of, last_at, last_of};
+ghost use Rattle.bd_home.specs.Serving.{can_serve, first_at, first_of, last_at, last_of, served_as};
 
-use bd_base::{ApplyEnd, Bytes, DevId, OutOfMemory, ReqId, Rows};
+use bd_base::{ApplyEnd, DevId, OutOfMemory, ReqId, Rows};
 use bd_blocks::{base_place, find_base};
-use bd_machine::{Base, Content, OpenPiece};
+use bd_machine::{Base, Content, OpenPiece, ReadBytes};
 use bd_pages::Blocks;
 use std::alloc::Global;
 use std::mem::replace;
@@ -123,17 +123,16 @@ pub fn serve(
     Ok(piece)
 }
 
-/// What the disk of an aio device did with a piece: how that ended, and the bytes that it gave, none after
-/// a fault and none of a piece that isn't a read.
+/// What the disk of an aio device did with a piece: how that ended, and what the piece read of the disk.
 #[derive(Debug, Drop)]
 pub struct Given {
     pub end: ApplyEnd,
-    pub bytes: Bytes,
+    pub read: ReadBytes,
 }
 
-// The piece, which has read these bytes of a content that isn't told, where it has read nothing else.
-fn with_untold(piece: OpenPiece, bytes: Bytes) -> OpenPiece
-    ensures { result ≡ piece }
+// The piece, which has read this.
+fn with_read(piece: OpenPiece, read: ReadBytes) -> OpenPiece
+    ensures { result ≡ record piece { read = read } }
 {
     OpenPiece {
         base: piece.base,
@@ -143,13 +142,13 @@ fn with_untold(piece: OpenPiece, bytes: Bytes) -> OpenPiece
         op: piece.op,
         progress: piece.progress,
         end: piece.end,
-        read: piece.read.or_untold(bytes),
+        read,
     }
 }
 
 /// The piece that waits first at the device was served by the device's disk, which gave this: the piece is
-/// out of the queue, and is given as it is then. Bytes of a content that isn't told are the disk's. Out of
-/// memory, all bases are as they were. None, and nothing changes, where the device isn't among the bases.
+/// out of the queue, and is given as it is then, with what the disk gave for what it read. Out of memory,
+/// all bases are as they were. None, and nothing changes, where the device isn't among the bases.
 pub fn serve_as_given(
     alloc: Global,
     bases: &mut Rows<Base>,
@@ -159,12 +158,12 @@ pub fn serve_as_given(
     given: Given,
 ) -> Result<Option<OpenPiece>, OutOfMemory>
     ensures bases { OnOk result (bases.new ≡ change_first (is_base dev) (applied given.end p.now) bases.old) }
-    ensures piece { IfOk result (λ q. q ≡ option_map (served given.end size p.now) (find (is_base dev) bases.old)) }
+    ensures piece { IfOk result (λ q. q ≡ option_map (λ b. served_as given.end given.read p.now) (find (is_base dev) bases.old)) }
     ensures err { OnErr result (bases.new ≡ bases.old) }
 {
-    let Given { end, bytes } = given;
+    let Given { end, read } = given;
     match bd_blocks::serve(alloc, bases, size, dev, end, p)? {
-        Some(piece) => Ok(Some(with_untold(piece, bytes))),
+        Some(piece) => Ok(Some(with_read(piece, read))),
         None => Ok(None),
     }
 }

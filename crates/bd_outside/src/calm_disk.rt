@@ -35,6 +35,13 @@ impl Disk for CalmDisk {
         }
     }
 
+    fn tells(&self) -> bool {
+        match self {
+            CalmDisk::Kept(disk) => disk.tells(),
+            CalmDisk::Beyond { .. } => false,
+        }
+    }
+
     fn read(&mut self, lba: u64, to: &mut [u8]) -> Result<(), Failed> {
         match self {
             CalmDisk::Kept(disk) => disk.read(lba, to),

@@ -3,9 +3,9 @@ use crate::failed::Failed;
 
 /// A disk of whole blocks. No call changes its block size or its number of blocks.
 pub trait Disk {
-    ghost use Rattle.std.specs.Prelude.{◌≡◌, ◌*◌, ◌≤◌, length, OnOk, OnErr};
+    ghost use Rattle.std.specs.Prelude.{◌≡◌, ◌*◌, ◌≤◌, is_some, length, OnOk, OnErr};
     ghost use Rattle.bd_outside.specs.Count.{Rises, one_more};
-    ghost use Rattle.bd_outside.specs.Disk.{DiskState, HasSameShape, IsInside, Reads, content_written};
+    ghost use Rattle.bd_outside.specs.Disk.{DiskState, HasSameShape, HasWholeBlocks, IsInside, Reads, content_written};
 
     // its blocks, its counts, and its place among the openings of its host
     ghost state: { Self → DiskState };
@@ -17,6 +17,11 @@ pub trait Disk {
     /// How many blocks it has.
     fn blocks(&self) -> u64
         ensures { result ≡ (state self.now).blocks };
+
+    /// Whether contracts see its bytes: those of its blocks, whole. No call changes whether they do.
+    fn tells(&self) -> bool
+        ensures told { result ≡ is_some (state self.now).content }
+        ensures whole { HasWholeBlocks (state self.now) };
 
     /// Fills the buffer from whole blocks inside the disk, from block `lba` on.
     ///

@@ -138,6 +138,11 @@ impl Disk for MemDisk {
         self.blocks
     }
 
+    fn tells(&self) -> bool {
+        let _whole = &self.content;
+        true
+    }
+
     /// Failed exactly where this call is one that fails: the buffer is as it was.
     fn read(&mut self, lba: u64, to: &mut [u8]) -> Result<(), Failed>
         requires { IsInside lba (length to.old) self.old.block_size self.old.blocks }

@@ -94,6 +94,11 @@ impl<F: Read + Write + Seek + OpenFile + Drop> Disk for SystemDisk<F> {
         self.blocks
     }
 
+    /// False: no contract sees what a file of the system holds.
+    fn tells(&self) -> bool {
+        false
+    }
+
     /// A read that gives fewer bytes goes on until the buffer is full. Failed where the system
     /// refuses, or the file has become shorter.
     fn read(&mut self, lba: u64, to: &mut [u8]) -> Result<(), Failed> {

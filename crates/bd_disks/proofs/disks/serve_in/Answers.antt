@@ -22,5 +22,5 @@ returns-clause-does g c =
     let p = c.args.piece.now in
     let at : position (is_row p.base) c.args.rows.now ≡ Some c.in-Some.i = sym c.place.ensures ∙ c.in-Some.is in
     IfOk-weaker c.serve_row.result _ _
-    (λ s does. changed_at p.base (λ old new. Does c.args.size p s.end s.bytes (g.D.Disk.state old) (g.D.Disk.state new)) c.args.rows.now c.in-Some.i c.index-rows-i.result c.serve_row.new.row at c.serve_row.ensures.same_device does)
+    (λ s does. changed_at p.base (λ old new. Does c.args.size p s.end s.read (g.D.Disk.state old) (g.D.Disk.state new)) c.args.rows.now c.in-Some.i c.index-rows-i.result c.serve_row.new.row at c.serve_row.ensures.same_device does)
     c.serve_row.ensures.does

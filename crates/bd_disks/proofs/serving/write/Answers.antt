@@ -10,5 +10,5 @@ write-requires g c =
 
 pub returns-in-Ok-clause-served : goal.returns-in-Ok-clause-served
 returns-in-Ok-clause-served g c =
-    done_writing c.args.size c.args.piece.now (g.D.Disk.state c.args.disk.now) (g.D.Disk.state c.write.new.self) c.requires.inside c.write.ensures.same_shape c.done.result.end c.done.result.bytes c.done.ensures.end
-    c.requires.writing c.args.from.now c.requires.bytes c.in-Ok.ensures.written c.write.ensures.flush_count (c.done.ensures.bytes ∙ c.new.ensures)
+    done_writing c.args.size c.args.piece.now (g.D.Disk.state c.args.disk.now) (g.D.Disk.state c.write.new.self) c.requires.inside c.write.ensures.same_shape c.done.result.end c.done.result.read c.done.ensures.end
+    c.requires.writing c.args.from.now c.requires.bytes c.in-Ok.ensures.written c.write.ensures.flush_count (c.done.ensures.read ∙ c.no_bytes.ensures)
