@@ -6,9 +6,19 @@ use Rattle.std.proofs.lemmas.List.{length-map, length-set, get_or-map, get_or_de
 use Rattle.std.proofs.lemmas.List.Elements.{filter-append}
 use Rattle.std.proofs.lemmas.List.Sums.{sum_by-set}
 use Rattle.bd_base.specs.declared.act.Entry.{Entry}
-use Rattle.bd_log.specs.Merge.{Part, threads_of, IsPart, Rises, IsBefore, IsOrdered, entries_of, IsMerge, AreOfDifferentThreads, TakesFirst, head_before}
+use Rattle.bd_log.specs.Firsts.{IsNotBefore}
+use Rattle.bd_log.specs.Merge.{Part, threads_of, IsPart, Rises, IsBefore, IsOrdered, entries_of, IsMerge, AreOfDifferentThreads, head_before}
 use Rattle.bd_log.proofs.Order.{all_map, all_both, all_append, all_any, before_trans, is_before-false, ordered_append}
 use Rattle.bd_log.proofs.Parts.{entries_of-same, entries_of-other}
+
+-- the first entry of all was taken from the part that had it
+pub record TakesFirst (old : List Part) (x : Entry) (new : List Part) : Type 0 where
+  pub place : ℕ
+  pub rest : List Entry
+  pub within : place < length old
+  pub head : (d : Part) → get_or old place d ≡ record { thread = x.thread; entries = x ∷ rest }
+  pub left : new ≡ set old place (record { thread = x.thread; entries = rest })
+  pub first : All (λ p. AllByRecursion (IsBefore x) p.entries) new
 
 -- what was taken so far, and what is left of the parts
 pub record Merges (given left : List Part) (out : List Entry) : Type 0 where
@@ -166,6 +176,12 @@ taken parts first part now (Some x) apart within are least is same e = record {
         let no : head_before q.entries (x ∷ now.entries) ≡ false = ap (λ (zs : List Entry). head_before q.entries zs) (sym (ap (λ (p : Part). p.entries) at ∙ e)) ∙ least k d h in
         subst (λ (p : Part). AllByRecursion (IsBefore x) p.entries) (sym (get_or-set_other parts first k now d ne))
         (after_head x now.entries q.entries q.thread other (are k d h).0 (are k d h).1 no)
+
+-- the same, as the first of all is known by its place
+pub took : (left : List Part) (first : ℕ) (d now : Part) (r : Option Entry) → AreOfDifferentThreads left → first < length left → All IsPart left → ((j : ℕ) → j < length left → IsNotBefore left j first) → now.thread ≡ (get_or left first d).thread → MatchOption r (((get_or left first d).entries ≡ []) × (now ≡ get_or left first d)) (λ x. (get_or left first d).entries ≡ x ∷ now.entries) → MatchOption r (All (λ p. p.entries ≡ []) left) (λ x. TakesFirst left x (set left first now))
+took left first d now r apart within are least same e =
+    let part : Part = get_or left first d in
+    taken left first part now r apart within are (λ j d' h. least j h d') (get_or_default left first d part within) same e
 
 -- one entry fewer is left
 pub left_fewer : (old new : List Part) (x : Entry) → TakesFirst old x new → sum_by (λ p. length p.entries) new + 1 ≡ sum_by (λ p. length p.entries) old

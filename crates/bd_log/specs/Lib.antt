@@ -1,3 +1,4 @@
 pub mod FirstStamp
+pub mod Firsts
 pub mod Log
 pub mod Merge

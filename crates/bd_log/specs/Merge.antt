@@ -1,5 +1,5 @@
 -- Logs of several threads as one list, by stamp and thread.
-use Rattle.std.specs.Prelude.{◌≡◌, ◌≢◌, ℕ, ◌<◌, Bool, true, false, ◌==◌, ◌&&◌, ◌||◌, nat_lt, ◌⊎◌, List, [], ◌∷◌, ◌++◌, All, AllPairs, Contains, length, map, filter, slice_index_or, slice_set}
+use Rattle.std.specs.Prelude.{◌≡◌, ◌≢◌, ℕ, ◌<◌, Bool, true, false, ◌==◌, ◌&&◌, ◌||◌, nat_lt, ◌⊎◌, List, [], ◌∷◌, ◌++◌, All, AllPairs, Contains, map, filter}
 use Rattle.std.specs.List.{AllByRecursion}
 use Rattle.bd_base.specs.declared.act.Entry.{Entry}
 
@@ -72,12 +72,3 @@ abbrev pub head_before : List Entry → List Entry → Bool
 head_before [] ys = false
 head_before (x ∷ xs) [] = true
 head_before (x ∷ xs) (y ∷ ys) = is_before x y
-
--- the first entry of all was taken from the part that had it
-pub record TakesFirst (old : List Part) (x : Entry) (new : List Part) : Type 0 where
-  pub place : ℕ
-  pub rest : List Entry
-  pub within : place < length old
-  pub head : (d : Part) → slice_index_or old place d ≡ record { thread = x.thread; entries = x ∷ rest }
-  pub left : new ≡ slice_set old place (record { thread = x.thread; entries = rest })
-  pub first : All (λ p. AllByRecursion (IsBefore x) p.entries) new

@@ -1,6 +1,7 @@
 //! The logs of threads, and their merge into one history.
 #![tactic(auto)]
 
+mod firsts;
 mod log;
 mod merging;
 mod part;

@@ -1,8 +1,9 @@
 //! The merge of logs by stamp and thread.
-ghost use Rattle.std.specs.Prelude.{◌≡◌, ℕ, ◌+◌, ◌≤◌, ◌<◌, [], false, length, map, sum_by, vec_len, vec_capacity, All, IfOk, IfSome, MatchOption, slice_index_or};
+ghost use Rattle.std.specs.Prelude.{◌≡◌, ◌+◌, ◌≤◌, length, map, sum_by, vec_len, vec_capacity, IfOk, IfSome};
 ghost use Rattle.bd_log.specs.Log.{log_part};
-ghost use Rattle.bd_log.specs.Merge.{AppendsMerge, AreOfDifferentThreads, IsMerge, IsPart, MergeIsUnique, MergingByParts, Part, TakesFirst, head_before};
+ghost use Rattle.bd_log.specs.Merge.{AppendsMerge, AreOfDifferentThreads, IsMerge, MergeIsUnique, MergingByParts};
 
+use crate::firsts::{first_in, first_of, firsts_of};
 use crate::log::Log;
 use crate::part::LogPart;
 use bd_base::{Entry, OutOfMemory};
@@ -47,40 +48,16 @@ pub fn merge_onto(parts: Vec<LogPart>, trace: &mut Vec<Entry>)
 {
     let mut parts = parts;
     let left = parts.as_mut_slice();
-    while let Some(entry) = take_first(left) {
-        match trace.push(entry) {
-            Ok(()) => (),
-            Err(_) => unreachable!(),
-        }
+    if left.is_empty() {
+        return;
     }
-}
-
-// Takes the first entry of all out of the part that has it.
-fn take_first(parts: &mut [LogPart]) -> Option<Entry>
-    requires { AreOfDifferentThreads parts.old }
-    ensures { MatchOption result (All (λ p. p.entries ≡ []) parts.old) (λ x. TakesFirst parts.old x parts.new) }
-{
-    if parts.is_empty() {
-        return None;
+    let mut firsts = firsts_of(left);
+    let mut first = first_of(left, firsts);
+    while let Some(entry) = left[first].take() {
+        trace.push_reserved(entry);
+        firsts[first % 4] = first_in(left, first % 4);
+        first = first_of(left, firsts);
     }
-    let first = first_part(parts);
-    parts[first].take()
-}
-
-// The place of a part whose first entry no other part's comes before.
-fn first_part(parts: &[LogPart]) -> usize
-    requires { 0 < length parts.now }
-    ensures within { result < length parts.now }
-    ensures parts { All IsPart parts.now }
-    ensures least { (j : ℕ) (d : Part) → j < length parts.now → head_before (slice_index_or parts.now j d).entries (slice_index_or parts.now result d).entries ≡ false }
-{
-    let mut first = 0;
-    for (i, part) in parts.iter().enumerate() {
-        if part.precedes(&parts[first]) {
-            first = i;
-        }
-    }
-    first
 }
 
 /// Law: logs have one merge.

@@ -1,5 +1,5 @@
 //! What a log handed out.
-ghost use Rattle.std.specs.Prelude.{◌≡◌, ◌∷◌, [], length, MatchOption};
+ghost use Rattle.std.specs.Prelude.{◌≡◌, ◌∷◌, [], drop, length, MatchOption};
 ghost use Rattle.bd_log.specs.FirstStamp.{first_stamp};
 ghost use Rattle.bd_log.specs.Merge.{IsPart, head_before};
 
@@ -36,7 +36,7 @@ impl LogPart {
         let entries = VecDeque::from(entries);
         LogPart {
             thread,
-            first_stamp: first_stamp(&entries),
+            first_stamp: stamp_at(&entries, 0),
             entries,
         }
     }
@@ -72,19 +72,19 @@ impl LogPart {
     // Takes the first entry out.
     pub(crate) fn take(&mut self) -> Option<Entry>
         ensures thread { self.new.thread ≡ self.old.thread }
+        ensures part { IsPart self.new }
         ensures entry { MatchOption result ((self.old.entries ≡ []) × (self.new ≡ self.old)) (λ x. self.old.entries ≡ x ∷ self.new.entries) }
     {
-        let entry = self.entries.pop_front();
-        self.first_stamp = first_stamp(&self.entries);
-        entry
+        self.first_stamp = stamp_at(&self.entries, 1);
+        self.entries.pop_front()
     }
 }
 
-// The stamp of the first entry, if there is one.
-fn first_stamp(entries: &VecDeque<Entry>) -> Option<u128>
-    ensures { result ≡ first_stamp entries.now.items }
+// The stamp of the entry at this place, if there is one.
+fn stamp_at(entries: &VecDeque<Entry>, place: usize) -> Option<u128>
+    ensures { result ≡ first_stamp (drop place entries.now.items) }
 {
-    match entries.front() {
+    match entries.get(place) {
         Some(entry) => Some(entry.stamp),
         None => None,
     }
