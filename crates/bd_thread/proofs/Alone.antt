@@ -5,7 +5,6 @@ use Rattle.std.proofs.lemmas.List.Elements.{filter-append}
 use Rattle.bd_base.specs.declared.act.Act.{Act}
 use Rattle.bd_base.specs.declared.setup.Setup.{Setup}
 use Rattle.bd_base.specs.declared.act.Act.TheVariants as acts
-use Rattle.bd_base.specs.declared.act.ApplyEnd.{ApplyEnd}
 use Rattle.bd_base.specs.declared.act.ApplyEnd.TheVariants as ends
 use Rattle.bd_base.specs.declared.act.Entry.{Entry}
 use Rattle.bd_base.specs.declared.act.Outcome.{Outcome}
@@ -54,7 +53,6 @@ use Rattle.bd_thread.specs.Refusals.{refusal_now, SendsBack, SendsBackBy}
 use Rattle.bd_thread.specs.Requests.{accept_act, refuse_act, IsAccepted, IsRefused}
 use Rattle.bd_thread.specs.Seen.{view_of}
 use Rattle.bd_thread.specs.Sent.{may_put, KeepsRequests, Puts, PutsBy, Takes, TakesBy}
-use Rattle.bd_thread.specs.Disks.{IsServedAs}
 use Rattle.bd_thread.specs.Served.{Applies, ApplyAdded}
 use Rattle.bd_thread.specs.Walking.{visit_due, StopsFor, Visits, VisitsBy}
 use Rattle.bd_thread.specs.Work.{ActedAloneBy, AsksNothing}
@@ -130,9 +128,6 @@ applies_alone o a n c dev id keeps h = go id h.1
     go (Some (ids.Request req)) k = absurd k
     go (Some (ids.Walk walk)) k = absurd k
     go (Some (ids.Notice sender receiver number)) k = absurd k
-
-pub served_as_alone : (o : Thread) (a : Links) (n : Thread) (c : Links) (req : ReqId) (k : ℕ) (dev : DevId) (end : ApplyEnd) → IsServedAs req k dev end o a n c → AsksNothing a c
-served_as_alone o a n c req k dev end s = alone_by o.me a c (acts.Apply req k dev end) refl s.links
 
 pub destructs_alone : (o : Thread) (a : Links) (n : Thread) (c : Links) (dev : DevId) (done : Bool) → KeepsRequests o a n c → Destructs o a n c dev done → AsksNothing a c
 destructs_alone o a n c dev done keeps h = go (may_device_go o a dev) (digest_due (is_malloc o.setup.now dev) (find (is_base dev) o.part.bases)) h

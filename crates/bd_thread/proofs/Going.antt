@@ -31,7 +31,7 @@ use Rattle.bd_tokens.specs.Tokens.{here_in}
 use Rattle.bd_links.proofs.Longer.{length-longer}
 use Rattle.bd_thread.specs.declared.links.Links.{Links}
 use Rattle.bd_thread.specs.declared.thread.Thread.{Thread}
-use Rattle.bd_thread.specs.Acted.{is_any, Acted, ActedBy, AreOf, Went}
+use Rattle.bd_thread.specs.Acted.{ActedBy, AreOf}
 use Rattle.bd_thread.specs.Seen.{local_at, local}
 
 -- ---- what a thread sees and what is shared, by its parts
@@ -118,10 +118,6 @@ are_both : (may : Setup → Act → Bool) (setup : Setup) (xs ys : List Entry) �
 are_both may setup [] ys f s = s
 are_both may setup (x ∷ xs) ys f s = (f.0, are_both may setup xs ys f.1 s)
 
-are_any : (setup : Setup) (xs : List Entry) → AreOf is_any setup xs
-are_any setup [] = tt
-are_any setup (x ∷ xs) = (refl, are_any setup xs)
-
 pub acted_still : {may : Setup → Act → Bool} (old : Thread) (before : Links) (new : Thread) (after : Links)
     → new.me ≡ old.me
     → new.setup ≡ old.setup
@@ -159,10 +155,6 @@ acted_then {may} o a m b n c g h =
           (subst (λ (t : ℕ). Leads o.setup.now t (local m b) h.entries (local n c)) g.me
           (subst (λ (s : Setup). Leads s m.me (local m b) h.entries (local n c)) setup-is h.leads));
     }
-
--- what went on by itself went on
-pub acted_went : (o : Thread) (a : Links) (n : Thread) (c : Links) → Acted o a n c → Went o a n c
-acted_went o a n c g = record { me = g.me; setup = g.setup; queues = g.queues; rows = g.rows; entries = g.entries; added = g.added; acts = are_any o.setup.now g.entries; leads = g.leads }
 
 pub acted_one : {may : Setup → Act → Bool} (old : Thread) (before : Links) (new : Thread) (after : Links) (act : Act)
     → new.me ≡ old.me

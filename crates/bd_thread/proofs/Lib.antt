@@ -22,4 +22,5 @@ pub mod Retrying
 pub mod Alone
 pub mod Wanted
 pub mod Working
+pub mod Over
 mod OnDisk

@@ -1,35 +1,52 @@
--- Apply by a disk, by the local rules.
-use Rattle.std.proofs.Common.{◌≡◌, ℕ, Bool, true, false, cond, List, length, Option, Some, None, refl, sym, ◌∙◌, ap, subst}
-use Rattle.std.specs.List.{find}
+-- Apply by a disk, over what it holds.
+use Rattle.std.proofs.Common.{◌≡◌, ℕ, ◌+◌, ◌||◌, Bool, true, false, cond, List, [], ◌∷◌, find, length, vec_len, Option, Some, None, option_and_then, refl, sym, ◌∙◌, ap, subst}
 use Rattle.std.specs.Option.{option_map}
+use Rattle.std.proofs.lemmas.List.{length-append}
 use Rattle.bd_base.specs.declared.act.Act.TheVariants as acts
 use Rattle.bd_base.specs.declared.act.ApplyEnd.{ApplyEnd}
 use Rattle.bd_base.specs.declared.act.ApplyEnd.TheVariants as ends
+use Rattle.bd_base.specs.declared.act.Entry.{Entry}
 use Rattle.bd_base.specs.declared.id.DevId.{DevId}
 use Rattle.bd_base.specs.declared.id.ReqId.{ReqId}
+use Rattle.bd_base.specs.declared.setup.Setup.{Setup}
 use Rattle.bd_machine.specs.declared.state.Base.{Base}
+use Rattle.bd_machine.specs.declared.state.Content.{Content}
 use Rattle.bd_machine.specs.declared.state.Id.{Id}
 use Rattle.bd_machine.specs.declared.state.Id.TheVariants as ids
 use Rattle.bd_machine.specs.declared.state.Kept.{Kept}
 use Rattle.bd_machine.specs.declared.state.Kept.TheVariants as keeps
 use Rattle.bd_machine.specs.declared.state.OpenPiece.{OpenPiece}
+use Rattle.bd_machine.specs.declared.state.Part.{Part}
+use Rattle.bd_machine.specs.declared.state.Registry.{Registry}
 use Rattle.bd_machine.specs.BlockMap.{is_aio, size_of}
-use Rattle.bd_machine.specs.Homes.{applied, is_base, is_done_or, is_first_at, is_home, served}
+use Rattle.bd_machine.specs.Guards.{noted}
+use Rattle.bd_machine.specs.Homes.{applied, change_applied, is_base, is_done_or, is_first_at, is_home, read_by, served}
+use Rattle.bd_machine.specs.Kept.{as_piece}
 use Rattle.bd_machine.specs.Same.{same_dev, same_id}
 use Rattle.bd_machine.specs.Table.{change_first}
+use Rattle.bd_machine.specs.View.{Change}
+use Rattle.bd_turns.specs.declared.queue.Message.{Message}
+use Rattle.bd_turns.specs.Local.{Local, carried_local}
+use Rattle.bd_told.specs.Over.{change_over, contents_over, contents_then, local_over}
+use Rattle.bd_told.specs.Told.{contents_after}
+use Rattle.bd_home.specs.Serving.{served_as}
+use Rattle.bd_links.specs.Entries.{entry_at, longer}
 use Rattle.bd_links.specs.Queues.{queues_of}
 use Rattle.bd_tokens.specs.Tokens.{here_in}
 use Rattle.bd_due.specs.Serving.{may_hold}
 use Rattle.bd_thread.specs.declared.links.Links.{Links}
 use Rattle.bd_thread.specs.declared.thread.Thread.{Thread}
-use Rattle.bd_thread.specs.Acted.{Went}
-use Rattle.bd_thread.specs.Disks.{disk_due, held_as, IsServedAs, NoPieceOnDisk, ServesAs, ServesAsBy}
+use Rattle.bd_thread.specs.Disks.{disk_due, piece_on_disk, NoPieceOnDisk}
+use Rattle.bd_thread.specs.Given.{contents_once, held_as, IsReadBy, IsServedAs, ServesAs, ServesAsBy, ServesOver}
+use Rattle.bd_thread.specs.Over.{WentOver}
 use Rattle.bd_thread.specs.Requests.{KeepsTickets}
-use Rattle.bd_thread.specs.Seen.{untaken}
+use Rattle.bd_thread.specs.Seen.{block_size, local, local_at, untaken}
 use Rattle.bd_thread.specs.Waits.{Idles}
-use Rattle.bd_thread.proofs.Applies.{apply_steps, at_home, more_here}
+use Rattle.bd_thread.specs.Work.{AsksNothing}
+use Rattle.bd_thread.proofs.Applies.{apply_steps, at_home}
+use Rattle.bd_thread.proofs.Going.{still_shut, Steps}
 use Rattle.bd_thread.proofs.Idle.{more}
-use Rattle.bd_thread.proofs.Submissions.{acted_into}
+use Rattle.bd_thread.proofs.Over.{over_none}
 use Rattle.bd_thread.proofs.Tickets.{same_tickets}
 
 not_true : {Q : Type 0} → false ≡ true → Q
@@ -39,60 +56,150 @@ any_end : (end : ApplyEnd) → is_done_or true end ≡ true
 any_end ends.Done = refl
 any_end ends.Fault = refl
 
--- **Apply**, with the end that the disk gave
-pub served_as_acted : (old : Thread) (before : Links) (new : Thread) (after : Links) (req : ReqId) (k : ℕ) (dev : DevId) (end : ApplyEnd) (s : IsServedAs req k dev end old before new after)
+-- ---- what the thread sees, and what the disks hold, after the Apply
+
+module _ (setup : Setup) (t : ℕ) (part : Part) (here : Id → Option Kept) (registry : Registry) (shut : Bool) (stamp : ℕ) (queues : ℕ → List Message) (req : ReqId) (k : ℕ) (dev : DevId) (end : ApplyEnd) (contents : DevId → Content)
+    (q : OpenPiece) (is : here (ids.Piece req k) ≡ Some (keeps.Piece q)) (aio : is_aio setup dev ≡ true) where
+  abbrev local_now : Local
+  local_now = local_at t part here registry shut stamp queues
+
+  abbrev apply : Entry
+  apply = entry_at t (stamp + 1) (acts.Apply req k dev end)
+
+  abbrev bases : List Base
+  bases = change_first (is_base dev) (applied end q) part.bases
+
+  abbrev local_then : Option (List ℕ) → Bool → Local
+  local_then read s = local_at t (untaken (record part { bases = bases })) (λ j. cond (same_id (ids.Piece req k) j) (Some (keeps.Piece (served_as end read q))) (here j)) registry s (stamp + 1) queues
+
+  -- the piece read what the disk holds
+  local_is : (b : Base) (read : Option (List ℕ)) → find (is_base dev) part.bases ≡ Some b → read ≡ read_by end (size_of setup dev) (contents dev) q
+      → local_over setup t contents local_now apply ≡ local_then read shut
+  unfolding local_over
+  local_is b read found reads =
+      let over : Option OpenPiece → Change → Local = λ o c. carried_local setup t local_now apply (change_over setup contents (acts.Apply req k dev end) o c) in
+      let change : Option Kept → Option Base → Change = λ o c. noted None (change_applied local_now.view req k dev end (size_of setup dev) (as_piece o) c) in
+      ap (λ (v : Bool). over (cond v (as_piece (here (ids.Piece req k))) None) (change (here (ids.Piece req k)) (find (is_base dev) part.bases))) aio
+      ∙ ap (λ (o : Option Kept). over (as_piece o) (change o (find (is_base dev) part.bases))) is
+      ∙ ap (λ (c : Option Base). over (Some q) (change (Some (keeps.Piece q)) c)) found
+      ∙ ap (λ (r : Option (List ℕ)). local_then r (shut || false)) (sym reads)
+      ∙ ap (local_then read) (still_shut shut)
+
+  contents_are : contents_then setup contents local_now apply ≡ contents_after dev end q contents
+  contents_are =
+      ap (λ (v : Bool). contents_over (acts.Apply req k dev end) (cond v (as_piece (here (ids.Piece req k))) None) contents) aio
+      ∙ ap (λ (o : Option Kept). contents_over (acts.Apply req k dev end) (as_piece o) contents) is
+
+-- **Apply**, with the end that the disk gave, where the piece read what the disk holds
+pub served_as_over : (old : Thread) (before : Links) (new : Thread) (after : Links) (req : ReqId) (k : ℕ) (dev : DevId) (end : ApplyEnd) (read : Option (List ℕ)) (s : IsServedAs req k dev end read old before new after)
     → is_home old.setup.now old.me dev ≡ true
     → is_aio old.setup.now dev ≡ true
     → may_hold old.setup.now dev (find (is_base dev) old.part.bases) ≡ true
     → is_first_at req k (find (is_base dev) old.part.bases) ≡ true
     → here_in old.held.items (ids.Piece req k) ≡ Some (keeps.Piece s.piece)
     → same_dev s.piece.base dev ≡ true
-    → Went old before new after
-served_as_acted old before new after req k dev end s home aio holds first here on = go (find (is_base dev) old.part.bases) refl
+    → (contents : DevId → Content) → read ≡ read_by end (block_size old dev) (contents dev) s.piece
+    → WentOver contents (contents_after dev end s.piece contents) old before new after
+served_as_over old before new after req k dev end read s home aio holds first here on contents reads = go (find (is_base dev) old.part.bases) refl
   where
-    go : (c : Option Base) → find (is_base dev) old.part.bases ≡ c → Went old before new after
+    go : (c : Option Base) → find (is_base dev) old.part.bases ≡ c → WentOver contents (contents_after dev end s.piece contents) old before new after
     go None found = not_true (sym (ap (is_first_at req k) found) ∙ first)
     go (Some b) found =
-        let size = size_of old.setup.now dev in
-        let bases : List Base = change_first (is_base dev) (applied end s.piece) old.part.bases in
+        let setup : Setup = old.setup.now in
+        let size : ℕ = size_of setup dev in
         let now : Id → Option Kept = here_in old.held.items in
-        let then_is : Id → Option Kept = more_here old.setup.now old.me old.part now before.registry.state before.shut (length before.entries) (queues_of before.queues.items) req k dev end (served end size s.piece b) in
-        acted_into old before new after (acts.Apply req k dev end) (untaken (record old.part { bases = bases })) then_is
-        (ap (λ (t : Thread). t.me) s.thread) (ap (λ (t : Thread). t.setup) s.thread) (ap (λ (t : Thread). t.part) s.thread)
-        (s.held ∙ ap (λ (c : Option Base). held_as req k end size s.piece c now) found) s.links
-        (apply_steps old.setup.now old.me old.part now before.registry.state before.shut (length before.entries) (queues_of before.queues.items) req k dev end s.piece size (served end size s.piece b) bases then_is
-        (at_home old.setup.now old.me dev home) refl first here on holds (ap (λ (f : Bool). is_done_or f end) aio ∙ any_end end) refl (ap (option_map (served end size s.piece)) found) refl) refl
+        let n : ℕ = length before.entries in
+        let queues : ℕ → List Message = queues_of before.queues.items in
+        let all : List Base = change_first (is_base dev) (applied end s.piece) old.part.bases in
+        let kept : OpenPiece → Id → Option Kept = λ p. λ j. cond (same_id (ids.Piece req k) j) (Some (keeps.Piece p)) (now j) in
+        let steps : Steps setup old.me (local old before) (acts.Apply req k dev end) (local_at old.me (untaken (record old.part { bases = all })) (kept (served end size s.piece b)) before.registry.state before.shut (n + 1) queues) =
+        apply_steps setup old.me old.part now before.registry.state before.shut n queues req k dev end s.piece size (served end size s.piece b) all (kept (served end size s.piece b))
+        (at_home setup old.me dev home) refl first here on holds (ap (λ (f : Bool). is_done_or f end) aio ∙ any_end end) refl (ap (option_map (served end size s.piece)) found) refl
+        in
+        let there : (m : ℕ) → Local = λ m. local_at old.me (untaken (record old.part { bases = all })) (kept (served_as end read s.piece)) before.registry.state before.shut m queues in
+        let longest : List Entry = longer old.me before.entries (acts.Apply req k dev end) in
+        let counted : n + 1 ≡ length longest = sym (length-append before.entries _) in
+        let me : new.me ≡ old.me = ap (λ (t : Thread). t.me) s.thread in
+        let part : new.part ≡ untaken (record old.part { bases = all }) = ap (λ (t : Thread). t.part) s.thread in
+        let same : there (length longest) ≡ local new after =
+        λ i. local_at (sym me i) (sym part i) (sym s.held i) (sym s.links i).registry.state (sym s.links i).shut (length (sym s.links i).entries) (queues_of (sym s.links i).queues.items)
+        in
+        record {
+          me = me;
+          setup = ap (λ (t : Thread). t.setup) s.thread;
+          queues = ap (λ (l : Links). vec_len l.queues) s.links;
+          rows = ap (λ (l : Links). l.registry.setup) s.links;
+          entries = entry_at old.me (n + 1) (acts.Apply req k dev end) ∷ [];
+          added = ap (λ (l : Links). l.entries) s.links;
+          leads = (
+            refl,
+            refl,
+            steps.allowed,
+            (
+              contents_are setup old.me old.part now before.registry.state before.shut n queues req k dev end contents s.piece here aio,
+              local_is setup old.me old.part now before.registry.state before.shut n queues req k dev end contents s.piece here aio b read found reads ∙ ap there counted ∙ same,
+            ),
+          );
+        }
 
-pub served_as_tickets : (old : Thread) (before : Links) (new : Thread) (after : Links) (req : ReqId) (k : ℕ) (dev : DevId) (end : ApplyEnd) → IsServedAs req k dev end old before new after → KeepsTickets old → KeepsTickets new
-served_as_tickets old before new after req k dev end s keeps =
+-- the same, of the piece that is next on the device's disk
+pub serves_over : (old : Thread) (before : Links) (new : Thread) (after : Links) (req : ReqId) (k : ℕ) (dev : DevId) (end : ApplyEnd) (read : Option (List ℕ)) (s : IsServedAs req k dev end read old before new after)
+    → disk_due old dev ≡ Some (ids.Piece req k)
+    → is_home old.setup.now old.me dev ≡ true
+    → is_aio old.setup.now dev ≡ true
+    → may_hold old.setup.now dev (find (is_base dev) old.part.bases) ≡ true
+    → is_first_at req k (find (is_base dev) old.part.bases) ≡ true
+    → here_in old.held.items (ids.Piece req k) ≡ Some (keeps.Piece s.piece)
+    → same_dev s.piece.base dev ≡ true
+    → ServesOver dev end read old before new after
+serves_over old before new after req k dev end read s due home aio holds first here on contents reads =
+    let next : piece_on_disk old dev ≡ Some s.piece =
+    ap (λ (o : Option Id). option_and_then (λ (id : Id). as_piece (here_in old.held.items id)) o) due ∙ ap as_piece here
+    in
+    subst (λ (o : Option OpenPiece). WentOver contents (contents_once dev end o contents) old before new after) (sym next)
+    (served_as_over old before new after req k dev end read s home aio holds first here on contents
+    (subst (λ (o : Option OpenPiece). IsReadBy end read (block_size old dev) (contents dev) o) next reads))
+
+-- where none is next nothing is read
+pub serves_none_over : (old : Thread) (before : Links) (dev : DevId) (end : ApplyEnd) (read : Option (List ℕ)) → disk_due old dev ≡ None → ServesOver dev end read old before old before
+serves_none_over old before dev end read none contents reads =
+    let next : piece_on_disk old dev ≡ None = ap (λ (o : Option Id). option_and_then (λ (id : Id). as_piece (here_in old.held.items id)) o) none in
+    subst (λ (o : Option OpenPiece). WentOver contents (contents_once dev end o contents) old before old before) (sym next) (over_none contents old before)
+
+pub served_as_tickets : (old : Thread) (before : Links) (new : Thread) (after : Links) (req : ReqId) (k : ℕ) (dev : DevId) (end : ApplyEnd) (read : Option (List ℕ)) → IsServedAs req k dev end read old before new after → KeepsTickets old → KeepsTickets new
+served_as_tickets old before new after req k dev end read s keeps =
     same_tickets old new (ap (λ (t : Thread). t.purse.ids) s.thread) (ap (λ (t : Thread). t.part.requests) s.thread) (ap (λ (t : Thread). t.part.next_request) s.thread) keeps
 
-pub served_as_adds : (old : Thread) (before : Links) (new : Thread) (after : Links) (req : ReqId) (k : ℕ) (dev : DevId) (end : ApplyEnd) → IsServedAs req k dev end old before new after → Idles (NoPieceOnDisk dev) old before new after
-served_as_adds old before new after req k dev end s few = absurd (more old.me before after (acts.Apply req k dev end) (ap (λ (l : Links). l.entries) s.links) few)
+pub served_as_adds : (old : Thread) (before : Links) (new : Thread) (after : Links) (req : ReqId) (k : ℕ) (dev : DevId) (end : ApplyEnd) (read : Option (List ℕ)) → IsServedAs req k dev end read old before new after → Idles (NoPieceOnDisk dev) old before new after
+served_as_adds old before new after req k dev end read s few = absurd (more old.me before after (acts.Apply req k dev end) (ap (λ (l : Links). l.entries) s.links) few)
+
+pub served_as_alone : (old : Thread) (before : Links) (new : Thread) (after : Links) (req : ReqId) (k : ℕ) (dev : DevId) (end : ApplyEnd) (read : Option (List ℕ)) → IsServedAs req k dev end read old before new after → AsksNothing before after
+served_as_alone old before new after req k dev end read s = record {
+  registry = ap (λ (l : Links). l.registry) s.links;
+  entries = entry_at old.me (length before.entries + 1) (acts.Apply req k dev end) ∷ [];
+  added = ap (λ (l : Links). l.entries) s.links;
+  none_asks = refl;
+}
 
 -- where none is next nothing changes
-pub serves_none_as : (old : Thread) (before : Links) (dev : DevId) (end : ApplyEnd) → disk_due old dev ≡ None → ServesAs dev end old before old before false
-serves_none_as old before dev end none = subst (ServesAsBy dev end old before old before false) (sym none) (refl, refl, refl)
+pub serves_none_as : (old : Thread) (before : Links) (dev : DevId) (end : ApplyEnd) (read : Option (List ℕ)) → disk_due old dev ≡ None → ServesAs dev end read old before old before false
+serves_none_as old before dev end read none = subst (ServesAsBy dev end read old before old before false) (sym none) (refl, refl, refl)
 
 -- where one is, it is served
-pub serves_one_as : (old : Thread) (before : Links) (new : Thread) (after : Links) (req : ReqId) (k : ℕ) (dev : DevId) (end : ApplyEnd) → disk_due old dev ≡ Some (ids.Piece req k) → IsServedAs req k dev end old before new after → ServesAs dev end old before new after true
-serves_one_as old before new after req k dev end due s = subst (ServesAsBy dev end old before new after true) (sym due) (refl, s)
+pub serves_one_as : (old : Thread) (before : Links) (new : Thread) (after : Links) (req : ReqId) (k : ℕ) (dev : DevId) (end : ApplyEnd) (read : Option (List ℕ)) → disk_due old dev ≡ Some (ids.Piece req k) → IsServedAs req k dev end read old before new after → ServesAs dev end read old before new after true
+serves_one_as old before new after req k dev end read due s = subst (ServesAsBy dev end read old before new after true) (sym due) (refl, s)
 
 -- ---- what is kept of it
 
-kept_of : (f : Base → OpenPiece) (o : Option Base) (p : OpenPiece) → option_map f o ≡ Some p → Some (keeps.Piece p) ≡ option_map (λ b. keeps.Piece (f b)) o
-kept_of f None p h = cc
-kept_of f (Some b) p h = ap (option_map keeps.Piece) (sym h)
-
 -- the piece that was served is kept
-pub held_by : (req : ReqId) (k : ℕ) (dev : DevId) (end : ApplyEnd) (t : Thread) (p : OpenPiece) (piece : OpenPiece) (size : ℕ) (now : Id → Option Kept)
-    → size ≡ size_of t.setup.now dev
-    → option_map (served end size p) (find (is_base dev) t.part.bases) ≡ Some piece
+pub held_by : (req : ReqId) (k : ℕ) (dev : DevId) (end : ApplyEnd) (read : Option (List ℕ)) (t : Thread) (p : OpenPiece) (piece : OpenPiece) (now : Id → Option Kept)
+    → option_map (λ b. served_as end read p) (find (is_base dev) t.part.bases) ≡ Some piece
     → now ≡ (λ j. cond (same_id (ids.Piece req k) j) (Some (keeps.Piece piece)) (here_in t.held.items j))
-    → now ≡ held_as req k end (size_of t.setup.now dev) p (find (is_base dev) t.part.bases) (here_in t.held.items)
-held_by req k dev end t p piece size now size-is is held =
-    let base = find (is_base dev) t.part.bases in
+    → now ≡ held_as req k end read p (here_in t.held.items)
+held_by req k dev end read t p piece now is held =
     let here : Id → Option Kept = here_in t.held.items in
-    held
-    ∙ ap (λ (o : Option Kept). λ (j : Id). cond (same_id (ids.Piece req k) j) o (here j)) (kept_of (served end size p) base piece is)
-    ∙ ap (λ (n : ℕ). held_as req k end n p base here) size-is
+    held ∙ ap (λ (q : OpenPiece). λ (j : Id). cond (same_id (ids.Piece req k) j) (Some (keeps.Piece q)) (here j)) (go (find (is_base dev) t.part.bases) is)
+  where
+    go : (o : Option Base) → option_map (λ b. served_as end read p) o ≡ Some piece → piece ≡ served_as end read p
+    go None h = cc
+    go (Some b) h = cc

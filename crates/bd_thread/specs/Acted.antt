@@ -13,10 +13,6 @@ use Rattle.bd_thread.specs.Seen.{local}
 
 -- ---- which acts
 
--- any act
-abbrev pub is_any : Setup → Act → Bool
-is_any setup act = true
-
 -- any but an Apply of an aio device: its pieces are served by a disk, and a thread has none
 abbrev pub is_own : Setup → Act → Bool
 is_own setup (acts.Apply req k dev end) = not (is_aio setup dev)
@@ -42,7 +38,3 @@ pub record ActedBy (may : Setup → Act → Bool) (old : Thread) (before : Links
 -- by itself: no disk served a piece
 abbrev pub Acted : Thread → Links → Thread → Links → Type 0
 Acted old before new after = ActedBy is_own old before new after
-
--- with its disks, or by itself
-abbrev pub Went : Thread → Links → Thread → Links → Type 0
-Went old before new after = ActedBy is_any old before new after

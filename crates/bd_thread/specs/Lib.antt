@@ -19,3 +19,5 @@ pub mod Resting
 pub mod Waits
 pub mod Work
 pub mod Disks
+pub mod Over
+pub mod Given

@@ -13,7 +13,7 @@ use Rattle.bd_thread.specs.declared.links.Links.{Links}
 use Rattle.bd_thread.specs.declared.thread.Thread.{Thread}
 use Rattle.bd_thread.specs.declared.turn.Turned.{Turned}
 use Rattle.bd_thread.specs.declared.turn.Turned.TheVariants.{Moved, Quiet}
-use Rattle.bd_thread.specs.Acted.{is_any, is_own, ActedBy}
+use Rattle.bd_thread.specs.Acted.{is_own, ActedBy}
 use Rattle.bd_thread.specs.Endings.{left_on}
 use Rattle.bd_thread.specs.Lines.{job_now, outcome_now}
 use Rattle.bd_thread.specs.Waits.{IsIdle, IsWaiting, NoDestruct, NoLine, NoMessage, NoPiece, NoRefusal, NoRetry, NoStep, NoSubmission, NothingToPost, NothingToSend}
@@ -33,12 +33,9 @@ pub record ActedAloneBy (may : Setup → Act → Bool) (old : Thread) (before : 
   pub registry : after.registry ≡ before.registry
   pub none_asks : events acted.entries ≡ []
 
--- by itself, and with its disks
+-- by itself
 abbrev pub ActedAlone : Thread → Links → Thread → Links → Type 0
 ActedAlone old before new after = ActedAloneBy is_own old before new after
-
-abbrev pub WentAlone : Thread → Links → Thread → Links → Type 0
-WentAlone old before new after = ActedAloneBy is_any old before new after
 
 -- ---- what a thread waits for then
 

@@ -1,7 +1,7 @@
 //! Pieces that the disks of a thread's aio devices serve: which is next, and what a disk did with it.
 ghost use Rattle.std.specs.Prelude.{◌≡◌, ◌<◌, vec_len, option_copied, IfOk, OnOk};
-ghost use Rattle.bd_thread.specs.Acted.{Went};
-ghost use Rattle.bd_thread.specs.Disks.{piece_on_disk, NoPieceOnDisk, ServesAs};
+ghost use Rattle.bd_thread.specs.Disks.{piece_on_disk, NoPieceOnDisk};
+ghost use Rattle.bd_thread.specs.Given.{ServesAs, ServesOver};
 ghost use Rattle.bd_thread.specs.Requests.{KeepsTickets};
 ghost use Rattle.bd_thread.specs.Seen.{block_size, number_of};
 ghost use Rattle.bd_thread.specs.Waits.{Idles};
@@ -34,8 +34,8 @@ impl<'a> Thread<'a> {
     }
 
     /// The disk of an aio device served the piece that is next there, which ended as given: true, one Apply
-    /// says so, and the piece goes back to its own thread with the bytes that the disk gave. False, and
-    /// nothing changes, where no piece is next.
+    /// says so, and the piece goes back to its own thread with what it read of the disk. False, and nothing
+    /// changes, where no piece is next.
     #[tactic(auto, using(crate::proofs::Alone::alone_none))]
     pub fn serve_as_given(
         &mut self,
@@ -44,10 +44,10 @@ impl<'a> Thread<'a> {
         given: Given,
     ) -> Result<bool, OutOfMemory>
         requires { number_of self.old < vec_len links.old.queues }
-        ensures acted { OnOk result (Went self.old links.old self.new links.new) }
+        ensures over { OnOk result (ServesOver dev given.end given.read self.old links.old self.new links.new) }
         ensures tickets { OnOk result (KeepsTickets self.old → KeepsTickets self.new) }
         ensures quiet { OnOk result (Idles (NoPieceOnDisk dev) self.old links.old self.new links.new) }
-        ensures serves { IfOk result (ServesAs dev given.end self.old links.old self.new links.new) }
+        ensures serves { IfOk result (ServesAs dev given.end given.read self.old links.old self.new links.new) }
         ensures alone { OnOk result (AsksNothing links.old links.new) }
     {
         let setup = self.setup;

@@ -11,20 +11,21 @@ use Rattle.bd_links.specs.Entries.{longer}
 use Rattle.bd_tokens.specs.Tokens.{here_in}
 use Rattle.bd_thread.specs.declared.links.Links.{Links}
 use Rattle.bd_thread.specs.declared.thread.Thread.{Thread}
-use Rattle.bd_thread.specs.Acted.{Went}
-use Rattle.bd_thread.specs.Disks.{disk_due, IsServedAs, ServesAs}
+use Rattle.bd_thread.specs.Disks.{disk_due}
+use Rattle.bd_thread.specs.Given.{IsServedAs, ServesAs, ServesOver}
 use Rattle.bd_thread.specs.Requests.{KeepsTickets}
 use Rattle.bd_thread.specs.Seen.{untaken}
 use Rattle.bd_thread.proofs.Going.{carried}
-use Rattle.bd_thread.proofs.OnDisk.{held_by, served_as_acted, served_as_tickets, serves_one_as}
+use Rattle.bd_thread.proofs.OnDisk.{held_by, served_as_tickets, serves_one_as, serves_over}
 use Rattle.bd_thread.proofs.thread.Thread.serve_as_given.Goals as goal
 
-pub returns-clause-acted : goal.returns-clause-acted
-returns-clause-acted c =
+pub returns-clause-over : goal.returns-clause-over
+returns-clause-over c =
     let t = c.args.self.now in
     let links = c.args.links.now in
     let dev = c.args.dev in
     let end = c.args.given.end in
+    let read = c.args.given.read in
     let n = c.in-Some.next in
     let next = c.in-Some.ensures.next in
     let bases = change_first (is_base dev) (applied end n.piece.now) t.part.bases in
@@ -32,19 +33,20 @@ returns-clause-acted c =
     let after : Links = record links { entries = longer t.me links.entries (acts.Apply n.req n.k dev end) } in
     let thread = c.in_ok-note.ensures.thread ∙ ap (λ (bs : List Base). let m : Thread = record new { part = untaken (record t.part { bases = bs }) } in m) c.in_ok-served.ensures.bases in
     let bases-are : t.part.bases ≡ c.as_slice-bases.result.now = sym c.as_slice-bases.ensures in
-    let is : IsServedAs n.req n.k dev end t links new after = record {
+    let is : IsServedAs n.req n.k dev end read t links new after = record {
       piece = n.piece.now;
       here = ap as_piece next.is_first.here;
       thread = refl;
-      held = held_by n.req n.k dev end t n.piece.now c.in-Some-served.piece c.size_of-size.result (here_in c.hold.new.self.items) c.size_of-size.ensures (sym c.in_ok-served.ensures.piece ∙ c.in-Some-served.is) c.in_ok-hold.ensures.ok;
+      held = held_by n.req n.k dev end read t n.piece.now c.in-Some-served.piece (here_in c.hold.new.self.items) (sym c.in_ok-served.ensures.piece ∙ c.in-Some-served.is) c.in_ok-hold.ensures.ok;
       outbox = c.in_ok-push_back.ensures.items;
       links = refl;
     } in
-    let acted = served_as_acted t links new after n.req n.k dev end is next.home next.aio
+    let due : disk_due t dev ≡ Some (ids.Piece n.req n.k) = ap (λ (bs : List Base). next_on_disk t.setup.now t.me (here_in t.held.items) dev (find (is_base dev) bs)) bases-are ∙ sym c.in-Some.ensures.due in
+    let over = serves_over t links new after n.req n.k dev end read is due next.home next.aio
     (ap (λ (bs : List Base). may_hold t.setup.now dev (find (is_base dev) bs)) bases-are ∙ next.holds)
     (ap (λ (bs : List Base). is_first_at n.req n.k (find (is_base dev) bs)) bases-are ∙ next.is_first.first)
     next.is_first.here next.is_first.on in
-    carried (Went t links) new after _ _ thread c.in_ok-note.ensures.links acted
+    carried (ServesOver dev end read t links) new after _ _ thread c.in_ok-note.ensures.links over
 
 pub returns-clause-tickets : goal.returns-clause-tickets
 returns-clause-tickets c =
@@ -52,21 +54,22 @@ returns-clause-tickets c =
     let links = c.args.links.now in
     let dev = c.args.dev in
     let end = c.args.given.end in
+    let read = c.args.given.read in
     let n = c.in-Some.next in
     let next = c.in-Some.ensures.next in
     let bases = change_first (is_base dev) (applied end n.piece.now) t.part.bases in
     let new : Thread = record t { part = untaken (record t.part { bases = bases }); held = c.hold.new.self; outbox = c.push_back.new.self } in
     let after : Links = record links { entries = longer t.me links.entries (acts.Apply n.req n.k dev end) } in
     let thread = c.in_ok-note.ensures.thread ∙ ap (λ (bs : List Base). let m : Thread = record new { part = untaken (record t.part { bases = bs }) } in m) c.in_ok-served.ensures.bases in
-    let is : IsServedAs n.req n.k dev end t links new after = record {
+    let is : IsServedAs n.req n.k dev end read t links new after = record {
       piece = n.piece.now;
       here = ap as_piece next.is_first.here;
       thread = refl;
-      held = held_by n.req n.k dev end t n.piece.now c.in-Some-served.piece c.size_of-size.result (here_in c.hold.new.self.items) c.size_of-size.ensures (sym c.in_ok-served.ensures.piece ∙ c.in-Some-served.is) c.in_ok-hold.ensures.ok;
+      held = held_by n.req n.k dev end read t n.piece.now c.in-Some-served.piece (here_in c.hold.new.self.items) (sym c.in_ok-served.ensures.piece ∙ c.in-Some-served.is) c.in_ok-hold.ensures.ok;
       outbox = c.in_ok-push_back.ensures.items;
       links = refl;
     } in
-    carried (λ m l. KeepsTickets t → KeepsTickets m) new after _ _ thread c.in_ok-note.ensures.links (served_as_tickets t links new after n.req n.k dev end is)
+    carried (λ m l. KeepsTickets t → KeepsTickets m) new after _ _ thread c.in_ok-note.ensures.links (served_as_tickets t links new after n.req n.k dev end read is)
 
 pub returns-clause-serves : goal.returns-clause-serves
 returns-clause-serves c =
@@ -74,6 +77,7 @@ returns-clause-serves c =
     let links = c.args.links.now in
     let dev = c.args.dev in
     let end = c.args.given.end in
+    let read = c.args.given.read in
     let n = c.in-Some.next in
     let next = c.in-Some.ensures.next in
     let bases = change_first (is_base dev) (applied end n.piece.now) t.part.bases in
@@ -81,13 +85,13 @@ returns-clause-serves c =
     let after : Links = record links { entries = longer t.me links.entries (acts.Apply n.req n.k dev end) } in
     let thread = c.in_ok-note.ensures.thread ∙ ap (λ (bs : List Base). let m : Thread = record new { part = untaken (record t.part { bases = bs }) } in m) c.in_ok-served.ensures.bases in
     let bases-are : t.part.bases ≡ c.as_slice-bases.result.now = sym c.as_slice-bases.ensures in
-    let is : IsServedAs n.req n.k dev end t links new after = record {
+    let is : IsServedAs n.req n.k dev end read t links new after = record {
       piece = n.piece.now;
       here = ap as_piece next.is_first.here;
       thread = refl;
-      held = held_by n.req n.k dev end t n.piece.now c.in-Some-served.piece c.size_of-size.result (here_in c.hold.new.self.items) c.size_of-size.ensures (sym c.in_ok-served.ensures.piece ∙ c.in-Some-served.is) c.in_ok-hold.ensures.ok;
+      held = held_by n.req n.k dev end read t n.piece.now c.in-Some-served.piece (here_in c.hold.new.self.items) (sym c.in_ok-served.ensures.piece ∙ c.in-Some-served.is) c.in_ok-hold.ensures.ok;
       outbox = c.in_ok-push_back.ensures.items;
       links = refl;
     } in
     let due : disk_due t dev ≡ Some (ids.Piece n.req n.k) = ap (λ (bs : List Base). next_on_disk t.setup.now t.me (here_in t.held.items) dev (find (is_base dev) bs)) bases-are ∙ sym c.in-Some.ensures.due in
-    carried (λ m l. ServesAs dev end t links m l true) new after _ _ thread c.in_ok-note.ensures.links (serves_one_as t links new after n.req n.k dev end due is)
+    carried (λ m l. ServesAs dev end read t links m l true) new after _ _ thread c.in_ok-note.ensures.links (serves_one_as t links new after n.req n.k dev end read due is)
