@@ -5,6 +5,7 @@ use Rattle.std.proofs.lemmas.List.{length-map, map-append}
 use Rattle.std.proofs.lemmas.List.Elements.{filter-append}
 use Rattle.bd_base.specs.declared.act.Act.{Act}
 use Rattle.bd_base.specs.declared.act.Entry.{Entry}
+use Rattle.bd_base.specs.declared.id.DevId.{DevId}
 use Rattle.bd_base.specs.declared.setup.Setup.{Setup}
 use Rattle.bd_machine.specs.declared.state.Registry.{Registry}
 use Rattle.bd_machine.specs.Start.{registry_at_start}
@@ -20,6 +21,8 @@ use Rattle.bd_merged.specs.Fits.{event_of, events_in}
 use Rattle.bd_merged.specs.Loose.{put_stamps, AreLower}
 use Rattle.bd_merged.specs.Turning.{put_to, took_all, HasItsMessage, AreRowsOf}
 use Rattle.bd_merged.proofs.Turning.{turn_is_accepted}
+use Rattle.bd_served.specs.Served.{served_by, served_led, served_on, ServedPiece}
+use Rattle.bd_served.proofs.Rows.{served_rows_on}
 use Rattle.bd_apart.specs.Course.{acts_of, all_rows, restamped, stamp_of, take_stamps, AreNotAbove, Course, IsCourse, Phase}
 use Rattle.bd_apart.specs.Steps.{ActsOn, AnyStamp, GoesOn, IsLonger}
 use Rattle.bd_apart.proofs.Lists.{lower_on, not_above_on}
@@ -75,7 +78,15 @@ module _ (setup : Setup) (t : ℕ) (p : Phase) (c : Course) (l l' : Local) (f : 
 
   -- the course with the row and its entry
   abbrev course_more : Course
-  course_more = record { rows = c.rows ++ r ∷ []; arrived = c.arrived ++ own_more; taken = c.taken; sent = c.sent; seen = c.seen ++ events (f ∷ []); last = c.last + 1 }
+  course_more = record {
+    rows = c.rows ++ r ∷ [];
+    arrived = c.arrived ++ own_more;
+    taken = c.taken;
+    sent = c.sent;
+    seen = c.seen ++ events (f ∷ []);
+    served = λ dev. c.served dev ++ served_led setup t dev l (f ∷ []);
+    last = c.last + 1;
+  }
 
   module _ (thread : f.thread ≡ t) (stamp : f.stamp ≡ c.last + 1) (a : AreRowsOf setup t l (f ∷ []) l' (r ∷ [])) (h : IsCourse setup t p c l) where
     -- the rows of both phases until now
@@ -200,11 +211,24 @@ module _ (setup : Setup) (t : ℕ) (p : Phase) (c : Course) (l l' : Local) (f : 
         (ap (λ (g : Registry). events_by t (followed_from setup g (events (f ∷ [])))) (sym h.replica) ∙ own_followed setup l.shared.registry t f r thread entry_is a.followed)
         ∙ sym (events_in_on rows (r ∷ []))
 
+    -- the rows before are accepted as they were
+    accepted : Accepts setup l'.shared.shut t p.from c.rows l.view
+    accepted = subst (λ b. Accepts setup b t p.from c.rows l.view) (sym a.shut_is) h.accepts
+
+    -- what its base devices served is still what its rows say
+    served_more : (dev : DevId) → c.served dev ++ served_led setup t dev l (f ∷ []) ≡ p.served dev ++ served_on setup l'.shared.shut t dev p.from (c.rows ++ r ∷ [])
+    served_more dev =
+        ap (λ (xs : List ServedPiece). xs ++ served_led setup t dev l (f ∷ [])) (h.served dev)
+        ∙ append_assoc (p.served dev) (served_on setup l.shared.shut t dev p.from c.rows) (served_led setup t dev l (f ∷ []))
+        ∙ ap (λ (xs : List ServedPiece). p.served dev ++ xs)
+        (ap₂ (λ (b : Bool) (e : Entry). served_on setup b t dev p.from c.rows ++ (served_by dev l.view e.act ++ [])) (sym a.shut_is) (sym entry_is)
+        ∙ sym (served_rows_on setup l'.shared.shut t dev p.from c.rows l.view (r ∷ []) accepted))
+
     -- the course with the row
     goes_on_by : IsCourse setup t p course_more l'
     goes_on_by = record {
       accepts =
-          accepts_on setup l'.shared.shut t p.from l.view l'.view c.rows (r ∷ []) (subst (λ b. Accepts setup b t p.from c.rows l.view) (sym a.shut_is) h.accepts)
+          accepts_on setup l'.shared.shut t p.from l.view l'.view c.rows (r ∷ []) accepted
           (subst (λ b. Accepts setup b t l.view (r ∷ []) l'.view) (sym a.shut_is) a.accepts);
       carry = subst (λ (rs : List Row). AllByRecursion HasItsMessage rs) whole (all_append HasItsMessage rows (r ∷ []) h.carry a.carry);
       since = (let le : p.since ≤ c.last = h.since in omega arith);
@@ -231,6 +255,7 @@ module _ (setup : Setup) (t : ℕ) (p : Phase) (c : Course) (l l' : Local) (f : 
       replica = replica_more;
       wrote = subst (λ (rs : List Row). entries_of t (c.seen ++ events (f ∷ [])) ≡ events (entries rs)) whole wrote_more;
       followed = subst (λ (rs : List Row). events_by t (followed_from setup (registry_at_start setup) (c.seen ++ events (f ∷ []))) ≡ events_in rs) whole followed_more;
+      served = served_more;
     }
 
 -- ---- one entry
@@ -240,7 +265,7 @@ abbrev next_entry : ℕ → Course → Act → Entry
 next_entry t c act = record { stamp = c.last + 1; thread = t; act = act }
 
 -- an entry of the thread that the local rules allow
-one : (setup : Setup) (t : ℕ) (p : Phase) (c : Course) (l l' : Local) (e : Entry) → Leads setup t l (e ∷ []) l' → IsCourse setup t p c l → GoesOn setup t p c (next_entry t c e.act ∷ []) l'
+one : (setup : Setup) (t : ℕ) (p : Phase) (c : Course) (l l' : Local) (e : Entry) → Leads setup t l (e ∷ []) l' → IsCourse setup t p c l → GoesOn setup t p c (e ∷ []) l l'
 one setup t p c l l' e leads h =
     let turn = turn_is_accepted setup t l l' (e ∷ []) (next_entry t c e.act ∷ []) leads (sym leads.0, refl, positive, tt) in
     by turn.0 turn.1
@@ -248,7 +273,7 @@ one setup t p c l l' e leads h =
     positive : 0 < c.last + 1
     positive = omega arith
 
-    by : (rows : List Row) → AreRowsOf setup t l (next_entry t c e.act ∷ []) l' rows → GoesOn setup t p c (next_entry t c e.act ∷ []) l'
+    by : (rows : List Row) → AreRowsOf setup t l (next_entry t c e.act ∷ []) l' rows → GoesOn setup t p c (e ∷ []) l l'
     by [] a = (let bad : [] ≡ next_entry t c e.act ∷ [] = a.entries_are in cc)
     by (r ∷ []) a = record {
       course = course_more setup t p c l l' (next_entry t c e.act) r;
@@ -259,6 +284,7 @@ one setup t p c l l' e leads h =
         seen = refl;
         last = refl;
       };
+      served = λ dev. refl;
       is_course = goes_on_by setup t p c l l' (next_entry t c e.act) r refl refl a h;
     }
     by (r ∷ s ∷ rs) a = (let bad : r.entry ∷ s.entry ∷ entries rs ≡ next_entry t c e.act ∷ [] = a.entries_are in cc)
@@ -289,16 +315,22 @@ acts_on setup t p c l l' [] leads h = record {
     seen = sym (append-nil c.seen);
     last = omega arith;
   };
+  served = λ dev. sym (append-nil (c.served dev));
   is_course = subst (λ (x : Local). IsCourse setup t p c x) leads h;
 }
 acts_on setup t p c l l' (e ∷ es) leads h =
-    let first : GoesOn setup t p c (restamped t c.last (e.act ∷ [])) (local_after setup t l e) = one setup t p c l (local_after setup t l e) e (leads.0, leads.1, leads.2, refl) h in
+    let first : GoesOn setup t p c (e ∷ []) l (local_after setup t l e) = one setup t p c l (local_after setup t l e) e (leads.0, leads.1, leads.2, refl) h in
     let then = acts_on setup t p first.course (local_after setup t l e) l' es leads.3 first.is_course in
     record {
       course = then.course;
       longer =
           goes_further t c (record { stamp = c.last + 1; thread = t; act = e.act }) (restamped t (c.last + 1) (acts_of es)) first.course then.course first.longer
           (subst (λ (n : ℕ). IsLonger t first.course (restamped t n (acts_of es)) then.course) first.longer.last then.longer);
+      served = λ dev. (
+          then.served dev
+          ∙ ap (λ (xs : List ServedPiece). xs ++ served_led setup t dev (local_after setup t l e) es) (first.served dev)
+          ∙ append_assoc (c.served dev) (served_led setup t dev l (e ∷ [])) (served_led setup t dev (local_after setup t l e) es)
+          ∙ ap (λ (xs : List ServedPiece). c.served dev ++ (xs ++ served_led setup t dev (local_after setup t l e) es)) (append-nil (served_by dev l.view e.act)));
       is_course = then.is_course;
     }
 
@@ -324,4 +356,5 @@ any_stamp setup t p c l stamp h = record {
   replica = h.replica;
   wrote = h.wrote;
   followed = h.followed;
+  served = h.served;
 }

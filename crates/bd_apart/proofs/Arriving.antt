@@ -20,7 +20,7 @@ use Rattle.bd_apart.proofs.Lists.{left_nil, right_nil, lower_on}
 
 -- nothing was done
 pub course_begins : Begins
-course_begins setup t = record {
+course_begins setup told t = record {
   accepts = refl;
   carry = tt;
   since = omega arith;
@@ -38,6 +38,7 @@ course_begins setup t = record {
   replica = refl;
   wrote = refl;
   followed = refl;
+  served = λ dev. refl;
 }
 
 -- ---- a stamp
@@ -70,6 +71,7 @@ stamps_are_met setup t p c l last le h = record {
   replica = h.replica;
   wrote = h.wrote;
   followed = h.followed;
+  served = h.served;
 }
 
 -- ---- messages
@@ -136,4 +138,5 @@ arrivals_are_met setup t p c l posts last le within senders h = record {
   replica = h.replica;
   wrote = h.wrote;
   followed = h.followed;
+  served = h.served;
 }

@@ -1,14 +1,20 @@
--- The courses of all threads, after a Shutdown at rest, are one complete run.
-use Rattle.std.proofs.Common.{◌≡◌, ◌≢◌, ℕ, ◌<◌, ◌≤◌, Bool, true, false, cond, nat_lt, ◌⊎◌, inl, inr, List, [], ◌∷◌, ◌++◌, map, None, refl, sym, ◌∙◌, ap, ap₂, subst, append_assoc, ne_eqb, ltb-true, ltb-false, arith}
+-- The courses of all threads, after a Shutdown at rest, are one complete run, which ends where each thread saw that it ended.
+use Rattle.std.proofs.Common.{◌≡◌, ◌≢◌, ℕ, ◌<◌, ◌≤◌, Bool, true, false, cond, nat_lt, ◌⊎◌, inl, inr, List, [], ◌∷◌, ◌++◌, map, find, None, refl, sym, ◌∙◌, ap, ap₂, subst, append_assoc, ne_eqb, ltb-true, ltb-false, arith}
 use Rattle.std.specs.List.{AllByRecursion, list_all}
 use Rattle.std.proofs.lemmas.Bool.{cases_eq, lt-ltb}
+use Rattle.std.proofs.lemmas.Nat.{mod_below}
 use Rattle.bd_base.specs.declared.act.Entry.{Entry}
 use Rattle.bd_base.specs.declared.setup.Setup.{Setup}
 use Rattle.bd_machine.specs.declared.state.Owed.{Owed}
+use Rattle.bd_machine.specs.declared.state.Part.{Part}
+use Rattle.bd_machine.specs.BlockMap.{base_of, home}
+use Rattle.bd_machine.specs.Content.{Told}
+use Rattle.bd_machine.specs.Homes.{is_base}
 use Rattle.bd_machine.specs.Lines.{shutdown_at}
 use Rattle.bd_machine.specs.Rest.{is_idle_owed}
 use Rattle.bd_machine.specs.Start.{registry_at_start}
 use Rattle.bd_machine.specs.View.{View}
+use Rattle.bd_turns.specs.Laws.{view_at_start}
 use Rattle.bd_turns.specs.Local.{Local}
 use Rattle.bd_log.specs.Merge.{entries_of}
 use Rattle.bd_merged.specs.Rows.{Row, message_of, entries, Accepts}
@@ -17,9 +23,11 @@ use Rattle.bd_merged.specs.Fits.{events_in}
 use Rattle.bd_merged.specs.Laws.{AreShut, shutdown_of}
 use Rattle.bd_merged.specs.Loose.{FitLoosely}
 use Rattle.bd_merged.specs.Turning.{HasItsMessage, put_to}
-use Rattle.bd_merged.proofs.Restamped.{loose_logs_are_complete_run}
+use Rattle.bd_merged.proofs.Restamped.{loose_logs_are_complete_run, loose_logs_end_as_seen}
+use Rattle.bd_served.specs.Served.{served_on}
+use Rattle.bd_served.proofs.Restamped.{merge_serves_as_seen}
 use Rattle.bd_apart.specs.Course.{all_rows, Course, IsCourse}
-use Rattle.bd_apart.specs.Ends.{phase_after, AreDelivered, AreEnded, CoursesAreCompleteRun, IsJournalOf}
+use Rattle.bd_apart.specs.Ends.{phase_after, AreDelivered, AreEnded, BasesEndAsSeen, CoursesAreCompleteRun, CoursesEndAsSeen, CoursesServeAsSeen, IsJournalOf}
 use Rattle.bd_apart.proofs.Delivered.{absent_passed, none_passed, others_passed, own_passed, Passed}
 use Rattle.bd_apart.proofs.Journaled.{events_seen, journal_found}
 use Rattle.bd_apart.proofs.Rows.{none_followed}
@@ -32,13 +40,13 @@ within_or t n = go (nat_lt t n) refl
     go true e = inl (ltb-true t n e)
     go false e = inr (ltb-false t n e)
 
-module _ (setup : Setup) (stamp : ℕ) (firsts : ℕ → List Row) (marks : ℕ → View) (logs : ℕ → List Row) (cs : ℕ → Course) (ls : ℕ → Local) (ended : AreEnded setup stamp firsts marks logs cs ls) where
+module _ (setup : Setup) (told : Told) (stamp : ℕ) (firsts : ℕ → List Row) (marks : ℕ → View) (logs : ℕ → List Row) (cs : ℕ → Course) (ls : ℕ → Local) (ended : AreEnded setup told stamp firsts marks logs cs ls) where
   -- the rows of a thread's course, which are its log
   abbrev rows_at : ℕ → List Row
-  rows_at t = all_rows (phase_after stamp firsts marks t) (cs t)
+  rows_at t = all_rows (phase_after setup told stamp firsts marks t) (cs t)
 
   -- the course of each thread that exists
-  course : (t : ℕ) → t < setup.threads → IsCourse setup t (phase_after stamp firsts marks t) (cs t) (ls t)
+  course : (t : ℕ) → t < setup.threads → IsCourse setup t (phase_after setup told stamp firsts marks t) (cs t) (ls t)
   course t lt = ended.courses t lt
 
   -- the rows after the Shutdown
@@ -87,7 +95,7 @@ module _ (setup : Setup) (stamp : ℕ) (firsts : ℕ → List Row) (marks : ℕ 
       (subst (λ (b : Bool). Accepts setup b t (marks t) (cs t).rows (ls t).view) (ended.shut t lt) (course t lt).accepts)
 
   -- so the logs were shut down at rest, whatever the journal
-  shut : (journal : List Entry) → AreShut setup [] logs journal
+  shut : (journal : List Entry) → AreShut setup told logs journal
   shut journal = record {
     stamp = stamp;
     firsts = firsts;
@@ -148,10 +156,10 @@ module _ (setup : Setup) (stamp : ℕ) (firsts : ℕ → List Row) (marks : ℕ 
       both : s < setup.threads → t < setup.threads → (s ≡ t) ⊎ (s ≡ t → ⊥) → Passed s t (rows_at s) (rows_at t)
       both low lt (inl e) =
           subst (λ (k : ℕ). Passed k t (rows_at k) (rows_at t)) (sym e)
-          (own_passed setup t (phase_after stamp firsts marks t) (cs t) (ls t) (delivered t t lt lt).0 (course t lt) (delivered t t lt lt).1)
+          (own_passed setup t (phase_after setup told stamp firsts marks t) (cs t) (ls t) (delivered t t lt lt).0 (course t lt) (delivered t t lt lt).1)
       both low lt (inr apart) =
           let ring = delivered s t low lt in
-          others_passed setup s t (phase_after stamp firsts marks s) (phase_after stamp firsts marks t) (cs s) (cs t) (ls s) (ls t) ring.0 apart (course s low) (course t lt) ring.1
+          others_passed setup s t (phase_after setup told stamp firsts marks s) (phase_after setup told stamp firsts marks t) (cs s) (cs t) (ls s) (ls t) ring.0 apart (course s low) (course t lt) ring.1
 
       go : (s < setup.threads) ⊎ (setup.threads ≤ s) → (t < setup.threads) ⊎ (setup.threads ≤ t) → Passed s t (logs s) (logs t)
       go x (inr le) = subst (λ (rows : List Row). Passed s t (logs s) rows) (sym (ended.none_else t le)) (none_passed s t (logs s))
@@ -160,7 +168,7 @@ module _ (setup : Setup) (stamp : ℕ) (firsts : ℕ → List Row) (marks : ℕ 
           (subst (λ (rows : List Row). Passed s t (rows_at s) rows) (sym (ended.logs_are t lt)) (both low lt (cases_eq s t)))
       go (inr high) (inl lt) =
           subst (λ (rows : List Row). Passed s t rows (logs t)) (sym (ended.none_else s high))
-          (subst (λ (rows : List Row). Passed s t [] rows) (sym (ended.logs_are t lt)) (absent_passed setup s t (phase_after stamp firsts marks t) (cs t) (ls t) high lt (course t lt)))
+          (subst (λ (rows : List Row). Passed s t [] rows) (sym (ended.logs_are t lt)) (absent_passed setup s t (phase_after setup told stamp firsts marks t) (cs t) (ls t) high lt (course t lt)))
 
   -- the journal's rows of each thread are the events of its log
   journal_all : (journal : List Entry) → IsJournalOf setup logs cs journal → (t : ℕ) → entries_of t journal ≡ events (entries (logs t))
@@ -197,5 +205,25 @@ module _ (setup : Setup) (stamp : ℕ) (firsts : ℕ → List Row) (marks : ℕ 
 
 -- **Courses are a complete run**: the merge of the logs of all threads, each on its course to its end, is a complete run
 pub courses_are_complete_run : CoursesAreCompleteRun
-courses_are_complete_run setup stamp firsts marks logs cs ls journal merged ended delivered j merge =
-    loose_logs_are_complete_run setup [] logs journal merged (shut setup stamp firsts marks logs cs ls ended journal) (fits setup stamp firsts marks logs cs ls ended delivered journal j) merge
+courses_are_complete_run setup told stamp firsts marks logs cs ls journal merged ended delivered j merge =
+    loose_logs_are_complete_run setup told logs journal merged (shut setup told stamp firsts marks logs cs ls ended journal) (fits setup told stamp firsts marks logs cs ls ended delivered journal j) merge
+
+-- **Courses end as seen**: the state that the merge leaves has for each thread what the thread saw at its end
+pub courses_end_as_seen : CoursesEndAsSeen
+unfolding shut
+courses_end_as_seen setup told stamp firsts marks logs cs ls journal merged ended delivered j merge =
+    loose_logs_end_as_seen setup told logs journal merged (shut setup told stamp firsts marks logs cs ls ended journal) (fits setup told stamp firsts marks logs cs ls ended delivered journal j) merge
+
+-- each base device's home exists, so this is so of what it has of the device
+pub bases_end_as_seen : BasesEndAsSeen
+bases_end_as_seen setup told stamp firsts marks logs cs ls journal merged ended delivered j merge dev =
+    ap (λ (p : Part). find (is_base dev) p.bases)
+    (courses_end_as_seen setup told stamp firsts marks logs cs ls journal merged ended delivered j merge (home setup dev) (mod_below (base_of setup dev).0 setup.threads ended.some)).part
+
+-- **Courses serve as seen**: what a thread served in the merge is what it served before the Shutdown and after it, which its course has
+pub courses_serve_as_seen : CoursesServeAsSeen
+unfolding shut
+courses_serve_as_seen setup told stamp firsts marks logs cs ls journal merged ended delivered j merge t dev lt =
+    merge_serves_as_seen setup told logs journal merged (shut setup told stamp firsts marks logs cs ls ended journal) (fits setup told stamp firsts marks logs cs ls ended delivered journal j) merge t dev lt
+    ∙ ap₂ (λ (b c : Bool). served_on setup false t dev (view_at_start setup told t) (firsts t) ++ served_on setup b t dev (marks t) (cond c (cs t).rows [])) (sym (ended.shut t lt)) (lt-ltb t setup.threads lt)
+    ∙ sym ((ended.courses t lt).served dev)

@@ -93,4 +93,5 @@ others_are_followed setup t p c l added sees none h = record {
   replica = refl;
   wrote = own_same setup t p c l added sees none h ∙ h.wrote;
   followed = events_same setup t p c l added sees none h;
+  served = h.served;
 }

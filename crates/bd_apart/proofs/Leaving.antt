@@ -68,4 +68,5 @@ departures_are_stamped setup t p c l posts queues none same goes h = record {
   replica = h.replica;
   wrote = h.wrote;
   followed = h.followed;
+  served = h.served;
 }

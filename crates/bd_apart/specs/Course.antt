@@ -4,6 +4,7 @@ use Rattle.std.specs.List.{AllByRecursion}
 use Rattle.bd_base.specs.declared.act.Act.{Act}
 use Rattle.bd_base.specs.declared.act.Act.TheVariants as acts
 use Rattle.bd_base.specs.declared.act.Entry.{Entry}
+use Rattle.bd_base.specs.declared.id.DevId.{DevId}
 use Rattle.bd_base.specs.declared.setup.Setup.{Setup}
 use Rattle.bd_machine.specs.Start.{registry_at_start}
 use Rattle.bd_machine.specs.View.{View}
@@ -16,6 +17,7 @@ use Rattle.bd_merged.specs.Journals.{events, events_by, followed_from, registry_
 use Rattle.bd_merged.specs.Fits.{events_in}
 use Rattle.bd_merged.specs.Loose.{put_stamps, AreLower}
 use Rattle.bd_merged.specs.Turning.{HasItsMessage, put_to, took_all}
+use Rattle.bd_served.specs.Served.{served_on, ServedPiece}
 
 -- ---- entries with the log's stamps
 
@@ -32,19 +34,22 @@ restamped thread last (act ∷ acts) = record { stamp = last + 1; thread = threa
 
 -- ---- what was done
 
--- a thread's course has two phases, before and after the Shutdown: the rows before this one, what the thread saw when it began, and a stamp below those of its rows
+-- a thread's course has two phases, before and after the Shutdown: the rows before this one, the pieces that each of its base devices served until then, what the thread saw when the phase began, and a stamp below those of its rows
 pub record Phase : Type 0 where
   pub earlier : List Row
+  pub served : DevId → List ServedPiece
   pub from : View
   pub since : ℕ
 
--- the rows of the phase; all messages that came into the thread's queue, each with its stamp (one that the thread put to itself has its entry's); of those, the ones taken from its ring; what was put into the ring to each thread; the rows of the journal that its registry followed; and the last stamp
+-- the rows of the phase; all messages that came into the thread's queue, each with its stamp (one that the thread put to itself has its entry's); of those, the ones taken from its ring; what was put into the ring to each thread
+-- the rows of the journal that its registry followed; the pieces that each of its base devices served since the start; and the last stamp
 pub record Course : Type 0 where
   pub rows : List Row
   pub arrived : List Post
   pub taken : List Post
   pub sent : ℕ → List Post
   pub seen : List Entry
+  pub served : DevId → List ServedPiece
   pub last : ℕ
 
 -- the rows of both phases
@@ -98,3 +103,5 @@ pub record IsCourse (setup : Setup) (t : ℕ) (p : Phase) (c : Course) (l : Loca
   pub replica : l.shared.registry ≡ registry_by setup (registry_at_start setup) c.seen
   pub wrote : entries_of t c.seen ≡ events (entries (all_rows p c))
   pub followed : events_by t (followed_from setup (registry_at_start setup) c.seen) ≡ events_in (all_rows p c)
+  -- what its base devices served is what they served until the phase began, and then what its rows say
+  pub served : (dev : DevId) → c.served dev ≡ p.served dev ++ served_on setup l.shared.shut t dev p.from c.rows

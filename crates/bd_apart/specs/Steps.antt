@@ -2,8 +2,10 @@
 use Rattle.std.specs.Prelude.{◌≡◌, ◌≢◌, ℕ, ◌+◌, ◌<◌, ◌≤◌, ◌==◌, true, cond, List, [], ◌∷◌, ◌++◌, filter, length, map}
 use Rattle.std.specs.List.{AllByRecursion}
 use Rattle.bd_base.specs.declared.act.Entry.{Entry}
+use Rattle.bd_base.specs.declared.id.DevId.{DevId}
 use Rattle.bd_base.specs.declared.setup.Setup.{Setup}
 use Rattle.bd_machine.specs.declared.state.Registry.{Registry}
+use Rattle.bd_machine.specs.Content.{Told}
 use Rattle.bd_machine.specs.Lines.{shutdown_at}
 use Rattle.bd_machine.specs.Registry.{references}
 use Rattle.bd_machine.specs.Start.{registry_at_start}
@@ -16,23 +18,24 @@ use Rattle.bd_log.specs.Merge.{entries_of}
 use Rattle.bd_merged.specs.Rows.{message_of, entries}
 use Rattle.bd_merged.specs.Journals.{events, registry_by}
 use Rattle.bd_merged.specs.Laws.{shutdown_of}
+use Rattle.bd_served.specs.Served.{served_led}
 use Rattle.bd_apart.specs.Course.{acts_of, all_rows, restamped, Course, IsCourse, Phase}
 
 -- ---- the start
 
 -- before the Shutdown, from the start
-abbrev pub first_phase : Setup → ℕ → Phase
-first_phase setup t = record { earlier = []; from = view_at_start setup [] t; since = 0 }
+abbrev pub first_phase : Setup → Told → ℕ → Phase
+first_phase setup told t = record { earlier = []; served = λ dev. []; from = view_at_start setup told t; since = 0 }
 
 abbrev pub new_course : Course
-new_course = record { rows = []; arrived = []; taken = []; sent = λ r. []; seen = []; last = 0 }
+new_course = record { rows = []; arrived = []; taken = []; sent = λ r. []; seen = []; served = λ dev. []; last = 0 }
 
 -- what a thread sees and has for itself before any entry
-abbrev pub local_at_start : Setup → ℕ → Local
-local_at_start setup t = record { view = view_at_start setup [] t; shared = shared_at_start setup }
+abbrev pub local_at_start : Setup → Told → ℕ → Local
+local_at_start setup told t = record { view = view_at_start setup told t; shared = shared_at_start setup }
 
 abbrev pub Begins : Type 0
-Begins = (setup : Setup) (t : ℕ) → IsCourse setup t (first_phase setup t) new_course (local_at_start setup t)
+Begins = (setup : Setup) (told : Told) (t : ℕ) → IsCourse setup t (first_phase setup told t) new_course (local_at_start setup told t)
 
 -- ---- messages come
 
@@ -66,14 +69,16 @@ pub record IsLonger (t : ℕ) (c : Course) (added : List Entry) (c' : Course) : 
   pub seen : c'.seen ≡ c.seen ++ events added
   pub last : c'.last ≡ c.last + length added
 
-pub record GoesOn (setup : Setup) (t : ℕ) (p : Phase) (c : Course) (added : List Entry) (l : Local) : Type 0 where
+-- entries of the thread led from the one to the other; in the course they have its log's next stamps
+pub record GoesOn (setup : Setup) (t : ℕ) (p : Phase) (c : Course) (es : List Entry) (l l' : Local) : Type 0 where
   pub course : Course
-  pub longer : IsLonger t c added course
-  pub is_course : IsCourse setup t p course l
+  pub longer : IsLonger t c (restamped t c.last (acts_of es)) course
+  pub served : (dev : DevId) → course.served dev ≡ c.served dev ++ served_led setup t dev l es
+  pub is_course : IsCourse setup t p course l'
 
 -- what the thread did by the local rules, with its log's next stamps
 abbrev pub ActsOn : Type 0
-ActsOn = (setup : Setup) (t : ℕ) (p : Phase) (c : Course) (l l' : Local) (es : List Entry) → Leads setup t l es l' → IsCourse setup t p c l → GoesOn setup t p c (restamped t c.last (acts_of es)) l'
+ActsOn = (setup : Setup) (t : ℕ) (p : Phase) (c : Course) (l l' : Local) (es : List Entry) → Leads setup t l es l' → IsCourse setup t p c l → GoesOn setup t p c es l l'
 
 -- the stamp of the last entry doesn't matter
 abbrev pub AnyStamp : Type 0
@@ -117,7 +122,7 @@ CatchesUp = (setup : Setup) (t : ℕ) (p : Phase) (c : Course) (l : Local) (adde
 
 -- after the Shutdown with this stamp
 abbrev pub second_phase : ℕ → ℕ → Phase → Course → Local → Phase
-second_phase stamp t p c l = record { earlier = all_rows p c ++ shutdown_of stamp t; from = l.view; since = stamp }
+second_phase stamp t p c l = record { earlier = all_rows p c ++ shutdown_of stamp t; served = c.served; from = l.view; since = stamp }
 
 abbrev pub course_then : ℕ → ℕ → Course → Course
 course_then stamp t c = record c { rows = []; seen = cond (t == 0) (c.seen ++ shutdown_at stamp ∷ []) c.seen; last = stamp }

@@ -1,6 +1,6 @@
 //! The laws of courses. Each function says one of them: its body is empty, and its clause is the law,
 //! which the definitions alone prove.
-ghost use Rattle.bd_apart.specs.Ends.{CoursesAreCompleteRun};
+ghost use Rattle.bd_apart.specs.Ends.{BasesEndAsSeen, CoursesAreCompleteRun, CoursesEndAsSeen, CoursesServeAsSeen};
 ghost use Rattle.bd_apart.specs.Steps.{ActsOn, AnyStamp, Arrives, Begins, CatchesUp, GoesOut, Meets, ShutsDown};
 
 /// A thread begins with an empty course.
@@ -46,4 +46,19 @@ pub fn shutdown_begins_a_phase()
 /// The courses of all threads, after a Shutdown at rest, are one complete run when their logs are merged.
 pub fn courses_are_complete_run()
     ensures { CoursesAreCompleteRun }
+{}
+
+/// The state that their merge leaves has for each thread what the thread saw at its end.
+pub fn courses_end_as_seen()
+    ensures { CoursesEndAsSeen }
+{}
+
+/// So what it has of a base device at the device's home, with its content, is what that thread saw of it.
+pub fn bases_end_as_seen()
+    ensures { BasesEndAsSeen }
+{}
+
+/// The pieces that a thread's base devices served in it are those of the thread's course.
+pub fn courses_serve_as_seen()
+    ensures { CoursesServeAsSeen }
 {}

@@ -1,4 +1,4 @@
--- Logs that fit and were shut down at rest are merged into a complete run.
+-- Logs that fit and were shut down at rest are merged into a complete run, which ends where each thread saw that it ended.
 use Rattle.std.proofs.Common.{◌≡◌, ℕ, ◌+◌, ◌<◌, ◌≤◌, Bool, true, false, cond, ◌&&◌, ◌||◌, ◌==◌, nat_lt, ◌⊎◌, inl, inr, List, [], ◌∷◌, ◌++◌, filter, None, refl, sym, ◌∙◌, ap, ap₂, subst, eq-eqb, ne_eqb, arith, append-nil}
 use Rattle.std.specs.List.{AllByRecursion, list_any}
 use Rattle.std.proofs.lemmas.Bool.{cases_eq, cases_lt, lt-ltb, le-ltb, ltb-true}
@@ -15,11 +15,11 @@ use Rattle.bd_machine.specs.declared.state.State.{State}
 use Rattle.bd_machine.specs.Content.{Told}
 use Rattle.bd_machine.specs.Messages.{count_at}
 use Rattle.bd_machine.specs.Rest.{is_nothing_owed}
-use Rattle.bd_machine.specs.Run.{IsRunFrom, IsCompleteRun, after_all, is_finished}
+use Rattle.bd_machine.specs.Run.{IsRunFrom, IsCompleteRun, after_all, is_finished, state_after}
 use Rattle.bd_machine.specs.Start.{start, registry_at_start}
 use Rattle.bd_machine.specs.Users.{dev_of}
 use Rattle.bd_machine.specs.Step.{after}
-use Rattle.bd_machine.specs.View.{View, part_of, blank_part}
+use Rattle.bd_machine.specs.View.{View, part_of, blank_part, view}
 use Rattle.bd_turns.specs.declared.queue.Message.{Message}
 use Rattle.bd_machine.specs.Lines.{shutdown_at}
 use Rattle.bd_turns.specs.Laws.{view_at_start, shared_at_start, is_left_open_in, is_resting_here, AreAtRest, AreDone, IsShut}
@@ -32,7 +32,7 @@ use Rattle.bd_turns.specs.declared.queue.Post.{Post}
 use Rattle.bd_merged.specs.Rows.{Row, entries, Accepts}
 use Rattle.bd_merged.specs.Journals.{before, registry_by, events}
 use Rattle.bd_merged.specs.Fits.{FindsAt, sent, taken, Fits, IsMergeOf}
-use Rattle.bd_merged.specs.Laws.{AreAllTaken, AreQuiet, AreSpent, shutdown_of, AreShut, LogsAreCompleteRun}
+use Rattle.bd_merged.specs.Laws.{AreAllTaken, AreQuiet, AreSpent, shutdown_of, AreShut, IsSeenAs, LogsAreCompleteRun, LogsEndAsSeen}
 use Rattle.bd_merged.proofs.Parts.{Before, Ordered, one_merge, filter_ordered, filter_filter}
 use Rattle.bd_merged.proofs.Meeting.{Meets, thread_of, part, taken_next, sent_next, if_none}
 use Rattle.bd_merged.proofs.Journal.{true_before, finds_next, registry_at}
@@ -359,5 +359,24 @@ module _ (setup : Setup) (told : Told) (logs : ℕ → List Row) (journal merged
         ap (is_finished setup) (after_on setup (start setup told) (entries sides.before_it) (shutdown_at sh.stamp ∷ entries sides.after_it)) ∙ finished,
       )
 
+  -- the merge leaves the state after the rows on both sides, which shows each thread what it saw at its end
+  pub end_is_seen : (t : ℕ) → t < setup.threads → view (state_after setup told merged) t ≡ sh.ends t
+  end_is_seen t lt =
+      subst (λ (es : List Entry). view (state_after setup told es) t ≡ sh.ends t) entries_are (
+      ap (λ (s : State). view s t) (after_on setup (start setup told) (entries sides.before_it) (shutdown_at sh.stamp ∷ entries sides.after_it))
+      ∙ late.playable.tied.views_are t lt ∙ late.playable.accepts t lt)
+
 pub logs_are_complete_run : LogsAreCompleteRun
 logs_are_complete_run setup told logs journal merged sh fits merge = complete setup told logs journal merged sh fits merge
+
+-- a state that shows a thread this view has for it what the view has
+seen_as : (s : State) (t : ℕ) (v : View) → view s t ≡ v → IsSeenAs s t v
+seen_as s t v e = record {
+  part = ap (λ (w : View). w.part) e;
+  here = λ id. ap (λ (w : View). w.here id) e;
+  handles = ap (λ (w : View). w.handles) e;
+  channels = λ dev. ap (λ (w : View). w.channels dev) e;
+}
+
+pub logs_end_as_seen : LogsEndAsSeen
+logs_end_as_seen setup told logs journal merged sh fits merge t lt = seen_as (state_after setup told merged) t (sh.ends t) (end_is_seen setup told logs journal merged sh fits merge t lt)

@@ -1,5 +1,5 @@
 -- Rows with the stamps that their messages' Puts have: they are accepted as the rows are, and they fit by message and stamp.
-use Rattle.std.proofs.Common.{◌≡◌, ℕ, ◌<◌, ◌≤◌, Bool, true, false, cond, ◌==◌, nat_lt, ◌⊎◌, inl, inr, List, [], ◌∷◌, ◌++◌, drop, map, Option, Some, None, refl, sym, ◌∙◌, ap, ap₂, subst, append_assoc, eq-eqb, eqb-true, ne_eqb, ltb-true, ltb-false, arith}
+use Rattle.std.proofs.Common.{◌≡◌, ℕ, ◌<◌, ◌≤◌, Bool, true, false, cond, ◌==◌, nat_lt, ◌⊎◌, inl, inr, List, [], ◌∷◌, ◌++◌, drop, map, Option, Some, None, refl, sym, ◌∙◌, ap, subst, eq-eqb, eqb-true, ne_eqb, ltb-true, ltb-false}
 use Rattle.std.specs.List.{AllByRecursion}
 use Rattle.std.proofs.lemmas.Bool.{cases_eq}
 use Rattle.std.proofs.lemmas.List.{map-append}
@@ -9,24 +9,23 @@ use Rattle.bd_base.specs.declared.act.Entry.{Entry}
 use Rattle.bd_base.specs.declared.setup.Setup.{Setup}
 use Rattle.bd_machine.specs.declared.guard.TheConstants.{UNBUILT, IN_ORDER}
 use Rattle.bd_machine.specs.declared.state.Between.{Between}
-use Rattle.bd_machine.specs.declared.state.Registry.{Registry}
 use Rattle.bd_machine.specs.Alone.{view_by}
 use Rattle.bd_machine.specs.Content.{Told}
 use Rattle.bd_machine.specs.Guards.{guards, change, is_built}
 use Rattle.bd_machine.specs.Lines.{shutdown_at}
 use Rattle.bd_machine.specs.Start.{registry_at_start}
-use Rattle.bd_machine.specs.Step.{first_failing, is_shutdown}
-use Rattle.bd_machine.specs.View.{View, Came, asked}
+use Rattle.bd_machine.specs.Step.{first_failing}
+use Rattle.bd_machine.specs.View.{View, asked}
 use Rattle.bd_turns.specs.declared.queue.Message.{Message}
 use Rattle.bd_turns.specs.declared.queue.Post.{Post}
 use Rattle.bd_turns.specs.Laws.{view_at_start}
-use Rattle.bd_merged.specs.Rows.{Row, entry_of, entries, posts, message_of, messages, came_with, view_after, CarriesBy, Accepts}
+use Rattle.bd_merged.specs.Rows.{Row, entries, posts, message_of, came_with, view_after, CarriesBy, Accepts}
 use Rattle.bd_merged.specs.Journals.{IsBetweenIfAny, events, before, registry_by}
-use Rattle.bd_merged.specs.Fits.{Fits, FindsAt, GoesWithin, IsMergeOf, IsPrefixOf, IsStamped, IsStampedBy, sent, taken, sent_in, taken_in}
+use Rattle.bd_merged.specs.Fits.{Fits, GoesWithin, IsMergeOf, IsStamped, IsStampedBy, sent, taken, sent_in, taken_in}
 use Rattle.bd_merged.specs.Laws.{AreShut, shutdown_of}
 use Rattle.bd_merged.specs.Turning.{CarriesOne, HasItsMessage, put_to, took_from}
-use Rattle.bd_merged.specs.Loose.{AreLower, FitLoosely, LooseLogsAreCompleteRun, put_stamp, put_stamps, took_stamp, took_stamps}
-use Rattle.bd_merged.proofs.Complete.{logs_are_complete_run}
+use Rattle.bd_merged.specs.Loose.{AreLower, FitLoosely, LooseLogsAreCompleteRun, LooseLogsEndAsSeen, put_stamp, put_stamps, took_stamp, took_stamps}
+use Rattle.bd_merged.proofs.Complete.{logs_are_complete_run, logs_end_as_seen}
 
 -- ---- restamped rows
 
@@ -276,4 +275,10 @@ module _ (setup : Setup) (told : Told) (logs : ℕ → List Row) (journal merged
 pub loose_logs_are_complete_run : LooseLogsAreCompleteRun
 loose_logs_are_complete_run setup told logs journal merged sh fit merge =
     logs_are_complete_run setup told (λ t. restamped (λ s. put_stamps t (logs s)) (logs t)) journal merged (shut setup told logs journal merged sh fit merge) (fits setup told logs journal merged sh fit merge)
+    (merge_same setup told logs journal merged sh fit merge)
+
+pub loose_logs_end_as_seen : LooseLogsEndAsSeen
+unfolding shut
+loose_logs_end_as_seen setup told logs journal merged sh fit merge =
+    logs_end_as_seen setup told (λ t. restamped (λ s. put_stamps t (logs s)) (logs t)) journal merged (shut setup told logs journal merged sh fit merge) (fits setup told logs journal merged sh fit merge)
     (merge_same setup told logs journal merged sh fit merge)

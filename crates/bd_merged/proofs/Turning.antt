@@ -1,37 +1,31 @@
 -- What a thread does by the local rules over its own queues and registry are rows that are accepted: entry by entry.
-use Rattle.std.proofs.Common.{◌≡◌, ◌≢◌, ℕ, ◌+◌, ◌<◌, Bool, true, false, cond, ◌||◌, ◌==◌, nat_lt, ◌⊎◌, inl, inr, List, [], ◌∷◌, ◌++◌, drop, map, Option, Some, None, is_some, option_and_then, refl, sym, ◌∙◌, ap, ap₂, subst, append_assoc, append-nil, eq-eqb, eqb-true, ne_eqb, lt-ltb, arith}
-use Rattle.std.specs.List.{AllByRecursion}
+use Rattle.std.proofs.Common.{◌≡◌, ◌≢◌, ℕ, ◌<◌, Bool, true, false, cond, ◌||◌, ◌==◌, nat_lt, ◌⊎◌, inl, inr, List, [], ◌∷◌, ◌++◌, drop, map, Option, Some, None, option_and_then, refl, sym, ◌∙◌, ap, ap₂, subst, append_assoc, append-nil, eq-eqb, ne_eqb, lt-ltb}
 use Rattle.std.proofs.lemmas.Bool.{and_parts, cases_eq}
 use Rattle.std.proofs.lemmas.List.{map-append}
 use Rattle.bd_base.specs.declared.act.Act.{Act}
 use Rattle.bd_base.specs.declared.act.Act.TheVariants as acts
 use Rattle.bd_base.specs.declared.act.Entry.{Entry}
 use Rattle.bd_base.specs.declared.act.Token.{Token}
-use Rattle.bd_base.specs.declared.event.Answer.{Answer}
-use Rattle.bd_base.specs.declared.event.RegEvent.{RegEvent}
 use Rattle.bd_base.specs.declared.setup.Setup.{Setup}
 use Rattle.bd_machine.specs.declared.guard.TheConstants.{UNBUILT, IN_ORDER}
-use Rattle.bd_machine.specs.declared.state.Between.{Between}
 use Rattle.bd_machine.specs.declared.state.Registry.{Registry}
 use Rattle.bd_machine.specs.Guards.{guards, change, is_built}
 use Rattle.bd_machine.specs.Messages.{count_at, brings}
 use Rattle.bd_machine.specs.Registry.{Question, answer_to}
-use Rattle.bd_machine.specs.Same.{same_answer}
-use Rattle.bd_machine.specs.Step.{first_failing, is_shutdown}
+use Rattle.bd_machine.specs.Step.{is_shutdown}
 use Rattle.bd_machine.specs.View.{View, Came, Change, Move, Taking, took, asked}
 use Rattle.bd_machine.proofs.Acts.{Passes, passed}
 use Rattle.bd_turns.specs.declared.queue.Message.{Message}
 use Rattle.bd_turns.specs.declared.queue.Post.{Post}
-use Rattle.bd_turns.specs.Local.{Local, Leads, Shared, first_of, sent_by, came_local, change_local, refusal_local, queue_after, carried_local, local_after}
+use Rattle.bd_turns.specs.Local.{Local, first_of, sent_by, came_local, change_local, refusal_local, queue_after, carried_local, local_after}
 use Rattle.bd_turns.proofs.Allowed.{all_pass}
 use Rattle.bd_turns.proofs.Effects.{Sends, brings_some, sends}
 use Rattle.bd_turns.proofs.Queues.{First, first_is}
-use Rattle.bd_merged.specs.Rows.{Row, entry_of, entries, posts, message_of, messages, came_by, change_by, refusal_by, view_after, CarriesBy, Carries, Accepts}
+use Rattle.bd_merged.specs.Rows.{Row, posts, message_of, messages, came_by, refusal_by, view_after, CarriesBy, Carries, Accepts}
 use Rattle.bd_merged.specs.Journals.{IsAnswered, IsReplay, IsBetweenIfAny, between_for, followed_from, registry_by, registry_next}
-use Rattle.bd_merged.specs.Fits.{Finds, event_of, sent_in, taken_in, sent}
-use Rattle.bd_merged.specs.Turning.{put_to, took_in, took_all, CarriesOne, HasItsMessage, AreRestamped, AreRowsOf, TurnIsAccepted}
+use Rattle.bd_merged.specs.Fits.{sent_in, sent}
+use Rattle.bd_merged.specs.Turning.{put_to, took_in, took_all, CarriesOne, AreRowsOf, TurnIsAccepted}
 use Rattle.bd_merged.proofs.Exact.{answer_exact}
-use Rattle.bd_merged.proofs.Meeting.{Kind, Puts, Tooks, Neither, kind_of}
 use Rattle.bd_merged.proofs.Step.{came_is}
 
 -- ---- the row of an entry

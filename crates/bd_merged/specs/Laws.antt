@@ -6,14 +6,15 @@ use Rattle.bd_base.specs.declared.id.DevId.{DevId}
 use Rattle.bd_base.specs.declared.setup.Setup.{Setup}
 use Rattle.bd_machine.specs.declared.state.Id.{Id}
 use Rattle.bd_machine.specs.declared.state.Registry.{Registry}
+use Rattle.bd_machine.specs.declared.state.State.{State}
 use Rattle.bd_machine.specs.Content.{Told}
 use Rattle.bd_machine.specs.Lines.{shutdown_at}
 use Rattle.bd_machine.specs.Messages.{count_at}
 use Rattle.bd_machine.specs.Registry.{references}
 use Rattle.bd_machine.specs.Rest.{is_nothing_owed}
-use Rattle.bd_machine.specs.Run.{IsRun, IsCompleteRun}
+use Rattle.bd_machine.specs.Run.{IsRun, IsCompleteRun, state_after}
 use Rattle.bd_machine.specs.Start.{registry_at_start}
-use Rattle.bd_machine.specs.View.{View, is_of}
+use Rattle.bd_machine.specs.View.{View, is_of, part_of, view}
 use Rattle.bd_turns.specs.Laws.{view_at_start, is_left_open_in, is_resting_here, AreBlocked, AreDestructed}
 use Rattle.bd_log.specs.Merge.{Part, Rises, IsOrdered, entries_of, IsMerge}
 use Rattle.bd_merged.specs.Rows.{Row, entries, Accepts}
@@ -84,6 +85,20 @@ pub record AreShut (setup : Setup) (told : Told) (logs : ℕ → List Row) (jour
 abbrev pub LogsAreCompleteRun : Type 0
 LogsAreCompleteRun = (setup : Setup) (told : Told) (logs : ℕ → List Row) (journal merged : List Entry)
     → AreShut setup told logs journal → Fits setup (registry_at_start setup) logs journal → IsMergeOf logs merged → IsCompleteRun setup told merged
+
+-- ---- where a complete run ends
+
+-- the state has for this thread what it saw: its part, what is kept of each token that is on it, its handles, and its references to each device
+pub record IsSeenAs (s : State) (t : ℕ) (v : View) : Type 0 where
+  pub part : part_of s t ≡ v.part
+  pub here : (id : Id) → (view s t).here id ≡ v.here id
+  pub handles : (view s t).handles ≡ v.handles
+  pub channels : (dev : DevId) → (view s t).channels dev ≡ v.channels dev
+
+-- the state that the merge of such logs leaves has for each thread what the thread saw at its end
+abbrev pub LogsEndAsSeen : Type 0
+LogsEndAsSeen = (setup : Setup) (told : Told) (logs : ℕ → List Row) (journal merged : List Entry) (sh : AreShut setup told logs journal) → Fits setup (registry_at_start setup) logs journal → IsMergeOf logs merged
+    → (t : ℕ) → t < setup.threads → IsSeenAs (state_after setup told merged) t (sh.ends t)
 
 -- ---- what had to follow in the registry
 

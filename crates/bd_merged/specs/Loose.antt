@@ -7,13 +7,13 @@ use Rattle.bd_base.specs.declared.act.Entry.{Entry}
 use Rattle.bd_base.specs.declared.setup.Setup.{Setup}
 use Rattle.bd_machine.specs.declared.state.Registry.{Registry}
 use Rattle.bd_machine.specs.Content.{Told}
-use Rattle.bd_machine.specs.Run.{IsCompleteRun}
+use Rattle.bd_machine.specs.Run.{IsCompleteRun, state_after}
 use Rattle.bd_machine.specs.Start.{registry_at_start}
 use Rattle.bd_log.specs.Merge.{IsOrdered, entries_of}
 use Rattle.bd_merged.specs.Rows.{Row, entries}
 use Rattle.bd_merged.specs.Journals.{events, IsReplay}
 use Rattle.bd_merged.specs.Fits.{FindsAt, IsMergeOf, IsPrefixOf}
-use Rattle.bd_merged.specs.Laws.{AreShut}
+use Rattle.bd_merged.specs.Laws.{AreShut, IsSeenAs}
 use Rattle.bd_merged.specs.Turning.{HasItsMessage, put_to, took_from}
 
 -- ---- stamps
@@ -63,3 +63,8 @@ pub record FitLoosely (setup : Setup) (registry : Registry) (logs : ℕ → List
 abbrev pub LooseLogsAreCompleteRun : Type 0
 LooseLogsAreCompleteRun = (setup : Setup) (told : Told) (logs : ℕ → List Row) (journal merged : List Entry)
     → AreShut setup told logs journal → FitLoosely setup (registry_at_start setup) logs journal → IsMergeOf logs merged → IsCompleteRun setup told merged
+
+-- the state that their merge leaves has for each thread what the thread saw at its end
+abbrev pub LooseLogsEndAsSeen : Type 0
+LooseLogsEndAsSeen = (setup : Setup) (told : Told) (logs : ℕ → List Row) (journal merged : List Entry) (sh : AreShut setup told logs journal) → FitLoosely setup (registry_at_start setup) logs journal → IsMergeOf logs merged
+    → (t : ℕ) → t < setup.threads → IsSeenAs (state_after setup told merged) t (sh.ends t)

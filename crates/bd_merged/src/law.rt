@@ -1,7 +1,7 @@
 //! The laws of logs. Each function says one of them: its body is empty, and its clause is the law,
 //! which the definitions alone prove.
-ghost use Rattle.bd_merged.specs.Laws.{FollowedIsFound, LogsAreCompleteRun, LogsAreRun, LogsGiveOwn, MergeOfParts, OthersLeaveOwn, OwnIsFound};
-ghost use Rattle.bd_merged.specs.Loose.{LooseLogsAreCompleteRun};
+ghost use Rattle.bd_merged.specs.Laws.{FollowedIsFound, LogsAreCompleteRun, LogsAreRun, LogsEndAsSeen, LogsGiveOwn, MergeOfParts, OthersLeaveOwn, OwnIsFound};
+ghost use Rattle.bd_merged.specs.Loose.{LooseLogsAreCompleteRun, LooseLogsEndAsSeen};
 ghost use Rattle.bd_merged.specs.Turning.{TurnIsAccepted};
 
 /// Logs that the rules accept and that fit together are merged into a run.
@@ -13,6 +13,11 @@ pub fn logs_are_run()
 /// end, and that fit together, are merged into a complete run.
 pub fn logs_are_complete_run()
     ensures { LogsAreCompleteRun }
+{}
+
+/// The state that the merge of such logs leaves has for each thread what the thread saw at its end.
+pub fn logs_end_as_seen()
+    ensures { LogsEndAsSeen }
 {}
 
 /// Where each row of the registry's journal names what had to follow in the registry when it was
@@ -55,4 +60,9 @@ pub fn turn_is_accepted()
 /// knows the stamp of the Put whose message it took.
 pub fn loose_logs_are_complete_run()
     ensures { LooseLogsAreCompleteRun }
+{}
+
+/// The state that their merge leaves has for each thread what the thread saw at its end.
+pub fn loose_logs_end_as_seen()
+    ensures { LooseLogsEndAsSeen }
 {}

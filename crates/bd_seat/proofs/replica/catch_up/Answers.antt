@@ -1,4 +1,4 @@
-use Rattle.std.proofs.Common.{List, drop, ap, refl, subst, sym, ◌∙◌}
+use Rattle.std.proofs.Common.{List, drop, ap, subst, sym, ◌∙◌}
 use Rattle.std.proofs.lemmas.Result.{on_ok_weaker}
 use Rattle.bd_base.specs.declared.act.Entry.{Entry}
 use Rattle.bd_machine.specs.declared.state.Registry.{Registry}
