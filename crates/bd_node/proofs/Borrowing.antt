@@ -6,16 +6,17 @@ use Rattle.bd_base.specs.declared.id.DevId.{DevId}
 use Rattle.bd_base.specs.declared.setup.Setup.{Setup}
 use Rattle.bd_log.specs.Merge.{entries_of}
 use Rattle.bd_registry.specs.State.{Registered, start_of}
-use Rattle.bd_ring.specs.SlotRule.{StartsWith, rows_of}
+use Rattle.bd_ring.specs.SlotRule.{AddsOwn, StartsWith, rows_of}
 use Rattle.bd_ring.specs.Slots.{Holder, after_give, after_take, IsTakenBy}
 use Rattle.bd_apart.specs.Course.{Course, Phase}
 use Rattle.bd_turns.specs.declared.queue.Post.{Post}
+use Rattle.bd_storage.specs.Contents.{contents_of}
 use Rattle.bd_wires.specs.declared.wires.Wires.{Wires}
 use Rattle.bd_node.specs.declared.seat.Seat.{Seat}
 use Rattle.bd_node.specs.declared.worker.Worker.{Worker}
 use Rattle.bd_outside.specs.Disk.{DiskState}
-use Rattle.bd_node.specs.Disks.{KeepsDone}
 use Rattle.bd_node.specs.Seats.{Continues, GoesAlone, GoesWith, IsLent, IsLentTo, IsSeat, IsSitting, IsWorking, Sits, WentAlone, WentWith}
+use Rattle.bd_node.proofs.Disks.{done_further}
 
 -- ---- without the registry
 
@@ -23,18 +24,16 @@ use Rattle.bd_node.specs.Seats.{Continues, GoesAlone, GoesWith, IsLent, IsLentTo
 abbrev with_worker : {D : Type 0} → Seat D → Worker → List (DevId × D) → Seat D
 with_worker s worker disks = record s { worker = worker; disks = disks }
 
-pub alone : {D : Type 0} → (state : D → DiskState) (w : Wires) (s : Seat D) (worker : Worker) (disks : List (DevId × D)) → GoesAlone s.worker worker → KeepsDone state s.worker s.disks worker disks
-    → Continues state w s (with_worker s worker disks)
-alone state w s worker disks g done = record {
+pub alone : {D : Type 0} → (state : D → DiskState) (w : Wires) (s : Seat D) (worker : Worker) (disks : List (DevId × D)) → GoesAlone state s.disks disks s.worker worker → Continues state w s (with_worker s worker disks)
+alone {D} state w s worker disks g = record {
   flag = g.0;
   halted = refl;
-  done = done;
-  sits = λ setup t p h. on setup t p h.course h.seat;
+  sits = λ setup t p opened h. on setup t p h.course opened h.seat;
 }
   where
-    on : (setup : Setup) (t : ℕ) (p : Phase) (c : Course) → IsSeat setup t p c w s → Sits setup t p w (with_worker s worker disks)
-    on setup t p c q =
-        let went : WentAlone setup t p c worker = g.1 setup t p c q.worker in
+    on : (setup : Setup) (t : ℕ) (p : Phase) (c : Course) (opened : List (DevId × D)) → IsSeat state setup t p c w opened s → Sits state setup t p w opened (with_worker s worker disks)
+    on setup t p c opened q =
+        let went : WentAlone state setup t p c s.disks disks worker = g.1 setup t p c q.worker in
         record {
           course = went.course;
           seat = record {
@@ -46,33 +45,35 @@ alone state w s worker disks g done = record {
             seen = q.seen ∙ sym went.seen;
             wrote = q.wrote ∙ ap (entries_of t) (sym went.seen);
             count = q.count ∙ ap (λ (es : List Entry). length es) (sym went.seen);
+            done = done_further state setup c went.course opened s.disks disks q.done went.did;
           };
         }
 
 -- who sits works
-pub works : {D : Type 0} → (w : Wires) (s : Seat D) → IsSitting w s → IsWorking s.worker
-works w s h = record { setup = h.setup; t = h.t; p = h.p; c = h.sits.course; at = h.sits.seat.worker }
+pub works : {D : Type 0} {state : D → DiskState} → (w : Wires) (s : Seat D) → IsSitting state w s → IsWorking s.worker
+works {state = state} w s h = record { setup = h.setup; t = h.t; p = h.p; c = h.sits.course; contents = contents_of state s.disks; at = h.sits.seat.worker }
 
 -- ---- with it
 
 -- what the slot gave was lent as the worker wants it
-pub lent_is : {D : Type 0} → (setup : Setup) (t : ℕ) (p : Phase) (c : Course) (w : Wires) (s : Seat D) (lent : Registered) (pass : Holder)
-    → IsSeat setup t p c w s → IsTakenBy s.passes.slot lent.journal (start_of lent.setup) pass → IsLent setup t c s.seen lent
-lent_is setup t p c w s lent pass q took = record {
+pub lent_is : {D : Type 0} {state : D → DiskState} → (setup : Setup) (t : ℕ) (p : Phase) (c : Course) (w : Wires) (opened : List (DevId × D)) (s : Seat D) (lent : Registered) (pass : Holder)
+    → IsSeat state setup t p c w opened s → IsTakenBy s.passes.slot lent.journal (start_of lent.setup) pass → IsLent setup t c s.seen lent
+lent_is setup t p c w opened s lent pass q took = record {
   start = took.3 ∙ q.start;
   begins = subst (λ (es : List Entry). StartsWith lent.journal es) q.seen took.1;
   own = ap (λ (n : ℕ). rows_of n lent.journal) (sym q.linked.thread) ∙ took.2 ∙ q.wrote;
   count = q.count;
 }
 
-pub lent_to : {D : Type 0} → (w : Wires) (s : Seat D) (lent : Registered) (pass : Holder) → IsSitting w s → IsTakenBy s.passes.slot lent.journal (start_of lent.setup) pass → IsLentTo s.worker s.seen lent
-lent_to w s lent pass h took = record {
+pub lent_to : {D : Type 0} {state : D → DiskState} → (w : Wires) (s : Seat D) (lent : Registered) (pass : Holder) → IsSitting state w s → IsTakenBy s.passes.slot lent.journal (start_of lent.setup) pass → IsLentTo s.worker s.seen lent
+lent_to {state = state} w s lent pass h took = record {
   setup = h.setup;
   t = h.t;
   p = h.p;
   c = h.sits.course;
+  contents = contents_of state s.disks;
   at = h.sits.seat.worker;
-  lent_is = lent_is h.setup h.t h.p h.sits.course w s lent pass h.sits.seat took;
+  lent_is = lent_is h.setup h.t h.p h.sits.course w h.opened s lent pass h.sits.seat took;
 }
 
 -- what comes after the first rows
@@ -86,8 +87,8 @@ own_rows t [] all = refl
 own_rows t (x ∷ xs) all =
     ap₂ (λ (b : Bool) (es : List Entry). cond b (x ∷ es) es) (eq-eqb x.thread t (All-head (λ (r : Entry). r.thread ≡ t) x xs all)) (own_rows t xs (All-tail (λ (r : Entry). r.thread ≡ t) x xs all))
 
-module _ {D : Type 0} (w : Wires) (s : Seat D) (worker : Worker) (disks : List (DevId × D)) (lent lent' : Registered) (pass : Holder) (took : IsTakenBy s.passes.slot lent.journal (start_of lent.setup) pass)
-    (g : GoesWith s.seen s.worker lent worker lent') where
+module _ {D : Type 0} (state : D → DiskState) (w : Wires) (s : Seat D) (worker : Worker) (disks : List (DevId × D)) (lent lent' : Registered) (pass : Holder) (took : IsTakenBy s.passes.slot lent.journal (start_of lent.setup) pass)
+    (g : GoesWith state s.disks disks s.seen s.worker lent worker lent') where
   -- the pass once the registry is back in its slot
   abbrev given : Holder
   given = after_give pass lent'.journal
@@ -95,10 +96,10 @@ module _ {D : Type 0} (w : Wires) (s : Seat D) (worker : Worker) (disks : List (
   abbrev new : Seat D
   new = record s { worker = worker; passes = record s.passes { slot = given }; seen = length lent'.journal; disks = disks }
 
-  on : (setup : Setup) (t : ℕ) (p : Phase) (c : Course) → IsSeat setup t p c w s → Sits setup t p w new
-  on setup t p c q =
-      let lends : IsLent setup t c s.seen lent = lent_is setup t p c w s lent pass q took in
-      let went : WentWith setup t p c lent worker lent' = g.1 setup t p c q.worker lends in
+  on : (setup : Setup) (t : ℕ) (p : Phase) (c : Course) (opened : List (DevId × D)) → IsSeat state setup t p c w opened s → Sits state setup t p w opened new
+  on setup t p c opened q =
+      let lends : IsLent setup t c s.seen lent = lent_is setup t p c w opened s lent pass q took in
+      let went : WentWith state setup t p c s.disks disks lent worker lent' = g.1 setup t p c q.worker lends in
       let added : List Entry = went.adds.0 in
       let journal : lent'.journal ≡ lent.journal ++ added = went.adds.1 in
       let taken-is : pass ≡ after_take s.passes.slot lent.journal = took.0 in
@@ -130,8 +131,22 @@ module _ {D : Type 0} (w : Wires) (s : Seat D) (worker : Worker) (disks : List (
           seen = sym went.seen;
           wrote = wrote ∙ sym rows ∙ ap (entries_of t) (sym went.seen);
           count = ap (λ (es : List Entry). length es) (sym went.seen);
+          done = done_further state setup c went.course opened s.disks disks q.done went.did;
         };
       }
 
-  pub borrowed_continues : (state : D → DiskState) → KeepsDone state s.worker s.disks worker disks → Continues state w s new
-  borrowed_continues state done = record { flag = g.0; halted = refl; done = done; sits = λ setup t p h. on setup t p h.course h.seat }
+  pub borrowed_continues : Continues state w s new
+  borrowed_continues = record { flag = g.0; halted = refl; sits = λ setup t p opened h. on setup t p h.course opened h.seat }
+
+  -- the registry goes back into its slot as the slot wants it
+  module _ (h : IsSitting state w s) where
+    went_with : WentWith state h.setup h.t h.p h.sits.course s.disks disks lent worker lent'
+    went_with = g.1 h.setup h.t h.p h.sits.course h.sits.seat.worker (lent_is h.setup h.t h.p h.sits.course w h.opened s lent pass h.sits.seat took)
+
+    pub gives_start : start_of lent'.setup ≡ pass.start
+    gives_start = went_with.start ∙ took.3 ∙ sym (ap (λ (x : Holder). x.start) took.0)
+
+    pub gives_own : AddsOwn pass.thread pass.seen lent'.journal
+    gives_own =
+        subst (λ (x : Holder). AddsOwn x.thread x.seen lent'.journal) (sym took.0)
+        (subst (λ (n : ℕ). AddsOwn n lent.journal lent'.journal) (sym h.sits.seat.linked.thread) went_with.adds)

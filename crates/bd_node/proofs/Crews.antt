@@ -18,7 +18,7 @@ module _ {D : Type 0} (state : D → DiskState) (w : Wires) where
   went_then : (a b c : Seat D) → WentOn state w a b → WentOn state w b c → WentOn state w a c
   went_then a b c first second goes = continues_then w a b c (first (sym (second goes).halted ∙ goes)) (second goes)
 
-  still_sits : (a b : Seat D) → SitsOrHalts w a → WentOn state w a b → SitsOrHalts w b
+  still_sits : (a b : Seat D) → SitsOrHalts state w a → WentOn state w a b → SitsOrHalts state w b
   still_sits a b sits on goes = sitting_then w a b (sits (sym (on goes).halted ∙ goes)) (on goes)
 
   pub all_still : (xs : List (Seat D)) → AllWentOn state w xs xs
@@ -28,7 +28,7 @@ module _ {D : Type 0} (state : D → DiskState) (w : Wires) where
   all_then xs ys zs len first second i d lt =
       went_then (slice_index_or xs i d) (slice_index_or ys i d) (slice_index_or zs i d) (first i d lt) (second i d (subst (λ (n : ℕ). i < n) (sym len) lt))
 
-  pub all_sit : (xs ys : List (Seat D)) → length ys ≡ length xs → All (SitsOrHalts w) xs → AllWentOn state w xs ys → All (SitsOrHalts w) ys
+  pub all_sit : (xs ys : List (Seat D)) → length ys ≡ length xs → All (SitsOrHalts state w) xs → AllWentOn state w xs ys → All (SitsOrHalts state w) ys
   all_sit xs ys len sit on i d lt =
       let within : i < length xs = subst (λ (n : ℕ). i < n) len lt in
       still_sits (slice_index_or xs i d) (slice_index_or ys i d) (sit i d within) (on i d within)

@@ -3,7 +3,9 @@ use Rattle.std.proofs.Common.{◌≡◌, ℕ, ◌<◌, ◌≤◌, Bool, true, fa
 use Rattle.std.specs.List.{slice_get}
 use Rattle.std.specs.Prelude.{slice_index_or}
 use Rattle.std.proofs.lemmas.Option.{slice_get-get_or, slice_get_past}
+use Rattle.bd_base.specs.declared.id.DevId.{DevId}
 use Rattle.bd_base.specs.declared.setup.Setup.{Setup}
+use Rattle.bd_machine.specs.declared.state.Content.{Content}
 use Rattle.bd_turns.specs.declared.queue.Message.{Message}
 use Rattle.bd_turns.specs.declared.queue.Post.{Post}
 use Rattle.bd_turns.specs.Local.{Local}
@@ -14,14 +16,15 @@ use Rattle.bd_apart.specs.Steps.{sent_more, with_queues, Goes}
 use Rattle.bd_apart.proofs.Leaving.{departures_are_stamped}
 use Rattle.bd_seat.specs.Outgoing.{AreSendsTo, FlushedAll, FlushedIf}
 use Rattle.bd_thread.specs.declared.links.Links.{Links}
+use Rattle.bd_storage.specs.Contents.{contents_of}
 use Rattle.bd_thread.specs.Seen.{local}
+use Rattle.bd_told.specs.Told.{told_local, AreBasesLowest}
 use Rattle.bd_wires.specs.declared.wires.Passes.{Passes}
 use Rattle.bd_wires.specs.declared.wires.Wires.{Wires}
 use Rattle.bd_wires.specs.Wires.{put_by, put_into}
 use Rattle.bd_node.specs.declared.seat.Seat.{Seat}
 use Rattle.bd_outside.specs.Disk.{DiskState}
-use Rattle.bd_node.specs.Seats.{Continues, IsAt, IsSeat}
-use Rattle.bd_node.proofs.Disks.{keeps_log}
+use Rattle.bd_node.specs.Seats.{seen_over, Continues, IsAt, IsSeat}
 
 -- the seat with what went out
 abbrev with_sent : {D : Type 0} → Seat D → Links → Passes → Seat D
@@ -33,7 +36,7 @@ none_past [] r le = refl
 none_past (q ∷ qs) zero le = absurd (omega arith)
 none_past (q ∷ qs) (suc r) le = none_past qs r (omega arith)
 
-module _ {D : Type 0} (w : Wires) (s : Seat D) (links : Links) (passes : Passes) (links-is : links ≡ record s.worker.links { queues = links.queues }) (passes-is : passes ≡ record s.passes { sends = passes.sends })
+module _ {D : Type 0} (state : D → DiskState) (w : Wires) (s : Seat D) (links : Links) (passes : Passes) (links-is : links ≡ record s.worker.links { queues = links.queues }) (passes-is : passes ≡ record s.passes { sends = passes.sends })
     (len : vec_len links.queues ≡ vec_len s.worker.links.queues) (sends-len : vec_len passes.sends ≡ vec_len s.passes.sends)
     (f : FlushedAll s.worker.me s.worker.log.last s.passes.sends.items s.worker.links.queues.items passes.sends.items links.queues.items) where
   abbrev new : Seat D
@@ -140,19 +143,20 @@ module _ {D : Type 0} (w : Wires) (s : Seat D) (links : Links) (passes : Passes)
         ap put_by (slice_get_past passes.sends.items r (subst (λ (k : ℕ). k ≤ r) (sym new-len) le))
         ∙ ap (λ (o : Option Sender). put_by o ++ []) (sym (slice_get_past s.passes.sends.items r (subst (λ (k : ℕ). k ≤ r) (sym same-len) le)))
 
-  seat : (setup : Setup) (t : ℕ) (p : Phase) (c : Course) → IsSeat setup t p c w s → IsSeat setup t p (sent_more c posts) w new
-  seat setup t p c q =
-      let a : IsAt setup t p c s.worker = q.worker in
+  seat : (setup : Setup) (t : ℕ) (p : Phase) (c : Course) (opened : List (DevId × D)) → IsSeat state setup t p c w opened s → IsSeat state setup t p (sent_more c posts) w opened new
+  seat setup t p c opened q =
+      let contents : DevId → Content = contents_of state s.disks in
+      let a : IsAt setup t p c contents s.worker = q.worker in
       let same-me : s.worker.me ≡ t = a.me in
       let n-is : n ≡ setup.threads = (let e : n ≡ vec_len s.worker.links.queues = search rules in e) ∙ a.queues in
       let sends-are : length s.passes.sends.items ≡ n = (let e : length s.passes.sends.items ≡ vec_len s.passes.sends = search rules in e) ∙ q.linked.sends ∙ sym n-is in
-      let l : Local = local s.worker.thread s.worker.links in
-      let course : IsCourse setup t p (sent_more c posts) (with_queues l new-queue) =
-      departures_are_stamped setup t p c l posts new-queue
+      let l : Local = seen_over setup contents s.worker in
+      let course : AreBasesLowest setup → IsCourse setup t p (sent_more c posts) (with_queues l new-queue) =
+      λ lowest. departures_are_stamped setup t p c l posts new-queue
       (none_at t (nat_lt t n) refl (sym same-me))
       (own_stays t (sym same-me))
       (λ r other. subst (λ (k : ℕ). Goes k (posts r) (old-queue r) (new-queue r)) a.log_last (goes_at r (nat_lt r n) refl))
-      a.course in
+      (a.course lowest) in
       let keeps : (k : ℕ) → k < setup.threads → ((new-send k).ring ≡ (old-send k).ring) × ((new-send k).number ≡ (old-send k).number) =
       (λ k lt. let within : k < n = subst (λ (m : ℕ). k < m) (sym n-is) lt in ring_if k (k == s.worker.me) (f k nobody within)) in
       record {
@@ -168,15 +172,17 @@ module _ {D : Type 0} (w : Wires) (s : Seat D) (links : Links) (passes : Passes)
           log_thread = a.log_thread;
           log_entries = a.log_entries;
           log_last = a.log_last;
-          course = subst (λ (x : Links). IsCourse setup t p (sent_more c posts) (local s.worker.thread x)) (sym links-is) course;
+          once = a.once;
+          replica = ap (λ (x : Links). x.registry.state) links-is ∙ a.replica;
+          course = λ lowest. subst (λ (x : Links). IsCourse setup t p (sent_more c posts) (told_local setup contents (local s.worker.thread x))) (sym links-is) (course lowest);
         };
         linked = record {
           rings = q.linked.rings;
           takes = λ d. ap (λ (x : Passes). x.take.ring) passes-is ∙ q.linked.takes d;
           senders = ap (λ (x : Passes). x.take.senders) passes-is ∙ q.linked.senders;
           sends = sends-len ∙ q.linked.sends;
-          sends_to = sends_to setup t p c q keeps;
-          numbers = numbers setup t p c q keeps;
+          sends_to = sends_to setup t p c opened q keeps;
+          numbers = numbers setup t p c opened q keeps;
           slot = ap (λ (x : Passes). x.slot.slot) passes-is ∙ q.linked.slot;
           thread = ap (λ (x : Passes). x.slot.thread) passes-is ∙ q.linked.thread;
           passes = λ e. ap (λ (x : Passes). x.slot.passes) passes-is ∙ q.linked.passes e;
@@ -188,6 +194,7 @@ module _ {D : Type 0} (w : Wires) (s : Seat D) (links : Links) (passes : Passes)
         seen = ap (λ (x : Passes). x.slot.seen) passes-is ∙ q.seen;
         wrote = ap (λ (x : Passes). x.slot.wrote) passes-is ∙ q.wrote;
         count = q.count;
+        done = q.done;
       }
     where
       -- whichever default is read
@@ -196,22 +203,25 @@ module _ {D : Type 0} (w : Wires) (s : Seat D) (links : Links) (passes : Passes)
       default (x ∷ xs) zero d lt = refl
       default (x ∷ xs) (suc k) d lt = default xs k d (omega arith)
 
-      sends_to : (setup : Setup) (t : ℕ) (p : Phase) (c : Course) (q : IsSeat setup t p c w s) → ((k : ℕ) → k < setup.threads → ((new-send k).ring ≡ (old-send k).ring) × ((new-send k).number ≡ (old-send k).number)) → AreSendsTo w.rings.items passes.sends.items
-      sends_to setup t p c q keeps k d e lt =
+      sends_to : (setup : Setup) (t : ℕ) (p : Phase) (c : Course) (opened : List (DevId × D)) (q : IsSeat state setup t p c w opened s)
+          → ((k : ℕ) → k < setup.threads → ((new-send k).ring ≡ (old-send k).ring) × ((new-send k).number ≡ (old-send k).number))
+          → AreSendsTo w.rings.items passes.sends.items
+      sends_to setup t p c opened q keeps k d e lt =
           let rings : length w.rings.items ≡ setup.threads = (let e : length w.rings.items ≡ vec_len w.rings = search rules in e) ∙ q.linked.rings in
           let within : k < setup.threads = subst (λ (m : ℕ). k < m) rings lt in
           let count : length passes.sends.items ≡ setup.threads = (let e : length passes.sends.items ≡ vec_len passes.sends = search rules in e) ∙ sends-len ∙ q.linked.sends in
           ap (λ (x : Sender). x.ring) (default passes.sends.items k e (subst (λ (m : ℕ). k < m) (sym count) within)) ∙ (keeps k within).0 ∙ q.linked.sends_to k d nobody lt
 
-      numbers : (setup : Setup) (t : ℕ) (p : Phase) (c : Course) (q : IsSeat setup t p c w s) → ((k : ℕ) → k < setup.threads → ((new-send k).ring ≡ (old-send k).ring) × ((new-send k).number ≡ (old-send k).number)) → (k : ℕ) (d : Sender) → k < setup.threads → (slice_index_or passes.sends.items k d).number ≡ t
-      numbers setup t p c q keeps k d lt =
+      numbers : (setup : Setup) (t : ℕ) (p : Phase) (c : Course) (opened : List (DevId × D)) (q : IsSeat state setup t p c w opened s)
+          → ((k : ℕ) → k < setup.threads → ((new-send k).ring ≡ (old-send k).ring) × ((new-send k).number ≡ (old-send k).number))
+          → (k : ℕ) (d : Sender) → k < setup.threads → (slice_index_or passes.sends.items k d).number ≡ t
+      numbers setup t p c opened q keeps k d lt =
           let count : length passes.sends.items ≡ setup.threads = (let e : length passes.sends.items ≡ vec_len passes.sends = search rules in e) ∙ sends-len ∙ q.linked.sends in
           ap (λ (x : Sender). x.number) (default passes.sends.items k d (subst (λ (m : ℕ). k < m) (sym count) lt)) ∙ (keeps k lt).1 ∙ q.linked.numbers k nobody lt
 
-  pub departed_continues : (state : D → DiskState) → Continues state w s new
-  departed_continues state = record {
+  pub departed_continues : Continues state w s new
+  departed_continues = record {
     flag = ap (λ (x : Links). x.shut) links-is;
     halted = refl;
-    done = keeps_log state s.worker new.worker s.disks refl refl refl;
-    sits = λ setup t p h. record { course = sent_more h.course posts; seat = seat setup t p h.course h.seat };
+    sits = λ setup t p opened h. record { course = sent_more h.course posts; seat = seat setup t p h.course opened h.seat };
   }

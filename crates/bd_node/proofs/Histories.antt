@@ -1,107 +1,142 @@
--- From a node's disks at the start to those at the end, by its history.
-use Rattle.std.proofs.Common.{◌≡◌, ℕ, zero, suc, ◌+◌, ◌<◌, Bool, List, [], ◌∷◌, length, map, sum_by, Some, refl, sym, ◌∙◌, ap, subst, arith}
-use Rattle.std.specs.List.{slice_get}
-use Rattle.std.specs.Option.{option_map}
-use Rattle.std.specs.Prelude.{slice_index_or}
+-- From a node's disks at their opening to those at the end, by its history.
+use Rattle.std.proofs.Common.{◌≡◌, ℕ, ◌<◌, Bool, true, false, cond, List, [], ◌∷◌, find, length, map, Option, Some, IfSome, refl, sym, ◌∙◌, ap, subst}
+use Rattle.std.specs.List.{list_all, slice_get}
+use Rattle.std.proofs.lemmas.Bool.{and_parts}
 use Rattle.std.proofs.lemmas.List.{length-map}
-use Rattle.std.proofs.lemmas.List.Sums.{sum_by-cons}
-use Rattle.std.proofs.lemmas.Option.{get_or_from_slice_get, same_Some, slice_get-get_or, slice_get-map, slice_get_within}
+use Rattle.std.proofs.lemmas.Nat.{mod_below}
+use Rattle.std.proofs.lemmas.Option.{get_or_from_slice_get, slice_get_within}
 use Rattle.bd_base.specs.declared.act.Entry.{Entry}
 use Rattle.bd_base.specs.declared.id.DevId.{DevId}
 use Rattle.bd_base.specs.declared.setup.Setup.{Setup}
 use Rattle.bd_apart.specs.Course.{Phase}
 use Rattle.bd_log.specs.Log.{log_part, Written}
-use Rattle.bd_log.specs.Merge.{entries_of, IsMerge, Part}
+use Rattle.bd_log.specs.Merge.{IsMerge, IsOrdered}
+use Rattle.bd_machine.specs.declared.state.Base.{Base}
+use Rattle.bd_machine.specs.declared.state.Content.{Content}
+use Rattle.bd_machine.specs.BlockMap.{base_of, home, is_aio}
+use Rattle.bd_machine.specs.Content.{Told}
+use Rattle.bd_machine.specs.Homes.{base_here, is_base}
+use Rattle.bd_machine.specs.Run.{state_after, IsCompleteRun}
+use Rattle.bd_machine.specs.Same.{same_dev}
+use Rattle.bd_machine.specs.View.{part_of}
+use Rattle.bd_machine.proofs.Tables.{dev_exact}
 use Rattle.bd_outside.specs.Disk.{DiskState}
+use Rattle.bd_registry.specs.State.{HasRowsOf, IsReplayFromStart, Registered}
+use Rattle.bd_storage.specs.Contents.{contents_of}
 use Rattle.bd_storage.specs.Served.{AreDoneBy}
-use Rattle.bd_storage.proofs.Served.{done_none}
-use Rattle.bd_thread.specs.Seen.{setup_of}
+use Rattle.bd_storage.proofs.Served.{done_same}
+use Rattle.bd_told.specs.Told.{told_base, AreBasesLowest}
+use Rattle.bd_turns.specs.Local.{Local}
+use Rattle.bd_wires.specs.declared.wires.Passes.{Passes}
 use Rattle.bd_wires.specs.declared.wires.Wires.{Wires}
+use Rattle.bd_wires.specs.Wires as wires
 use Rattle.bd_node.specs.declared.node.Node.{Node}
+use Rattle.bd_node.specs.declared.node.NodeState.TheVariants.{Busy, Done, Idle}
 use Rattle.bd_node.specs.declared.seat.Seat.{Seat}
-use Rattle.bd_node.specs.Disks.{disks_of, HasDone, HaveDone, SaysOfDisks, SeatHasDone}
-use Rattle.bd_node.specs.Seats.{made_by}
-use Rattle.bd_node.specs.Whole.{log_in, AreSeated, KeepsDisks}
-use Rattle.bd_node.proofs.Settling.{map_from}
+use Rattle.bd_node.specs.Disks.{disks_at, disks_of, pieces_of, told_of, SaysOfDisks}
+use Rattle.bd_node.specs.Whole.{are_all_taken, is_at_rest, is_idle, is_over, log_in, seat_has_destructed, seat_rests, setup_in, state_of, ArePhases, AreSeated, AreShut, IsNodeOf, KeepsDisks}
+use Rattle.bd_node.proofs.Resting.{local_of}
+use Rattle.bd_node.proofs.Settling.{courses_of, done_bases, done_complete, done_served, end_is, ends_of, map_at, map_from, passes_of, seat_is, seat_of}
 
 -- ---- turns, one after the other
 
 pub keeps_disks_still : {D : Type 0} (state : D → DiskState) (n : Node D) → KeepsDisks state n n
-keeps_disks_still state n = record { shelf = refl; done = λ starts h. h }
+keeps_disks_still state n = record { shelf = refl; node = λ starts h. h }
 
 pub keeps_disks_then : {D : Type 0} (state : D → DiskState) (a b c : Node D) → KeepsDisks state a b → KeepsDisks state b c → KeepsDisks state a c
-keeps_disks_then state a b c f g = record { shelf = g.shelf ∙ f.shelf; done = λ starts h. g.done starts (f.done starts h) }
+keeps_disks_then state a b c f g = record { shelf = g.shelf ∙ f.shelf; node = λ starts h. g.node starts (f.node starts h) }
 
--- ---- the start
+-- ---- what disks tell
 
-none_of : (n m : ℕ) → n + m ≡ 0 → n ≡ 0
-none_of n m e = omega (arith, e)
-
-rest_of : (n m : ℕ) → n + m ≡ 0 → m ≡ 0
-rest_of n m e = omega (arith, e)
-
-each_none : {D : Type 0} (seats : List (Seat D)) (i : ℕ) (s : Seat D) → sum_by made_by seats ≡ 0 → slice_get seats i ≡ Some s → made_by s ≡ 0
-each_none {D = D} [] i s sum at = absurd (none i at)
+-- a base that is found with content told tells that of its device
+found_tells : (setup : Setup) (contents : DevId → Content) (dev : DevId) → is_aio setup dev ≡ true → (bases : List Base)
+    → IfSome (find (is_base dev) (map (told_base setup contents) bases)) (λ base. base.content ≡ contents dev)
+found_tells setup contents dev aio [] = tt
+found_tells setup contents dev aio (b ∷ bs) = go (same_dev b.dev dev) refl (found_tells setup contents dev aio bs)
   where
-    none : (j : ℕ) → slice_get [] j ≡ Some s → ⊥
-    none zero h = cc
-    none (suc j) h = cc
-each_none (x ∷ xs) zero s sum at = ap made_by (sym (same_Some x s at)) ∙ none_of (made_by x) (sum_by made_by xs) (sym (sum_by-cons made_by x xs) ∙ sum)
-each_none (x ∷ xs) (suc i) s sum at = each_none xs i s (rest_of (made_by x) (sum_by made_by xs) (sym (sum_by-cons made_by x xs) ∙ sum)) at
-
-nothing_in : (es : List Entry) → length es ≡ 0 → es ≡ []
-nothing_in [] e = refl
-nothing_in (x ∷ xs) e = absurd (omega (arith, e))
-
--- before any entry the disks are those at the start
-pub start_done : {D : Type 0} (state : D → DiskState) (setup : Setup) (w : Wires) (seats : List (Seat D)) (shut : Bool) (phases : ℕ → Phase) (items : List (List (DevId × D)))
-    → AreSeated setup w seats shut phases → sum_by made_by seats ≡ 0 → disks_of seats ≡ items → HaveDone state (λ t. slice_index_or items t []) seats
-start_done {D = D} state setup w seats shut phases items seated none same i d lt = go (slice_index_or seats i d) (slice_get-get_or seats i d lt)
-  where
-    go : (s : Seat D) → slice_get seats i ≡ Some s → SeatHasDone state (λ t. slice_index_or items t []) s
-    go s at =
-        let me : s.worker.me ≡ i = (seated.each i s at).sits.seat.worker.me in
-        let log : s.worker.log.entries ≡ [] = nothing_in s.worker.log.entries (each_none seats i s none at) in
-        let there : slice_get items i ≡ Some s.disks = ap (λ (ds : List (List (DevId × D))). slice_get ds i) (sym same) ∙ slice_get-map (λ (x : Seat D). x.disks) seats i ∙ ap (option_map (λ (x : Seat D). x.disks)) at in
-        let start : slice_index_or items s.worker.me [] ≡ s.disks = ap (λ (n : ℕ). slice_index_or items n []) me ∙ get_or_from_slice_get items i s.disks [] there in
-        subst (λ (x : List (DevId × D)). HasDone state x s.worker s.disks) (sym start)
-        (subst (λ (es : List Entry). AreDoneBy state (setup_of s.worker.thread) es s.disks s.disks) (sym log) (done_none state (setup_of s.worker.thread) s.disks))
+    go : (c : Bool) → same_dev b.dev dev ≡ c → IfSome (find (is_base dev) (map (told_base setup contents) bs)) (λ base. base.content ≡ contents dev)
+        → IfSome (cond c (Some (told_base setup contents b)) (find (is_base dev) (map (told_base setup contents) bs))) (λ base. base.content ≡ contents dev)
+    go true e rest =
+        let is : b.dev ≡ dev = dev_exact b.dev dev e in
+        ap (λ (here : Bool). cond here (contents b.dev) b.content) (ap (is_aio setup) is ∙ aio) ∙ ap contents is
+    go false e rest = rest
 
 -- ---- the end
 
--- **the merged history says of each thread's disks what its log says**
-pub settled_says : {D : Type 0} (state : D → DiskState) (setup : Setup) (w : Wires) (seats : List (Seat D)) (shut : Bool) (phases : ℕ → Phase) (starts : List (List (DevId × D))) (logs : List Written) (merged : List Entry) (shelf : List (List (DevId × D)))
-    → AreSeated setup w seats shut phases
-    → logs ≡ map log_in seats
-    → IsMerge (map log_part logs) merged
-    → length starts ≡ setup.threads
-    → HaveDone state (λ t. slice_index_or starts t []) seats
-    → shelf ≡ disks_of seats
-    → SaysOfDisks state setup merged starts shelf
-settled_says {D = D} state setup w seats shut phases starts logs merged shelf seated logs-are merge many have shelf-is = record {
-  len = ap (λ (ds : List (List (DevId × D))). length ds) shelf-is ∙ length-map seats (λ (x : Seat D). x.disks) ∙ seated.len ∙ sym many;
-  each = λ t a b before after. each t a b before (ap (λ (ds : List (List (DevId × D))). slice_get ds t) (sym shelf-is) ∙ after);
-}
+-- what the merge of its threads' logs says of a node that is done: these were the disks of its threads at their opening, and those are they now
+pub record Settles {D : Type 0} (state : D → DiskState) (setup : Setup) (starts now : List (List (DevId × D))) (merged : List Entry) : Type 0 where
+  pub complete : IsCompleteRun setup (told_of state setup starts) merged
+  pub says : SaysOfDisks state setup merged starts now
+
+module _ {D : Type 0} (state : D → DiskState) (setup : Setup) (w : Wires) (starts : List (List (DevId × D))) (seats : List (Seat D)) (phases : ℕ → Phase) (a : AreSeated state setup w starts seats true phases)
+    (sh : AreShut setup (told_of state setup starts) phases) (lowest : AreBasesLowest setup) (many : length starts ≡ setup.threads)
+    (rest : list_all seat_rests seats ≡ true) (taken : are_all_taken seats ≡ true) (gone : list_all seat_has_destructed seats ≡ true) (d : wires.AreDelivered (map passes_of seats))
+    (r : Registered) (h : wires.HasJournalOf (map passes_of seats) r) (ordered : IsOrdered r.journal) (replay : (x : Setup) → HasRowsOf r x → IsReplayFromStart x r.journal)
+    (merged : List Entry) (m : IsMerge (map log_part (map log_in seats)) merged) where
+  abbrev told : Told
+  told = told_of state setup starts
+
+  -- the disks of a thread did just the pieces that the merge says it served
+  each : (t : ℕ) (x y : List (DevId × D)) → slice_get starts t ≡ Some x → slice_get (disks_of seats) t ≡ Some y → AreDoneBy state setup (pieces_of state setup merged starts t) x y
+  each t x y before after =
+      let from = map_from (λ (s : Seat D). s.disks) seats t y after in
+      let s : Seat D = from.0 in
+      let lt : t < setup.threads = subst (λ (n : ℕ). t < n) a.len (slice_get_within seats t s from.1) in
+      let opened : disks_at starts t ≡ x = get_or_from_slice_get starts t x [] before in
+      let q = seat_is state setup told w starts seats phases a sh lowest t s from.1 in
+      let c = courses_of state setup told w starts seats phases a sh lowest t in
+      done_same state setup c.served (pieces_of state setup merged starts t) x y
+      (λ dev. sym (done_served state setup told w starts seats phases a sh lowest rest taken gone d r h ordered replay merged m t dev lt))
+      (subst (λ (ds : List (DevId × D)). AreDoneBy state setup c.served ds y) opened
+      (subst (λ (ds : List (DevId × D)). AreDoneBy state setup c.served (disks_at starts t) ds) from.2 q.done))
+
+  -- and tell what it leaves there
+  holds : (dev : DevId) → is_aio setup dev ≡ true
+      → IfSome (find (is_base dev) (part_of (state_after setup told merged) (home setup dev)).bases) (λ base. base.content ≡ contents_of state (disks_at (disks_of seats) (home setup dev)) dev)
+  holds dev aio =
+      let at : ℕ = home setup dev in
+      let u = seat_of state setup told w starts seats phases a sh lowest at (mod_below (base_of setup dev).0 setup.threads a.some) in
+      let own : disks_at (disks_of seats) at ≡ u.0.disks = get_or_from_slice_get (disks_of seats) at u.0.disks [] (map_at (λ (s : Seat D). s.disks) seats at u.0 u.1) in
+      let seen : find (is_base dev) (part_of (state_after setup told merged) at).bases ≡ base_here (ends_of state setup told w starts seats phases a sh lowest at).view dev =
+      done_bases state setup told w starts seats phases a sh lowest rest taken gone d r h ordered replay merged m dev in
+      subst (λ (o : Option Base). IfSome o (λ base. base.content ≡ contents_of state (disks_at (disks_of seats) at) dev)) (sym seen)
+      (subst (λ (l : Local). IfSome (base_here l.view dev) (λ base. base.content ≡ contents_of state (disks_at (disks_of seats) at) dev)) (sym (end_is state setup told w starts seats phases a sh lowest at u.0 u.1))
+      (subst (λ (ds : List (DevId × D)). IfSome (base_here (local_of state setup u.0).view dev) (λ base. base.content ≡ contents_of state ds dev)) (sym own)
+      (found_tells setup (contents_of state u.0.disks) dev aio u.0.worker.thread.part.bases)))
+
+  -- **a node that is done has a complete run, which says what its disks did**
+  done_settles : Settles state setup starts (disks_of seats) merged
+  done_settles = record {
+    complete = done_complete state setup told w starts seats phases a sh lowest rest taken gone d r h ordered replay merged m;
+    says = record { len = length-map seats (λ (s : Seat D). s.disks) ∙ a.len ∙ sym many; each = each; holds = holds };
+  }
+
+-- ---- a node, taken apart
+
+done_parts : (shut over idle : Bool) → cond shut (cond over Done Busy) (cond idle Idle Busy) ≡ Done → (shut ≡ true) × (over ≡ true)
+done_parts true true idle h = (refl, refl)
+done_parts true false idle h = cc
+done_parts false over true h = cc
+done_parts false over false h = cc
+
+-- where it is done, the merge of its logs says so
+pub node_settles : {D : Type 0} → (state : D → DiskState) (starts : List (List (DevId × D))) (n : Node D) → IsNodeOf state starts n → AreBasesLowest (setup_in n) → state_of n ≡ Done
+    → (logs : List Written) (passes : List Passes) → logs ≡ map log_in n.seats.items → passes ≡ map passes_of n.seats.items
+    → wires.AreDelivered passes → (r : Registered) → wires.HasJournalOf passes r → IsOrdered r.journal → ((x : Setup) → HasRowsOf r x → IsReplayFromStart x r.journal)
+    → (merged : List Entry) → IsMerge (map log_part logs) merged → Settles state (setup_in n) starts (disks_of n.seats.items) merged
+node_settles {D} state starts n h lowest done logs passes logs-is passes-is d r j ordered replay merged m =
+    go n.shut (done_parts n.shut (is_over n) (is_idle n) done).0 h.seated h.phases_are
   where
-    each : (t : ℕ) (a b : List (DevId × D)) → slice_get starts t ≡ Some a → slice_get (disks_of seats) t ≡ Some b → AreDoneBy state setup (entries_of t merged) a b
-    each t a b before after =
-        let from = map_from (λ (x : Seat D). x.disks) seats t b after in
-        let s : Seat D = from.0 in
-        let at : slice_get seats t ≡ Some s = from.1 in
-        let worker = (seated.each t s at).sits.seat.worker in
-        let lt : t < length seats = slice_get_within seats t s at in
-        let have-is : SeatHasDone state (λ u. slice_index_or starts u []) s = subst (SeatHasDone state (λ u. slice_index_or starts u [])) (get_or_from_slice_get seats t s s at) (have t s lt) in
-        let start : slice_index_or starts s.worker.me [] ≡ a = ap (λ (n : ℕ). slice_index_or starts n []) worker.me ∙ get_or_from_slice_get starts t a [] before in
-        let done : AreDoneBy state setup s.worker.log.entries a b =
-        subst (λ (y : List (DevId × D)). AreDoneBy state setup s.worker.log.entries a y) from.2
-        (subst (λ (u : Setup). AreDoneBy state u s.worker.log.entries a s.disks) worker.given
-        (subst (λ (x : List (DevId × D)). HasDone state x s.worker s.disks) start have-is)) in
-        let part : slice_get (map log_part logs) t ≡ Some (log_part s.worker.log) =
-        ap (λ (ls : List Written). slice_get (map log_part ls) t) logs-are
-        ∙ slice_get-map log_part (map log_in seats) t
-        ∙ ap (option_map log_part) (slice_get-map log_in seats t ∙ ap (option_map log_in) at) in
-        let is : slice_index_or (map log_part logs) t (log_part s.worker.log) ≡ log_part s.worker.log = get_or_from_slice_get (map log_part logs) t (log_part s.worker.log) (log_part s.worker.log) part in
-        let own : entries_of s.worker.log.thread merged ≡ s.worker.log.entries =
-        subst (λ (p : Part). entries_of p.thread merged ≡ p.entries) is (merge.own t (log_part s.worker.log) (slice_get_within (map log_part logs) t (log_part s.worker.log) part)) in
-        let log : entries_of t merged ≡ s.worker.log.entries = ap (λ (n : ℕ). entries_of n merged) (sym worker.log_thread) ∙ own in
-        subst (λ (es : List Entry). AreDoneBy state setup es a b) (sym log) done
+    over : (is_at_rest n ≡ true) × (list_all seat_has_destructed n.seats.items ≡ true)
+    over = and_parts (is_at_rest n) (list_all seat_has_destructed n.seats.items) (done_parts n.shut (is_over n) (is_idle n) done).1
+
+    rest : (list_all seat_rests n.seats.items ≡ true) × (are_all_taken n.seats.items ≡ true)
+    rest = and_parts (list_all seat_rests n.seats.items) (are_all_taken n.seats.items) over.0
+
+    go : (b : Bool) → b ≡ true → AreSeated state (setup_in n) n.wires starts n.seats.items b h.phases → ArePhases (setup_in n) (told_of state (setup_in n) starts) b h.phases
+        → Settles state (setup_in n) starts (disks_of n.seats.items) merged
+    go true e seated phased =
+        done_settles state (setup_in n) n.wires starts n.seats.items h.phases seated phased lowest h.many rest.0 rest.1 over.1
+        (subst (λ (qs : List Passes). wires.AreDelivered qs) passes-is d) r (subst (λ (qs : List Passes). wires.HasJournalOf qs r) passes-is j) ordered replay merged
+        (subst (λ (ls : List Written). IsMerge (map log_part ls) merged) logs-is m)
+    go false e seated phased = cc

@@ -33,6 +33,6 @@ module _ (w : Worker) (seen : ℕ) (lent : Registered) (h : IsLentTo w seen lent
   pub replica_left : w.links.registry.state ≡ registry_by w.links.registry.setup (registry_at_start w.links.registry.setup) (take seen lent.journal)
   replica_left =
       let own : Setup = w.links.registry.setup in
-      h.at.course.replica
+      h.at.replica
       ∙ leaves_alike own h.setup (ap start_of h.at.rows) h.c.seen
       ∙ ap (λ (es : List Entry). registry_by own (registry_at_start own) es) (sym seen_first)

@@ -1,4 +1,7 @@
 pub mod Places
+pub mod Lowest
+pub mod Over
+pub mod Opened
 pub mod Workers
 pub mod Disks
 pub mod Seats

@@ -4,6 +4,7 @@ use Rattle.std.proofs.Common.{eqb-true, nat_lt, arith}
 use Rattle.std.specs.List.{list_all, list_any, range_with_len, slice_get}
 use Rattle.std.proofs.lemmas.Bool.{and_parts}
 use Rattle.std.proofs.lemmas.Nat.{mod_below}
+use Rattle.bd_base.specs.declared.id.DevId.{DevId}
 use Rattle.bd_base.specs.declared.id.HandleId.{HandleId}
 use Rattle.bd_base.specs.declared.setup.Setup.{Setup}
 use Rattle.bd_machine.specs.declared.state.Handle.{Handle}
@@ -28,27 +29,31 @@ use Rattle.bd_apart.specs.Steps.{local_at_start}
 use Rattle.bd_thread.specs.declared.links.Links.{Links}
 use Rattle.bd_thread.specs.declared.thread.Thread.{Thread}
 use Rattle.bd_thread.specs.Resting.{has_destructed_all, is_settled, rests}
-use Rattle.bd_thread.specs.Seen.{local, number_of, setup_of, view_of}
+use Rattle.bd_thread.specs.Seen.{number_of, setup_of, view_of}
 use Rattle.bd_wires.specs.declared.wires.Wires.{Wires}
 use Rattle.bd_node.specs.declared.seat.Seat.{Seat}
+use Rattle.bd_node.specs.Seats.{seen_over}
+use Rattle.bd_outside.specs.Disk.{DiskState}
+use Rattle.bd_storage.specs.Contents.{contents_of}
 use Rattle.bd_node.specs.Whole.{are_all_taken, has_taken, seat_has_destructed, seat_is_blocked, seat_rests, AreSeated}
 use Rattle.bd_node.proofs.Places.{all_at, all_below, has_at}
 
 -- ---- what seats see
 
-abbrev pub local_of : {D : Type 0} → Seat D → Local
-local_of s = local s.worker.thread s.worker.links
+-- with what its disks hold
+abbrev pub local_of : {D : Type 0} → (D → DiskState) → Setup → Seat D → Local
+local_of state setup s = seen_over setup (contents_of state s.disks) s.worker
 
-abbrev pub local_or : {D : Type 0} → Setup → ℕ → Option (Seat D) → Local
-local_or setup t None = local_at_start setup t
-local_or setup t (Some s) = local_of s
+abbrev pub local_or : {D : Type 0} → (D → DiskState) → Setup → ℕ → Option (Seat D) → Local
+local_or state setup t None = local_at_start setup [] t
+local_or state setup t (Some s) = local_of state setup s
 
 -- what the thread with this number sees and has for itself
-abbrev pub locals_of : {D : Type 0} → Setup → List (Seat D) → ℕ → Local
-locals_of setup seats t = local_or setup t (slice_get seats t)
+abbrev pub locals_of : {D : Type 0} → (D → DiskState) → Setup → List (Seat D) → ℕ → Local
+locals_of state setup seats t = local_or state setup t (slice_get seats t)
 
-abbrev pub views_of : {D : Type 0} → Setup → List (Seat D) → ℕ → View
-views_of setup seats t = (locals_of setup seats t).view
+abbrev pub views_of : {D : Type 0} → (D → DiskState) → Setup → List (Seat D) → ℕ → View
+views_of state setup seats t = (locals_of state setup seats t).view
 
 -- ---- by parts
 
@@ -152,9 +157,9 @@ is_gone_at x k = not (home x.setup.now (dev_of k) == x.me) || list_any (same_dev
 
 -- ---- the seats of a node
 
-module _ {D : Type 0} (setup : Setup) (w : Wires) (seats : List (Seat D)) (shut : Bool) (phases : ℕ → Phase) (a : AreSeated setup w seats shut phases) where
+module _ {D : Type 0} (state : D → DiskState) (setup : Setup) (w : Wires) (starts : List (List (DevId × D))) (seats : List (Seat D)) (shut : Bool) (phases : ℕ → Phase) (a : AreSeated state setup w starts seats shut phases) where
   abbrev seen : ℕ → View
-  seen = views_of setup seats
+  seen = views_of state setup seats
 
   -- the seat of a thread that exists
   pub seat_at : (t : ℕ) → t < setup.threads → (s : Seat D) × (slice_get seats t ≡ Some s)
@@ -172,11 +177,11 @@ module _ {D : Type 0} (setup : Setup) (w : Wires) (seats : List (Seat D)) (shut 
 
   -- what holds of each seat by what it sees holds of the views
   of_each : (p : Seat D → Bool) (q : ℕ → View → Type 0) → list_all p seats ≡ true
-      → ((t : ℕ) (s : Seat D) → number_of s.worker.thread ≡ t → setup_of s.worker.thread ≡ setup → p s ≡ true → q t (local_of s).view)
+      → ((t : ℕ) (s : Seat D) → number_of s.worker.thread ≡ t → setup_of s.worker.thread ≡ setup → p s ≡ true → q t (local_of state setup s).view)
       → (t : ℕ) → t < setup.threads → q t (seen t)
   of_each p q all gives t lt =
       let u = seat_at t lt in
-      subst (λ (v : View). q t v) (sym (ap (λ (o : Option (Seat D)). (local_or setup t o).view) u.1))
+      subst (λ (v : View). q t v) (sym (ap (λ (o : Option (Seat D)). (local_or state setup t o).view) u.1))
       (gives t u.0 (number_at t u.0 u.1) (given_at t u.0 u.1) (all_at p seats t u.0 all u.1))
 
   -- all rest
@@ -186,14 +191,14 @@ module _ {D : Type 0} (setup : Setup) (w : Wires) (seats : List (Seat D)) (shut 
       rests_none : (t : ℕ) (v : View) (id : Id) → is_resting_here setup t v id None ≡ true
       rests_none t v id = refl
 
-      one : (t : ℕ) (s : Seat D) → number_of s.worker.thread ≡ t → setup_of s.worker.thread ≡ setup → seat_rests s ≡ true → Rests setup t (local_of s).view
+      one : (t : ℕ) (s : Seat D) → number_of s.worker.thread ≡ t → setup_of s.worker.thread ≡ setup → seat_rests s ≡ true → Rests setup t (local_of state setup s).view
       one t s number given h =
           let r : HasRest s.worker.thread s.worker.links = rests_of s.worker.thread s.worker.links h in
           record {
             none_due = r.due;
             none_owed = r.owed;
-            closed = none_left_open s.worker.thread s.worker.links setup given r.settled (local_of s).view.handles (λ id none. none);
-            resting = λ id. ap (is_resting_here setup t (local_of s).view id) (none_held s.worker.thread.held.items r.held id) ∙ rests_none t (local_of s).view id;
+            closed = none_left_open s.worker.thread s.worker.links setup given r.settled (local_of state setup s).view.handles (λ id none. none);
+            resting = λ id. ap (is_resting_here setup t (local_of state setup s).view id) (none_held s.worker.thread.held.items r.held id) ∙ rests_none t (local_of state setup s).view id;
           }
 
   -- no token is on any
@@ -211,11 +216,11 @@ module _ {D : Type 0} (setup : Setup) (w : Wires) (seats : List (Seat D)) (shut 
       let to = seat_at u lt in
       let one : has_taken from.0 to.0 ≡ true =
       all_at (λ x. has_taken from.0 x) seats u to.0 (all_at (λ x. list_all (λ y. has_taken x y) seats) seats t from.0 taken from.1) to.1 in
-      ap (λ (o : Option (Seat D)). count_at (local_or setup t o).view.part.put u) from.1
+      ap (λ (o : Option (Seat D)). count_at (local_or state setup t o).view.part.put u) from.1
       ∙ ap (λ (n : ℕ). count_at from.0.worker.thread.part.put n) (sym (me_of u to.0 to.1))
       ∙ eqb-true (count_at from.0.worker.thread.part.put to.0.worker.me) (count_at to.0.worker.thread.part.taken from.0.worker.me) one
       ∙ ap (λ (n : ℕ). count_at to.0.worker.thread.part.taken n) (me_of t from.0 from.1)
-      ∙ sym (ap (λ (o : Option (Seat D)). count_at (local_or setup u o).view.part.taken t) to.1)
+      ∙ sym (ap (λ (o : Option (Seat D)). count_at (local_or state setup u o).view.part.taken t) to.1)
 
   pub are_spent : list_all seat_rests seats ≡ true → are_all_taken seats ≡ true → AreSpent setup.threads seen
   are_spent rest taken = record {
@@ -228,8 +233,8 @@ module _ {D : Type 0} (setup : Setup) (w : Wires) (seats : List (Seat D)) (shut 
   pub are_blocked : list_all seat_is_blocked seats ≡ true → AreBlocked setup seen
   are_blocked all = of_each seat_is_blocked (λ t v. is_script_blocked setup t v ≡ true) all
       (λ t s number given h.
-      subst (λ (n : ℕ). is_script_blocked setup n (local_of s).view ≡ true) number
-      (subst (λ (x : Setup). is_script_blocked x (number_of s.worker.thread) (local_of s).view ≡ true) given h))
+      subst (λ (n : ℕ). is_script_blocked setup n (local_of state setup s).view ≡ true) number
+      (subst (λ (x : Setup). is_script_blocked x (number_of s.worker.thread) (local_of state setup s).view ≡ true) given h))
 
   pub are_destructed : list_all seat_has_destructed seats ≡ true → AreDestructed setup seen
   are_destructed all n lt =

@@ -1,7 +1,9 @@
 -- A seat goes on: posts come and go, and its worker works, without the registry and with it.
 use Rattle.std.proofs.Common.{◌≡◌, ℕ, ◌<◌, ◌≤◌, List, [], ◌∷◌, ◌++◌, map, vec_len, refl, sym, ◌∙◌, ap, subst}
 use Rattle.std.specs.List.{AllByRecursion}
+use Rattle.bd_base.specs.declared.id.DevId.{DevId}
 use Rattle.bd_base.specs.declared.setup.Setup.{Setup}
+use Rattle.bd_machine.specs.declared.state.Content.{Content}
 use Rattle.bd_turns.specs.declared.queue.Message.{Message}
 use Rattle.bd_turns.specs.declared.queue.Post.{Post}
 use Rattle.bd_turns.specs.Local.{Local}
@@ -14,29 +16,29 @@ use Rattle.bd_apart.specs.Steps.{arrived_more, with_arrived, with_queues}
 use Rattle.bd_apart.proofs.Arriving.{arrivals_are_met}
 use Rattle.bd_seat.specs.Incoming.{Fetched, IsMet}
 use Rattle.bd_thread.specs.declared.links.Links.{Links}
+use Rattle.bd_storage.specs.Contents.{contents_of}
 use Rattle.bd_thread.specs.Seen.{local}
+use Rattle.bd_told.specs.Told.{told_local, AreBasesLowest}
 use Rattle.bd_wires.specs.declared.wires.Wires.{Wires}
 use Rattle.bd_node.specs.declared.seat.Seat.{Seat}
 use Rattle.bd_outside.specs.Disk.{DiskState}
-use Rattle.bd_node.specs.Seats.{Continues, IsAt, IsSeat, IsSitting}
-use Rattle.bd_node.proofs.Disks.{keeps_log, keeps_still, keeps_then}
+use Rattle.bd_node.specs.Seats.{seen_over, Continues, IsAt, IsSeat, IsSitting}
 
 -- ---- one after the other
 
 pub continues_still : {D : Type 0} → (state : D → DiskState) (w : Wires) (s : Seat D) → Continues state w s s
-continues_still state w s = record { flag = refl; halted = refl; done = keeps_still state s.worker s.disks; sits = λ setup t p h. h }
+continues_still state w s = record { flag = refl; halted = refl; sits = λ setup t p opened h. h }
 
 pub continues_then : {D : Type 0} {state : D → DiskState} → (w : Wires) (a b c : Seat D) → Continues state w a b → Continues state w b c → Continues state w a c
 continues_then {state = state} w a b c f g = record {
   flag = g.flag ∙ f.flag;
   halted = g.halted ∙ f.halted;
-  done = keeps_then state a.worker b.worker c.worker a.disks b.disks c.disks f.done g.done;
-  sits = λ setup t p h. g.sits setup t p (f.sits setup t p h);
+  sits = λ setup t p opened h. g.sits setup t p opened (f.sits setup t p opened h);
 }
 
 -- who sat there sits there still
-pub sitting_then : {D : Type 0} {state : D → DiskState} → (w : Wires) (a b : Seat D) → IsSitting w a → Continues state w a b → IsSitting w b
-sitting_then w a b s f = record { setup = s.setup; t = s.t; p = s.p; sits = f.sits s.setup s.t s.p s.sits }
+pub sitting_then : {D : Type 0} {state : D → DiskState} → (w : Wires) (a b : Seat D) → IsSitting state w a → Continues state w a b → IsSitting state w b
+sitting_then w a b s f = record { setup = s.setup; t = s.t; p = s.p; opened = s.opened; sits = f.sits s.setup s.t s.p s.opened s.sits }
 
 -- ---- posts come
 
@@ -53,7 +55,7 @@ senders_of senders last (m ∷ ms) all = (all.0.sender, senders_of senders last 
 abbrev with_taken : {D : Type 0} → Seat D → Receiver → Written → Links → Seat D
 with_taken s take log links = record s { worker = record s.worker { links = links; log = log }; passes = record s.passes { take = take } }
 
-module _ {D : Type 0} (w : Wires) (s : Seat D) (take : Receiver) (log : Written) (links : Links) (links-is : links ≡ record s.worker.links { queues = links.queues }) (len : vec_len links.queues ≡ vec_len s.worker.links.queues)
+module _ {D : Type 0} (state : D → DiskState) (w : Wires) (s : Seat D) (take : Receiver) (log : Written) (links : Links) (links-is : links ≡ record s.worker.links { queues = links.queues }) (len : vec_len links.queues ≡ vec_len s.worker.links.queues)
     (f : Fetched s.worker.me s.passes.take s.worker.log s.worker.links.queues.items take log links.queues.items) where
   abbrev new : Seat D
   new = with_taken s take log links
@@ -61,16 +63,17 @@ module _ {D : Type 0} (w : Wires) (s : Seat D) (take : Receiver) (log : Written)
   abbrev posts : List Post
   posts = f.posts
 
-  seat : (setup : Setup) (t : ℕ) (p : Phase) (c : Course) → IsSeat setup t p c w s → IsSeat setup t p (arrived_more c posts log.last) w new
-  seat setup t p c q =
-      let a : IsAt setup t p c s.worker = q.worker in
+  seat : (setup : Setup) (t : ℕ) (p : Phase) (c : Course) (opened : List (DevId × D)) → IsSeat state setup t p c w opened s → IsSeat state setup t p (arrived_more c posts log.last) w opened new
+  seat setup t p c opened q =
+      let contents : DevId → Content = contents_of state s.disks in
+      let a : IsAt setup t p c contents s.worker = q.worker in
       let same : s.worker.me ≡ t = a.me in
       let senders : s.passes.take.senders ≡ setup.threads = q.linked.senders in
       let later : c.last ≤ log.last = subst (λ (n : ℕ). n ≤ log.last) a.log_last f.later in
-      let l : Local = local s.worker.thread s.worker.links in
-      let course : IsCourse setup t p (arrived_more c posts log.last) (with_queues l (with_arrived t (map message_of posts) l.shared.queues)) =
-      arrivals_are_met setup t p c l posts log.last later (stamps_of s.passes.take.senders log.last posts f.met)
-      (subst (λ (n : ℕ). AllByRecursion (λ m. m.message.sender < n) posts) senders (senders_of s.passes.take.senders log.last posts f.met)) a.course in
+      let l : Local = seen_over setup contents s.worker in
+      let course : AreBasesLowest setup → IsCourse setup t p (arrived_more c posts log.last) (with_queues l (with_arrived t (map message_of posts) l.shared.queues)) =
+      λ lowest. arrivals_are_met setup t p c l posts log.last later (stamps_of s.passes.take.senders log.last posts f.met)
+      (subst (λ (n : ℕ). AllByRecursion (λ m. m.message.sender < n) posts) senders (senders_of s.passes.take.senders log.last posts f.met)) (a.course lowest) in
       record {
         worker = record {
           me = a.me;
@@ -84,9 +87,11 @@ module _ {D : Type 0} (w : Wires) (s : Seat D) (take : Receiver) (log : Written)
           log_thread = ap (λ (x : Written). x.thread) f.log_is ∙ a.log_thread;
           log_entries = ap (λ (x : Written). x.entries) f.log_is ∙ a.log_entries;
           log_last = refl;
-          course =
-              subst (λ (x : Links). IsCourse setup t p (arrived_more c posts log.last) (local s.worker.thread x)) (sym links-is)
-              (subst (λ (qs : ℕ → List Message). IsCourse setup t p (arrived_more c posts log.last) (with_queues l qs)) (sym (f.queued ∙ ap (λ (n : ℕ). with_arrived n (map message_of posts) (queues_of s.worker.links.queues.items)) same)) course);
+          once = a.once;
+          replica = ap (λ (x : Links). x.registry.state) links-is ∙ a.replica;
+          course = λ lowest.
+              subst (λ (x : Links). IsCourse setup t p (arrived_more c posts log.last) (told_local setup contents (local s.worker.thread x))) (sym links-is)
+              (subst (λ (qs : ℕ → List Message). IsCourse setup t p (arrived_more c posts log.last) (with_queues l qs)) (sym (f.queued ∙ ap (λ (n : ℕ). with_arrived n (map message_of posts) (queues_of s.worker.links.queues.items)) same)) (course lowest));
         };
         linked = record {
           rings = q.linked.rings;
@@ -106,12 +111,12 @@ module _ {D : Type 0} (w : Wires) (s : Seat D) (take : Receiver) (log : Written)
         seen = q.seen;
         wrote = q.wrote;
         count = q.count;
+        done = q.done;
       }
 
-  pub received_continues : (state : D → DiskState) → Continues state w s new
-  received_continues state = record {
+  pub received_continues : Continues state w s new
+  received_continues = record {
     flag = ap (λ (x : Links). x.shut) links-is;
     halted = refl;
-    done = keeps_log state s.worker new.worker s.disks refl refl (ap (λ (x : Written). x.entries) f.log_is);
-    sits = λ setup t p h. record { course = arrived_more h.course posts log.last; seat = seat setup t p h.course h.seat };
+    sits = λ setup t p opened h. record { course = arrived_more h.course posts log.last; seat = seat setup t p h.course opened h.seat };
   }

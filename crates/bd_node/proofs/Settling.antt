@@ -1,15 +1,24 @@
--- The seats of a node that is done, taken apart: the merge of their logs is a complete run.
-use Rattle.std.proofs.Common.{◌≡◌, ℕ, ◌<◌, ◌≤◌, Bool, true, false, cond, nat_lt, List, [], ◌++◌, length, map, get_or, Option, Some, None, refl, sym, ◌∙◌, ap, ap₂, subst, ltb-true, vec_len, arith}
+-- The seats of a node that is done, taken apart: the merge of their logs is a complete run, which says what each thread served.
+use Rattle.std.proofs.Common.{◌≡◌, ℕ, ◌<◌, ◌≤◌, Bool, true, false, cond, nat_lt, List, [], ◌++◌, length, map, find, get_or, Option, Some, None, refl, sym, ◌∙◌, ap, ap₂, subst, ltb-true, vec_len, arith}
 use Rattle.std.specs.List.{list_all, slice_get}
 use Rattle.std.specs.Option.{option_map}
-use Rattle.std.proofs.lemmas.Bool.{and_parts, lt-ltb}
+use Rattle.std.proofs.lemmas.Bool.{lt-ltb}
 use Rattle.std.proofs.lemmas.List.{get_or_past, length-map}
 use Rattle.std.proofs.lemmas.Option.{get_or_from_slice_get, same_Some, slice_get-map, slice_get_past}
 use Rattle.bd_base.specs.declared.act.Entry.{Entry}
+use Rattle.bd_base.specs.declared.id.DevId.{DevId}
 use Rattle.bd_base.specs.declared.setup.Setup.{Setup}
 use Rattle.bd_log.specs.Log.{log_part, Written}
 use Rattle.bd_log.specs.Merge.{AreOfDifferentThreads, IsMerge, IsOrdered, Part}
-use Rattle.bd_machine.specs.Run.{IsCompleteRun}
+use Rattle.bd_machine.specs.BlockMap.{home}
+use Rattle.bd_machine.specs.Content.{Told}
+use Rattle.bd_machine.specs.Homes.{base_here, is_base}
+use Rattle.bd_machine.specs.Run.{state_after, IsCompleteRun}
+use Rattle.bd_machine.specs.Start.{start}
+use Rattle.bd_machine.specs.View.{part_of}
+use Rattle.bd_outside.specs.Disk.{DiskState}
+use Rattle.bd_told.specs.Told.{AreBasesLowest}
+use Rattle.bd_merged.specs.Fits.{IsMergeOf}
 use Rattle.bd_merged.specs.Journals.{events}
 use Rattle.bd_merged.specs.Laws.{ArePartsOf}
 use Rattle.bd_merged.specs.Rows.{entries, Row}
@@ -22,22 +31,23 @@ use Rattle.bd_turns.specs.Local.{Local}
 use Rattle.bd_apart.specs.Course.{all_rows, Course, IsCourse, Phase}
 use Rattle.bd_apart.specs.Ends as ends
 use Rattle.bd_apart.specs.Steps.{new_course}
-use Rattle.bd_apart.proofs.Ending.{courses_are_complete_run}
+use Rattle.bd_apart.proofs.Ending.{bases_end_as_seen, courses_are_complete_run, courses_serve_as_seen}
+use Rattle.bd_served.specs.Served.{served_from}
 use Rattle.bd_wires.specs.declared.wires.Passes.{Passes}
 use Rattle.bd_wires.specs.declared.wires.Wires.{Wires}
 use Rattle.bd_wires.specs.Wires as wires
 use Rattle.bd_node.specs.declared.seat.Seat.{Seat}
+use Rattle.bd_node.specs.Disks.{disks_at}
 use Rattle.bd_node.specs.Seats.{IsSeat}
 use Rattle.bd_node.specs.declared.node.Node.{Node}
-use Rattle.bd_node.specs.declared.node.NodeState.TheVariants.{Busy, Done, Idle}
-use Rattle.bd_node.specs.Whole.{are_all_taken, is_at_rest, is_idle, is_over, log_in, seat_has_destructed, seat_rests, setup_in, state_of, ArePhases, AreSeated, AreShut, IsNode}
+use Rattle.bd_node.specs.Whole.{are_all_taken, log_in, seat_has_destructed, seat_rests, setup_in, AreSeated, AreShut, IsNode}
 use Rattle.bd_node.proofs.Resting.{are_destructed, are_spent, local_or, locals_of, seat_at}
 
 abbrev pub passes_of : {D : Type 0} → Seat D → Passes
 passes_of s = s.passes
 
 -- what is made of each stands at its place
-map_at : {X Y : Type 0} (f : X → Y) (xs : List X) (i : ℕ) (x : X) → slice_get xs i ≡ Some x → slice_get (map f xs) i ≡ Some (f x)
+pub map_at : {X Y : Type 0} (f : X → Y) (xs : List X) (i : ℕ) (x : X) → slice_get xs i ≡ Some x → slice_get (map f xs) i ≡ Some (f x)
 map_at f xs i x e = slice_get-map f xs i ∙ ap (option_map f) e
 
 -- and what stands at a place is made of what stood there
@@ -53,13 +63,13 @@ map_from {X} {Y} f xs i y e = go (slice_get xs i) refl
 
 -- ---- seats, linked
 
-module _ {D : Type 0} (setup : Setup) (w : Wires) (seats : List (Seat D)) (shut : Bool) (phases : ℕ → Phase) (a : AreSeated setup w seats shut phases) where
+module _ {D : Type 0} (state : D → DiskState) (setup : Setup) (w : Wires) (starts : List (List (DevId × D))) (seats : List (Seat D)) (shut : Bool) (phases : ℕ → Phase) (a : AreSeated state setup w starts seats shut phases) where
   -- the passes of all seats are for these wires
   pub passes_linked : wires.AreLinked setup.threads w (map passes_of seats)
   passes_linked = ((a.each 0 first.0 first.1).sits.seat.linked.rings, each)
     where
       first : (s : Seat D) × (slice_get seats 0 ≡ Some s)
-      first = seat_at setup w seats shut phases a 0 a.some
+      first = seat_at state setup w starts seats shut phases a 0 a.some
 
       each : (t : ℕ) (q : Passes) → slice_get (map passes_of seats) t ≡ Some q → wires.IsLinked setup.threads w t q
       each t q e =
@@ -74,7 +84,7 @@ module _ {D : Type 0} (setup : Setup) (w : Wires) (seats : List (Seat D)) (shut 
 
   pub log_threads : (t : ℕ) (d : Part) → t < setup.threads → (get_or (map log_part (map log_in seats)) t d).thread ≡ t
   log_threads t d lt =
-      let u = seat_at setup w seats shut phases a t lt in
+      let u = seat_at state setup w starts seats shut phases a t lt in
       let at : slice_get (map log_part (map log_in seats)) t ≡ Some (log_part (log_in u.0)) = map_at log_part (map log_in seats) t (log_in u.0) (map_at log_in seats t u.0 u.1) in
       ap (λ (p : Part). p.thread) (get_or_from_slice_get (map log_part (map log_in seats)) t (log_part (log_in u.0)) d at)
       ∙ (a.each t u.0 u.1).sits.seat.worker.log_thread
@@ -93,25 +103,26 @@ module _ {D : Type 0} (setup : Setup) (w : Wires) (seats : List (Seat D)) (shut 
 
 -- ---- a node that is done
 
-module _ {D : Type 0} (setup : Setup) (w : Wires) (seats : List (Seat D)) (phases : ℕ → Phase) (a : AreSeated setup w seats true phases) (sh : AreShut setup phases) where
+module _ {D : Type 0} (state : D → DiskState) (setup : Setup) (told : Told) (w : Wires) (starts : List (List (DevId × D))) (seats : List (Seat D)) (phases : ℕ → Phase) (a : AreSeated state setup w starts seats true phases)
+    (sh : AreShut setup told phases) (lowest : AreBasesLowest setup) where
   abbrev course_or : (t : ℕ) (o : Option (Seat D)) → slice_get seats t ≡ o → Course
   course_or t None e = new_course
   course_or t (Some s) e = (a.each t s e).sits.course
 
   -- each thread's course
-  abbrev courses_of : ℕ → Course
+  abbrev pub courses_of : ℕ → Course
   courses_of t = course_or t (slice_get seats t) refl
 
   -- which its seat is on
-  seat_is : (t : ℕ) (s : Seat D) → slice_get seats t ≡ Some s → IsSeat setup t (phases t) (courses_of t) w s
+  pub seat_is : (t : ℕ) (s : Seat D) → slice_get seats t ≡ Some s → IsSeat state setup t (phases t) (courses_of t) w (disks_at starts t) s
   seat_is t s e = go (slice_get seats t) refl e
     where
-      go : (o : Option (Seat D)) (q : slice_get seats t ≡ o) → o ≡ Some s → IsSeat setup t (phases t) (course_or t o q) w s
+      go : (o : Option (Seat D)) (q : slice_get seats t ≡ o) → o ≡ Some s → IsSeat state setup t (phases t) (course_or t o q) w (disks_at starts t) s
       go None q f = absurd (none f)
         where
           none : None ≡ Some s → ⊥
           none h = cc
-      go (Some x) q f = subst (λ (y : Seat D). IsSeat setup t (phases t) (a.each t x q).sits.course w y) (same_Some x s f) (a.each t x q).sits.seat
+      go (Some x) q f = subst (λ (y : Seat D). IsSeat state setup t (phases t) (a.each t x q).sits.course w (disks_at starts t) y) (same_Some x s f) (a.each t x q).sits.seat
 
   abbrev rows_at : ℕ → List Row
   rows_at t = all_rows (phases t) (courses_of t)
@@ -130,26 +141,27 @@ module _ {D : Type 0} (setup : Setup) (w : Wires) (seats : List (Seat D)) (phase
       go true e = absurd (let lt : t < setup.threads = ltb-true t setup.threads e in omega arith)
       go false e = refl
 
-  abbrev ends_of : ℕ → Local
-  ends_of = locals_of setup seats
+  -- what each thread has at the end
+  abbrev pub ends_of : ℕ → Local
+  ends_of = locals_of state setup seats
 
-  seat_of : (t : ℕ) → t < setup.threads → (s : Seat D) × (slice_get seats t ≡ Some s)
-  seat_of t lt = seat_at setup w seats true phases a t lt
+  pub seat_of : (t : ℕ) → t < setup.threads → (s : Seat D) × (slice_get seats t ≡ Some s)
+  seat_of t lt = seat_at state setup w starts seats true phases a t lt
 
-  -- what a thread has at the end is what its seat has
-  end_is : (t : ℕ) (s : Seat D) → slice_get seats t ≡ Some s → ends_of t ≡ local_or setup t (Some s)
-  end_is t s e = ap (local_or setup t) e
+  -- which is what its seat has
+  pub end_is : (t : ℕ) (s : Seat D) → slice_get seats t ≡ Some s → ends_of t ≡ local_or state setup t (Some s)
+  end_is t s e = ap (local_or state setup t) e
 
   -- **the courses are at their end**
   ended : list_all seat_rests seats ≡ true → are_all_taken seats ≡ true → list_all seat_has_destructed seats ≡ true
-      → ends.AreEnded setup sh.stamp sh.firsts sh.marks logs_of courses_of ends_of
+      → ends.AreEnded setup told sh.stamp sh.firsts sh.marks logs_of courses_of ends_of
   ended rest taken gone = record {
     some = a.some;
-    marked = sh.marked;
+    marked = sh.marked lowest;
     courses = λ t lt.
         let u = seat_of t lt in
-        subst (λ (p : Phase). IsCourse setup t p (courses_of t) (ends_of t)) (sh.phases_are t)
-        (subst (λ (l : Local). IsCourse setup t (phases t) (courses_of t) l) (sym (end_is t u.0 u.1)) (seat_is t u.0 u.1).worker.course);
+        subst (λ (p : Phase). IsCourse setup t p (courses_of t) (ends_of t)) (sh.phases_are lowest t)
+        (subst (λ (l : Local). IsCourse setup t (phases t) (courses_of t) l) (sym (end_is t u.0 u.1)) ((seat_is t u.0 u.1).worker.course lowest));
     shut = λ t lt.
         let u = seat_of t lt in
         ap (λ (l : Local). l.shared.shut) (end_is t u.0 u.1) ∙ (a.each t u.0 u.1).flag;
@@ -161,11 +173,11 @@ module _ {D : Type 0} (setup : Setup) (w : Wires) (seats : List (Seat D)) (phase
         let u = seat_of t lt in
         let many : vec_len u.0.passes.sends ≡ setup.threads = (seat_is t u.0 u.1).linked.sends in
         sym ((seat_is t u.0 u.1).sent r) ∙ ap wires.put_by (slice_get_past u.0.passes.sends.items r (omega arith));
-    logs_are = λ t lt. logs_are t lt ∙ ap (λ (p : Phase). all_rows p (courses_of t)) (sh.phases_are t);
+    logs_are = λ t lt. logs_are t lt ∙ ap (λ (p : Phase). all_rows p (courses_of t)) (sh.phases_are lowest t);
     none_else = none_else;
     none_first = sh.none_first;
-    spent = are_spent setup w seats true phases a rest taken;
-    destructed = are_destructed setup w seats true phases a gone;
+    spent = are_spent state setup w starts seats true phases a rest taken;
+    destructed = are_destructed state setup w starts seats true phases a gone;
   }
 
   -- ---- the rings
@@ -198,9 +210,9 @@ module _ {D : Type 0} (setup : Setup) (w : Wires) (seats : List (Seat D)) (phase
         let u = seat_of t lt in
         h.rows t (passes_of u.0) (map_at passes_of seats t u.0 u.1)
         ∙ (seat_is t u.0 u.1).wrote
-        ∙ (seat_is t u.0 u.1).worker.course.wrote
+        ∙ ((seat_is t u.0 u.1).worker.course lowest).wrote
         ∙ ap (λ (rows : List Row). events (entries rows)) (sym (logs_are t lt));
-    others = λ t le. h.others t (subst (λ (n : ℕ). n ≤ t) (sym (passes_many setup w seats true phases a)) le);
+    others = λ t le. h.others t (subst (λ (n : ℕ). n ≤ t) (sym (passes_many state setup w starts seats true phases a)) le);
     seen = λ t lt.
         let u = seat_of t lt in
         subst (λ (js : List Entry). StartsWith r.journal js) (seat_is t u.0 u.1).seen (h.seen t (passes_of u.0) (map_at passes_of seats t u.0 u.1));
@@ -210,7 +222,7 @@ module _ {D : Type 0} (setup : Setup) (w : Wires) (seats : List (Seat D)) (phase
 
   parts_are : ArePartsOf setup.threads logs_of (map log_part (map log_in seats))
   parts_are = record {
-    len = parts_many setup w seats true phases a;
+    len = parts_many state setup w starts seats true phases a;
     each = λ t d lt.
         let u = seat_of t lt in
         get_or_from_slice_get (map log_part (map log_in seats)) t (log_part (log_in u.0)) d (map_at log_part (map log_in seats) t (log_in u.0) (map_at log_in seats t u.0 u.1))
@@ -219,52 +231,41 @@ module _ {D : Type 0} (setup : Setup) (w : Wires) (seats : List (Seat D)) (phase
     none_else = none_else;
   }
 
-  -- **a node that is done has a complete run**
-  pub done_complete : list_all seat_rests seats ≡ true → are_all_taken seats ≡ true → list_all seat_has_destructed seats ≡ true
-      → wires.AreDelivered (map passes_of seats)
-      → (r : Registered) → wires.HasJournalOf (map passes_of seats) r → IsOrdered r.journal → ((x : Setup) → HasRowsOf r x → IsReplayFromStart x r.journal)
-      → (merged : List Entry) → IsMerge (map log_part (map log_in seats)) merged → IsCompleteRun setup [] merged
-  done_complete rest taken gone d r h ordered replay merged m =
-      courses_are_complete_run setup sh.stamp sh.firsts sh.marks logs_of courses_of ends_of r.journal merged
-      (ended rest taken gone) (delivered d) (journal_of r h ordered replay) (merge_of_parts setup.threads logs_of (map log_part (map log_in seats)) merged parts_are m)
+  module _ (rest : list_all seat_rests seats ≡ true) (taken : are_all_taken seats ≡ true) (gone : list_all seat_has_destructed seats ≡ true) (d : wires.AreDelivered (map passes_of seats))
+      (r : Registered) (h : wires.HasJournalOf (map passes_of seats) r) (ordered : IsOrdered r.journal) (replay : (x : Setup) → HasRowsOf r x → IsReplayFromStart x r.journal)
+      (merged : List Entry) (m : IsMerge (map log_part (map log_in seats)) merged) where
+    merge_is : IsMergeOf logs_of merged
+    merge_is = merge_of_parts setup.threads logs_of (map log_part (map log_in seats)) merged parts_are m
+
+    -- **a node that is done has a complete run**
+    pub done_complete : IsCompleteRun setup told merged
+    done_complete =
+        courses_are_complete_run setup told sh.stamp sh.firsts sh.marks logs_of courses_of ends_of r.journal merged
+        (ended rest taken gone) (delivered d) (journal_of r h ordered replay) merge_is
+
+    -- in which each thread served what its course says
+    pub done_served : (t : ℕ) (dev : DevId) → t < setup.threads → served_from setup t dev (start setup told) merged ≡ (courses_of t).served dev
+    done_served =
+        courses_serve_as_seen setup told sh.stamp sh.firsts sh.marks logs_of courses_of ends_of r.journal merged
+        (ended rest taken gone) (delivered d) (journal_of r h ordered replay) merge_is
+
+    -- and which leaves of each base device what its home sees
+    pub done_bases : (dev : DevId) → find (is_base dev) (part_of (state_after setup told merged) (home setup dev)).bases ≡ base_here (ends_of (home setup dev)).view dev
+    done_bases =
+        bases_end_as_seen setup told sh.stamp sh.firsts sh.marks logs_of courses_of ends_of r.journal merged
+        (ended rest taken gone) (delivered d) (journal_of r h ordered replay) merge_is
 
 -- ---- a node, taken apart
 
-done_parts : (shut over idle : Bool) → cond shut (cond over Done Busy) (cond idle Idle Busy) ≡ Done → (shut ≡ true) × (over ≡ true)
-done_parts true true idle h = (refl, refl)
-done_parts true false idle h = cc
-done_parts false over true h = cc
-done_parts false over false h = cc
-
 -- the passes of all seats, of which there are this many, may be ended
-pub passes_fit : {D : Type 0} → (n : Node D) → IsNode n → (k : ℕ) (passes : List Passes) → k ≡ length passes → passes ≡ map passes_of n.seats.items → wires.AreLinked k n.wires passes
-passes_fit n h k passes many e =
+pub passes_fit : {D : Type 0} {state : D → DiskState} → (n : Node D) → IsNode state n → (k : ℕ) (passes : List Passes) → k ≡ length passes → passes ≡ map passes_of n.seats.items → wires.AreLinked k n.wires passes
+passes_fit {state = state} n h k passes many e =
     subst (λ (m : ℕ). wires.AreLinked m n.wires passes) (sym many)
     (subst (λ (qs : List Passes). wires.AreLinked (length qs) n.wires qs) (sym e)
-    (subst (λ (m : ℕ). wires.AreLinked m n.wires (map passes_of n.seats.items)) (sym (passes_many (setup_in n) n.wires n.seats.items n.shut h.phases h.seated))
-    (passes_linked (setup_in n) n.wires n.seats.items n.shut h.phases h.seated)))
+    (subst (λ (m : ℕ). wires.AreLinked m n.wires (map passes_of n.seats.items)) (sym (passes_many state (setup_in n) n.wires h.starts n.seats.items n.shut h.node.phases h.node.seated))
+    (passes_linked state (setup_in n) n.wires h.starts n.seats.items n.shut h.node.phases h.node.seated)))
 
 -- the logs of all seats may be merged
-pub logs_fit : {D : Type 0} → (n : Node D) → IsNode n → (logs : List Written) → logs ≡ map log_in n.seats.items → AreOfDifferentThreads (map log_part logs)
-logs_fit n h logs e =
-    subst (λ (ls : List Written). AreOfDifferentThreads (map log_part ls)) (sym e) (logs_apart (setup_in n) n.wires n.seats.items n.shut h.phases h.seated)
-
--- and where the node is done, their merge is a complete run
-pub node_complete : {D : Type 0} → (n : Node D) → IsNode n → state_of n ≡ Done → (logs : List Written) (passes : List Passes) → logs ≡ map log_in n.seats.items → passes ≡ map passes_of n.seats.items
-    → wires.AreDelivered passes → (r : Registered) → wires.HasJournalOf passes r → IsOrdered r.journal → ((x : Setup) → HasRowsOf r x → IsReplayFromStart x r.journal)
-    → (merged : List Entry) → IsMerge (map log_part logs) merged → IsCompleteRun (setup_in n) [] merged
-node_complete n h done logs passes logs-is passes-is d r j ordered replay merged m =
-    go n.shut (done_parts n.shut (is_over n) (is_idle n) done).0 h.seated h.phases_are
-  where
-    over : (is_at_rest n ≡ true) × (list_all seat_has_destructed n.seats.items ≡ true)
-    over = and_parts (is_at_rest n) (list_all seat_has_destructed n.seats.items) (done_parts n.shut (is_over n) (is_idle n) done).1
-
-    rest : (list_all seat_rests n.seats.items ≡ true) × (are_all_taken n.seats.items ≡ true)
-    rest = and_parts (list_all seat_rests n.seats.items) (are_all_taken n.seats.items) over.0
-
-    go : (b : Bool) → b ≡ true → AreSeated (setup_in n) n.wires n.seats.items b h.phases → ArePhases (setup_in n) b h.phases → IsCompleteRun (setup_in n) [] merged
-    go true e seated phased =
-        done_complete (setup_in n) n.wires n.seats.items h.phases seated phased rest.0 rest.1 over.1
-        (subst (λ (qs : List Passes). wires.AreDelivered qs) passes-is d) r (subst (λ (qs : List Passes). wires.HasJournalOf qs r) passes-is j) ordered replay merged
-        (subst (λ (ls : List Written). IsMerge (map log_part ls) merged) logs-is m)
-    go false e seated phased = cc
+pub logs_fit : {D : Type 0} {state : D → DiskState} → (n : Node D) → IsNode state n → (logs : List Written) → logs ≡ map log_in n.seats.items → AreOfDifferentThreads (map log_part logs)
+logs_fit {state = state} n h logs e =
+    subst (λ (ls : List Written). AreOfDifferentThreads (map log_part ls)) (sym e) (logs_apart state (setup_in n) n.wires h.starts n.seats.items n.shut h.node.phases h.node.seated)

@@ -26,16 +26,21 @@ use Rattle.bd_ring.specs.Slots.{Holder, after_give, after_take, IsTakenBy}
 use Rattle.bd_apart.specs.Course.{all_rows, Course, IsCourse, Phase}
 use Rattle.bd_apart.specs.Steps.{course_then, second_phase, with_registry, with_shutdown, SeesOwn}
 use Rattle.bd_apart.proofs.Following.{view_same}
+use Rattle.bd_apart.proofs.Rows.{registry_on}
 use Rattle.bd_apart.proofs.Shutting.{shutdown_begins_a_phase}
-use Rattle.bd_thread.specs.Seen.{local, number_of}
+use Rattle.bd_base.specs.declared.id.DevId.{DevId}
+use Rattle.bd_machine.specs.declared.state.Content.{Content}
+use Rattle.bd_outside.specs.Disk.{DiskState}
+use Rattle.bd_served.specs.Served.{ServedPiece}
+use Rattle.bd_storage.specs.Contents.{contents_of}
+use Rattle.bd_storage.specs.Served.{AreDoneBy}
+use Rattle.bd_thread.specs.Seen.{number_of}
+use Rattle.bd_told.specs.Told.{AreBasesLowest}
 use Rattle.bd_turns.specs.declared.queue.Post.{Post}
 use Rattle.bd_wires.specs.declared.wires.Wires.{Wires}
 use Rattle.bd_node.specs.declared.seat.Seat.{Seat}
 use Rattle.bd_node.specs.declared.worker.Worker.{Worker}
-use Rattle.bd_node.specs.Seats.{IsAt, IsLent, IsSeat}
-use Rattle.bd_thread.specs.declared.thread.Thread.{Thread}
-use Rattle.bd_thread.specs.Seen.{setup_of}
-use Rattle.bd_node.proofs.Disks.{keeps_log, keeps_shutdown}
+use Rattle.bd_node.specs.Seats.{seen_over, IsAt, IsLent, IsSeat}
 use Rattle.bd_node.specs.Shutting.{IsShutAt, LearnsShut, Shuts, ShutsWith, ShutWith}
 use Rattle.bd_node.proofs.Borrowing.{lent_is, own_rows}
 use Rattle.bd_node.proofs.Places.{is_below, set_else, set_here}
@@ -44,23 +49,24 @@ use Rattle.bd_node.proofs.Workers.{caught_up_at, rest_of_others, with_replica}
 -- ---- what a thread sees in a registry that follows
 
 -- the thread sees its handles and channels in its registry
-sees_own : (t : ℕ) (w : Worker) → number_of w.thread ≡ t → SeesOwn t (local w.thread w.links)
-sees_own t w same = subst (λ (n : ℕ). SeesOwn n (local w.thread w.links)) same (record { handles = refl; channels = refl })
+sees_own : (setup : Setup) (t : ℕ) (contents : DevId → Content) (w : Worker) → number_of w.thread ≡ t → SeesOwn t (seen_over setup contents w)
+sees_own setup t contents w same = subst (λ (n : ℕ). SeesOwn n (seen_over setup contents w)) same (record { handles = refl; channels = refl })
 
 -- what it sees is as before
-caught_up_view : (setup : Setup) (t : ℕ) (p : Phase) (c : Course) (w : Worker) (seen : ℕ) (lent r : Registered)
-    → IsAt setup t p c w
+caught_up_view : (setup : Setup) (t : ℕ) (p : Phase) (c : Course) (contents : DevId → Content) (w : Worker) (seen : ℕ) (lent r : Registered)
+    → AreBasesLowest setup
+    → IsAt setup t p c contents w
     → IsLent setup t c seen lent
     → lent.state ≡ registry_by setup (registry_at_start setup) lent.journal
     → r.state ≡ lent.state
-    → (local w.thread (with_replica w r).links).view ≡ (local w.thread w.links).view
-caught_up_view setup t p c w seen lent r a lends left state-is =
+    → (seen_over setup contents (with_replica w r)).view ≡ (seen_over setup contents w).view
+caught_up_view setup t p c contents w seen lent r lowest a lends left state-is =
     let rest : List Entry = lends.begins.0 in
     let is : lent.journal ≡ c.seen ++ rest = lends.begins.1 in
-    let l : Local = local w.thread w.links in
+    let l : Local = seen_over setup contents w in
     let leaves : r.state ≡ registry_by setup (registry_at_start setup) (c.seen ++ rest) = state-is ∙ left ∙ ap (registry_by setup (registry_at_start setup)) is in
     ap₂ (λ (n : ℕ) (g : Registry). (with_registry n g l).view) a.number leaves
-    ∙ sym (view_same setup t p c l rest (sees_own t w a.number) (rest_of_others t c.seen rest lent.journal is lends.own) a.course)
+    ∙ sym (view_same setup t p c l rest (sees_own setup t contents w a.number) (rest_of_others t c.seen rest lent.journal is lends.own) (a.course lowest))
 
 -- ---- the log
 
@@ -118,23 +124,22 @@ logged log one two after a b stamp first second stamp-is entries-are last-is thr
       second = omega arith;
     }
 
-pub shut_with : (setup : Setup) (p : Phase) (c : Course) (w : Worker) (seen : ℕ) (lent : Registered) (r : Registered) (log : Written) (stamp : ℕ) (lent' : Registered)
+pub shut_with : (setup : Setup) (p : Phase) (c : Course) (contents : DevId → Content) (w : Worker) (seen : ℕ) (lent : Registered) (r : Registered) (log : Written) (stamp : ℕ) (lent' : Registered)
     → lent.state ≡ registry_by setup (registry_at_start setup) lent.journal
     → r.setup ≡ w.links.registry.setup
     → r.state ≡ lent.state
     → w.log.last < stamp
     → HasShutdown stamp w.log log
     → lent' ≡ shut_at lent stamp
-    → IsAt setup 0 p c w
+    → IsAt setup 0 p c contents w
     → IsLent setup 0 c seen lent
-    → ShutWith setup p c stamp w lent (shut_by w r log) lent'
-shut_with setup p c w seen lent r log stamp lent' left setup-is state-is above logged shut-is a lends =
+    → ShutWith setup p c contents stamp w lent (shut_by w r log) lent'
+shut_with setup p c contents w seen lent r log stamp lent' left setup-is state-is above logged shut-is a lends =
     let c' : Course = record c { seen = lent.journal } in
-    let l : Local = local w.thread w.links in
-    let l' : Local = local w.thread (with_replica w r).links in
-    let caught : IsAt setup 0 p c' (with_replica w r) = caught_up_at setup 0 p c w seen lent r a lends left setup-is state-is in
+    let l' : Local = seen_over setup contents (with_replica w r) in
+    let caught : IsAt setup 0 p c' contents (with_replica w r) = caught_up_at setup 0 p c contents w seen lent r a lends left setup-is state-is in
     let later : c'.last < stamp = subst (λ (n : ℕ). n < stamp) a.log_last above in
-    let begun : IsCourse setup 0 (second_phase stamp 0 p c' l') (course_then stamp 0 c') (with_shutdown l') = shutdown_begins_a_phase setup 0 p c' l' stamp later caught.course in
+    let begun : AreBasesLowest setup → IsCourse setup 0 (second_phase stamp 0 p c' l') (course_then stamp 0 c') (with_shutdown l') = λ lowest. shutdown_begins_a_phase setup 0 p c' l' stamp later (caught.course lowest) in
     let entry-is : record { stamp = stamp; thread = w.log.thread; act = acts.Shutdown } ≡ shutdown_at stamp =
     ap (λ (n : ℕ). let e : Entry = record { stamp = stamp; thread = n; act = acts.Shutdown } in e) a.log_thread in
     record {
@@ -151,11 +156,16 @@ shut_with setup p c w seen lent r log stamp lent' left setup-is state-is above l
         log_thread = logged.thread ∙ a.log_thread;
         log_entries = logged.entries ∙ ap₂ (λ (xs : List Entry) (x : Entry). xs ++ x ∷ []) a.log_entries entry-is ∙ sym (entries_shut (all_rows p c) stamp 0);
         log_last = logged.last;
-        course =
-            subst (λ (v : View). IsCourse setup 0 (record { earlier = all_rows p c ++ shutdown_of stamp 0; from = v; since = stamp }) (course_then stamp 0 c') (with_shutdown l'))
-            (caught_up_view setup 0 p c w seen lent r a lends left state-is) begun;
+        once = a.once;
+        replica =
+            caught.replica
+            ∙ sym (registry_on setup (registry_at_start setup) lent.journal (shutdown_at stamp ∷ []));
+        course = λ lowest.
+            subst (λ (v : View). IsCourse setup 0 (record { served = c.served; earlier = all_rows p c ++ shutdown_of stamp 0; from = v; since = stamp }) (course_then stamp 0 c') (with_shutdown l'))
+            (caught_up_view setup 0 p c contents w seen lent r lowest a lends left state-is) (begun lowest);
       };
       posts = record { taken = refl; sent = refl };
+      served = refl;
       seen = sym (ap (λ (x : Registered). x.journal) shut-is);
       adds = (
         shutdown_at stamp ∷ [],
@@ -171,17 +181,18 @@ shut_with setup p c w seen lent r log stamp lent' left setup-is state-is above l
 abbrev pub seat_by : {D : Type 0} → Seat D → Worker → Holder → ℕ → Seat D
 seat_by s worker slot seen = record s { worker = worker; passes = record s.passes { slot = slot }; seen = seen }
 
-module _ {D : Type 0} (w : Wires) (s : Seat D) (lent lent' : Registered) (pass slot : Holder) (taken : IsTakenBy s.passes.slot lent.journal (start_of lent.setup) pass)
+module _ {D : Type 0} (state : D → DiskState) (w : Wires) (s : Seat D) (lent lent' : Registered) (pass slot : Holder) (taken : IsTakenBy s.passes.slot lent.journal (start_of lent.setup) pass)
     (given : slot ≡ after_give pass lent'.journal) where
   -- what the slot's pass is then
   slot_is : slot ≡ after_give (after_take s.passes.slot lent.journal) lent'.journal
   slot_is = given ∙ ap (λ (h : Holder). after_give h lent'.journal) taken.0
 
   -- it sits in the phase after the Shutdown
-  shut_at_first : (setup : Setup) (p : Phase) (c : Course) (stamp : ℕ) (worker : Worker) → IsSeat setup 0 p c w s → ShutWith setup p c stamp s.worker lent worker lent'
-      → IsShutAt setup 0 p c stamp w s (seat_by s worker slot (length lent'.journal))
-  shut_at_first setup p c stamp worker q shut =
-      let lends : IsLent setup 0 c s.seen lent = lent_is setup 0 p c w s lent pass q taken in
+  shut_at_first : (setup : Setup) (p : Phase) (c : Course) (opened : List (DevId × D)) (stamp : ℕ) (worker : Worker) → IsSeat state setup 0 p c w opened s
+      → ShutWith setup p c (contents_of state s.disks) stamp s.worker lent worker lent'
+      → IsShutAt state setup 0 p c stamp w opened s (seat_by s worker slot (length lent'.journal))
+  shut_at_first setup p c opened stamp worker q shut =
+      let lends : IsLent setup 0 c s.seen lent = lent_is setup 0 p c w opened s lent pass q taken in
       let added : List Entry = shut.adds.0 in
       let is : lent'.journal ≡ lent.journal ++ added = shut.adds.1 in
       let rows : s.passes.slot.wrote ++ drop (length lent.journal) lent'.journal ≡ entries_of 0 lent'.journal =
@@ -211,11 +222,12 @@ module _ {D : Type 0} (w : Wires) (s : Seat D) (lent lent' : Registered) (pass s
           seen = ap (λ (h : Holder). h.seen) slot_is ∙ sym shut.seen;
           wrote = ap (λ (h : Holder). h.wrote) slot_is ∙ rows ∙ ap (entries_of 0) (sym shut.seen);
           count = ap (λ (es : List Entry). length es) (sym shut.seen);
+          done = subst (λ (pieces : DevId → List ServedPiece). AreDoneBy state setup pieces opened s.disks) (sym shut.served) q.done;
         };
       }
 
   -- whoever sat there is thread 0
-  pub seat_shuts : (stamp above : ℕ) (worker : Worker) → s.worker.me ≡ 0 → s.worker.log.thread ≡ 0 → ShutsWith s.seen above s.worker lent stamp worker lent' → Shuts w stamp s (seat_by s worker slot (length lent'.journal))
+  pub seat_shuts : (stamp above : ℕ) (worker : Worker) → s.worker.me ≡ 0 → s.worker.log.thread ≡ 0 → ShutsWith s.seen above s.worker lent stamp worker lent' → Shuts state w stamp s (seat_by s worker slot (length lent'.journal))
   seat_shuts stamp above worker first thread shut = record {
     flag = shut.flag;
     halted = refl;
@@ -224,16 +236,16 @@ module _ {D : Type 0} (w : Wires) (s : Seat D) (lent lent' : Registered) (pass s
         shut.entries
         ∙ ap (λ (n : ℕ). let e : Entry = record { stamp = stamp; thread = n; act = acts.Shutdown } in s.worker.log.entries ++ e ∷ []) thread
         ∙ ap (λ b. s.worker.log.entries ++ cond b (shutdown_at stamp ∷ []) []) (sym (eq-eqb s.worker.me 0 first));
-    done = λ state. keeps_shutdown state s.worker worker s.disks stamp s.worker.log.thread shut.me (ap (λ (x : Thread). setup_of x) shut.thread) shut.entries;
-    sits = λ setup t p c q.
+    sits = λ setup t p c opened q.
         let zero_is : t ≡ 0 = sym q.worker.me ∙ first in
-        let q' : IsSeat setup 0 p c w s = subst (λ (n : ℕ). IsSeat setup n p c w s) zero_is q in
-        let lends : IsLent setup 0 c s.seen lent = lent_is setup 0 p c w s lent pass q' taken in
-        subst (λ (n : ℕ). IsShutAt setup n p c stamp w s (seat_by s worker slot (length lent'.journal))) (sym zero_is) (shut_at_first setup p c stamp worker q' (shut.at setup p c q'.worker lends));
+        let q' : IsSeat state setup 0 p c w opened s = subst (λ (n : ℕ). IsSeat state setup n p c w opened s) zero_is q in
+        let lends : IsLent setup 0 c s.seen lent = lent_is setup 0 p c w opened s lent pass q' taken in
+        subst (λ (n : ℕ). IsShutAt state setup n p c stamp w opened s (seat_by s worker slot (length lent'.journal))) (sym zero_is)
+        (shut_at_first setup p c opened stamp worker q' (shut.at setup p c (contents_of state s.disks) q'.worker lends));
   }
 
   -- the registry goes back into its slot as the slot wants it
-  module _ (setup : Setup) (p : Phase) (c : Course) (stamp : ℕ) (worker : Worker) (q : IsSeat setup 0 p c w s) (shut : ShutWith setup p c stamp s.worker lent worker lent') where
+  module _ (setup : Setup) (p : Phase) (c : Course) (opened : List (DevId × D)) (stamp : ℕ) (worker : Worker) (q : IsSeat state setup 0 p c w opened s) (shut : ShutWith setup p c (contents_of state s.disks) stamp s.worker lent worker lent') where
     pub gives_start : start_of lent'.setup ≡ pass.start
     gives_start = shut.start ∙ taken.3 ∙ sym (ap (λ (h : Holder). h.start) taken.0)
 
@@ -249,15 +261,15 @@ abbrev pub learnt_by : {D : Type 0} → Seat D → ℕ → Seat D
 learnt_by s stamp = record s { worker = record s.worker { links = record s.worker.links { shut = true }; log = record s.worker.log { last = max s.worker.log.last stamp } } }
 
 pub learns_shut : {D : Type 0} → (stamp : ℕ) (s : Seat D) → s.worker.me ≢ 0 → s.worker.log.last < stamp → LearnsShut stamp s (learnt_by s stamp)
-learns_shut stamp s other above w = record {
+learns_shut stamp s other above state w = record {
   flag = refl;
   halted = refl;
   later = above;
   entries = sym (append-nil s.worker.log.entries) ∙ ap (λ b. s.worker.log.entries ++ cond b (shutdown_at stamp ∷ []) []) (sym (ne_eqb s.worker.me 0 other));
-  done = λ state. keeps_log state s.worker (learnt_by s stamp).worker s.disks refl refl refl;
-  sits = λ setup t p c q.
-      let a : IsAt setup t p c s.worker = q.worker in
-      let l : Local = local s.worker.thread s.worker.links in
+  sits = λ setup t p c opened q.
+      let contents : DevId → Content = contents_of state s.disks in
+      let a : IsAt setup t p c contents s.worker = q.worker in
+      let l : Local = seen_over setup contents s.worker in
       let ne : t ≢ 0 = λ e. other (a.me ∙ e) in
       let later : c.last < stamp = subst (λ (n : ℕ). n < stamp) a.log_last above in
       let seen-is : (course_then stamp t c).seen ≡ c.seen = ap (λ b. cond b (c.seen ++ shutdown_at stamp ∷ []) c.seen) (ne_eqb t 0 ne) in
@@ -281,7 +293,9 @@ learns_shut stamp s other above w = record {
                 ∙ ap (λ (xs : List Row). entries (all_rows p c) ++ entries xs) (sym (none_of_others stamp t ne))
                 ∙ sym (entries_shut (all_rows p c) stamp t);
             log_last = (let e : max s.worker.log.last stamp ≡ stamp = omega arith in e);
-            course = shutdown_begins_a_phase setup t p c l stamp later a.course;
+            once = a.once;
+            replica = a.replica ∙ ap (λ (js : List Entry). registry_by setup (registry_at_start setup) js) same;
+            course = λ lowest. shutdown_begins_a_phase setup t p c l stamp later (a.course lowest);
           };
           linked = q.linked;
           start = q.start;
@@ -290,6 +304,7 @@ learns_shut stamp s other above w = record {
           seen = q.seen ∙ same;
           wrote = q.wrote ∙ ap (entries_of t) same;
           count = q.count ∙ ap (λ (es : List Entry). length es) same;
+          done = q.done;
         };
       };
 }

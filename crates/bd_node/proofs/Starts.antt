@@ -1,16 +1,29 @@
 -- Seats before any entry, and a node of them.
 use Rattle.std.proofs.Common.{◌≡◌, ℕ, zero, suc, ◌+◌, ◌<◌, List, [], ◌∷◌, ◌++◌, length, vec_len, drop, Some, None, ◌⊎◌, inl, inr, refl, sym, ◌∙◌, ap, subst, add-one, rules}
 use Rattle.std.specs.List.{slice_get}
+use Rattle.std.specs.Option.{option_map}
 use Rattle.std.specs.Prelude.{false}
 use Rattle.std.proofs.lemmas.List.{length-replicate}
-use Rattle.std.proofs.lemmas.Option.{same_Some}
+use Rattle.std.proofs.lemmas.Option.{get_or_from_slice_get, same_Some, slice_get-map}
+use Rattle.bd_base.specs.declared.id.DevId.{DevId}
 use Rattle.bd_base.specs.declared.setup.Setup.{Setup}
 use Rattle.bd_turns.specs.declared.queue.Message.{Message}
+use Rattle.bd_machine.specs.declared.state.Content.{Content}
+use Rattle.bd_machine.specs.Content.{Told}
+use Rattle.bd_machine.specs.View.{View}
+use Rattle.bd_outside.specs.Disk.{DiskState}
+use Rattle.bd_storage.specs.Contents.{contents_of}
+use Rattle.bd_storage.specs.Served.{AreDoneBy}
+use Rattle.bd_storage.proofs.Served.{done_none}
+use Rattle.bd_told.specs.Told.{told_local, IsOnce}
+use Rattle.bd_told.proofs.Kept.{start_is_once}
+use Rattle.bd_turns.specs.Laws.{shared_at_start}
 use Rattle.bd_turns.specs.Local.{Local}
 use Rattle.bd_registry.specs.State.{Registered, start_of}
 use Rattle.bd_apart.specs.Course.{IsCourse}
-use Rattle.bd_apart.specs.Steps.{first_phase, new_course}
+use Rattle.bd_apart.specs.Steps.{first_phase, local_at_start, new_course}
 use Rattle.bd_apart.proofs.Arriving.{course_begins}
+use Rattle.bd_thread.specs.Seen.{local}
 use Rattle.bd_thread.proofs.Starting.{new_is_at_start}
 use Rattle.bd_wires.specs.declared.wires.Passes.{Passes}
 use Rattle.bd_wires.specs.declared.wires.Wires.{Wires}
@@ -19,6 +32,8 @@ use Rattle.bd_node.specs.declared.seat.Seat.{Seat}
 use Rattle.bd_node.specs.Seats.{IsSeat}
 use Rattle.bd_node.specs.Starting.{AreNewSeats, IsNewSeat}
 use Rattle.bd_node.specs.Whole.{AreSeated}
+use Rattle.bd_node.specs.Disks.{disks_at, disks_of, told_of}
+use Rattle.bd_node.proofs.Opened.{opened_view}
 use Rattle.bd_node.proofs.Places.{has_at, is_below}
 
 -- ---- seats, one after the other
@@ -71,10 +86,14 @@ new_more {D} setup passes seats n s q len a at new = record { each = λ i u r h 
 
 -- ---- a seat
 
--- a new thread with new passes is at the start of its course
-pub seat_begins : {D : Type 0} → (setup : Setup) (w : Wires) (i : ℕ) (s : Seat D) (q : Passes) → i < setup.threads → IsNewSeat i setup q s → IsLinked setup.threads w i q → IsUnused (start_of setup) q
-    → IsSeat setup i (first_phase setup i) new_course w s
-seat_begins setup w i s q within new linked unused =
+-- a new thread with new passes is at the start of its course, and its disks did nothing yet
+pub seat_begins : {D : Type 0} → (state : D → DiskState) (setup : Setup) (disks : List (List (DevId × D))) (w : Wires) (i : ℕ) (s : Seat D) (q : Passes) → i < setup.threads → IsNewSeat i setup q s
+    → disks_at disks i ≡ s.disks → IsLinked setup.threads w i q → IsUnused (start_of setup) q
+    → IsSeat state setup i (first_phase setup (told_of state setup disks) i) new_course w (disks_at disks i) s
+seat_begins {D} state setup disks w i s q within new own linked unused =
+    let told : Told = told_of state setup disks in
+    let contents : DevId → Content = contents_of state s.disks in
+    let begun : local s.worker.thread s.worker.links ≡ local_at_start setup [] i = new_is_at_start i setup s.worker.thread s.worker.links new.thread new.links in
     let passes : s.passes ≡ q = new.passes_are in
     record {
       worker = record {
@@ -92,8 +111,12 @@ seat_begins setup w i s q within new linked unused =
         log_thread = new.log_thread;
         log_entries = new.log_entries;
         log_last = new.log_last;
-        course =
-            subst (λ (l : Local). IsCourse setup i (first_phase setup i) new_course l) (sym (new_is_at_start i setup s.worker.thread s.worker.links new.thread new.links)) (course_begins setup i);
+        once = λ dev. subst (λ (l : Local). IsOnce dev l.view.part.bases) (sym begun) (start_is_once setup [] i dev);
+        replica = ap (λ (l : Local). l.shared.registry) begun;
+        course = λ lowest.
+            subst (λ (l : Local). IsCourse setup i (first_phase setup told i) new_course (told_local setup contents l)) (sym begun)
+            (subst (λ (v : View). IsCourse setup i (first_phase setup told i) new_course (record { view = v; shared = shared_at_start setup })) (opened_view state setup disks i s.disks lowest own)
+            (course_begins setup told i));
       };
       linked = subst (λ (x : Passes). IsLinked setup.threads w i x) (sym passes) linked;
       start = ap (λ (x : Passes). x.slot.start) passes ∙ unused.start_is;
@@ -102,21 +125,25 @@ seat_begins setup w i s q within new linked unused =
       seen = ap (λ (x : Passes). x.slot.seen) passes ∙ unused.seen;
       wrote = ap (λ (x : Passes). x.slot.wrote) passes ∙ unused.wrote;
       count = new.seen;
+      done = subst (λ (opened : List (DevId × D)). AreDoneBy state setup new_course.served opened s.disks) (sym own) (done_none state setup s.disks);
     }
 
 -- ---- a node
 
-pub seated_at_start : {D : Type 0} → (setup : Setup) (w : Wires) (seats : List (Seat D)) (passes : List Passes) → 0 < setup.threads → length seats ≡ setup.threads
-    → AreNew setup.threads (start_of setup) w passes → AreNewSeats setup passes seats → AreSeated setup w seats false (first_phase setup)
-seated_at_start setup w seats passes some len wires new = record {
+pub seated_at_start : {D : Type 0} → (state : D → DiskState) (setup : Setup) (disks : List (List (DevId × D))) (w : Wires) (seats : List (Seat D)) (passes : List Passes) → 0 < setup.threads → length seats ≡ setup.threads
+    → AreNew setup.threads (start_of setup) w passes → AreNewSeats setup passes seats → disks_of seats ≡ disks
+    → AreSeated state setup w disks seats false (first_phase setup (told_of state setup disks))
+seated_at_start {D} state setup disks w seats passes some len wires new disks-are = record {
   some = some;
   len = len;
   each = λ i s h.
       let within : i < setup.threads = subst (λ (n : ℕ). i < n) len (is_below seats i s h) in
       let q = has_at passes i (subst (λ (n : ℕ). i < n) (sym wires.len) within) in
       let is : IsNewSeat i setup q.0 s = new.each i s q.0 h q.1 in
+      let own : disks_at disks i ≡ s.disks =
+      get_or_from_slice_get disks i s.disks [] (ap (λ (ds : List (List (DevId × D))). slice_get ds i) (sym disks-are) ∙ slice_get-map (λ (x : Seat D). x.disks) seats i ∙ ap (option_map (λ (x : Seat D). x.disks)) h) in
       record {
-        sits = record { course = new_course; seat = seat_begins setup w i s q.0 within is (wires.linked.1 i q.0 q.1) (wires.unused i q.0 q.1) };
+        sits = record { course = new_course; seat = seat_begins state setup disks w i s q.0 within is own (wires.linked.1 i q.0 q.1) (wires.unused i q.0 q.1) };
         flag = is.links.running;
         goes = is.goes;
       };

@@ -1,27 +1,39 @@
 -- Seats: each thread of a node with what it has for itself and its passes, and when it is on its course.
 use Rattle.std.specs.Prelude.{◌≡◌, ℕ, ◌+◌, ◌<◌, Bool, true, false, List, [], length, vec_len, slice_index_or, Option, Some, None}
 use Rattle.bd_base.specs.declared.act.Entry.{Entry}
+use Rattle.bd_base.specs.declared.id.DevId.{DevId}
 use Rattle.bd_base.specs.declared.setup.Setup.{Setup}
 use Rattle.bd_log.specs.Merge.{entries_of}
+use Rattle.bd_machine.specs.declared.state.Content.{Content}
+use Rattle.bd_machine.specs.Start.{registry_at_start}
 use Rattle.bd_outside.specs.Disk.{DiskState}
 use Rattle.bd_registry.specs.State.{Registered, rows_of, start_of}
 use Rattle.bd_merged.specs.Rows.{entries}
+use Rattle.bd_merged.specs.Journals.{registry_by}
 use Rattle.bd_ring.specs.SlotRule.{AddsOwn, StartsWith}
 use Rattle.bd_apart.specs.Course.{all_rows, Course, IsCourse, Phase}
+use Rattle.bd_storage.specs.Contents.{contents_of}
+use Rattle.bd_storage.specs.Served.{AreDoneBy}
 use Rattle.bd_thread.specs.Requests.{KeepsTickets}
 use Rattle.bd_thread.specs.declared.turn.Turned.{Turned}
 use Rattle.bd_thread.specs.declared.turn.Turned.TheVariants.{Moved, Quiet}
 use Rattle.bd_thread.specs.Seen.{local, number_of, setup_of}
+use Rattle.bd_told.specs.Told.{told_local, AreBasesLowest, IsOnce}
+use Rattle.bd_turns.specs.Local.{Local}
 use Rattle.bd_wires.specs.declared.wires.Wires.{Wires}
 use Rattle.bd_wires.specs.Wires.{put_into, IsLinked}
 use Rattle.bd_node.specs.declared.seat.Seat.{Seat}
 use Rattle.bd_node.specs.declared.worker.Worker.{Worker}
-use Rattle.bd_node.specs.Disks.{KeepsDone}
+use Rattle.bd_node.specs.Disks.{AddsServed}
 
 -- ---- a worker
 
--- thread t of the setup, with its links and its log, is at this place of its course
-pub record IsAt (setup : Setup) (t : ℕ) (p : Phase) (c : Course) (w : Worker) : Type 0 where
+-- what its thread sees and has for itself, where its disks hold this
+abbrev pub seen_over : Setup → (DevId → Content) → Worker → Local
+seen_over setup contents w = told_local setup contents (local w.thread w.links)
+
+-- thread t of the setup, with its links and its log, is at this place of its course, where its disks hold this
+pub record IsAt (setup : Setup) (t : ℕ) (p : Phase) (c : Course) (contents : DevId → Content) (w : Worker) : Type 0 where
   pub me : w.me ≡ t
   pub number : number_of w.thread ≡ t
   pub given : setup_of w.thread ≡ setup
@@ -34,7 +46,11 @@ pub record IsAt (setup : Setup) (t : ℕ) (p : Phase) (c : Course) (w : Worker) 
   pub log_thread : w.log.thread ≡ t
   pub log_entries : w.log.entries ≡ entries (all_rows p c)
   pub log_last : w.log.last ≡ c.last
-  pub course : IsCourse setup t p c (local w.thread w.links)
+  -- each device has one base at most, and the registry is what the journal leaves of which it saw the rows
+  pub once : (dev : DevId) → IsOnce dev w.thread.part.bases
+  pub replica : w.links.registry.state ≡ registry_by setup (registry_at_start setup) c.seen
+  -- where base devices stand on nothing
+  pub course : AreBasesLowest setup → IsCourse setup t p c (seen_over setup contents w)
 
 -- it is at some place of its course
 pub record IsWorking (w : Worker) : Type 0 where
@@ -42,22 +58,27 @@ pub record IsWorking (w : Worker) : Type 0 where
   pub t : ℕ
   pub p : Phase
   pub c : Course
-  pub at : IsAt setup t p c w
+  pub contents : DevId → Content
+  pub at : IsAt setup t p c contents w
 
 -- the same messages came and went
 pub record HasSamePosts (c c' : Course) : Type 0 where
   pub taken : c'.taken ≡ c.taken
   pub sent : c'.sent ≡ c.sent
 
--- without the registry: wherever it was on its course, it is further on it
-pub record WentAlone (setup : Setup) (t : ℕ) (p : Phase) (c : Course) (new : Worker) : Type 0 where
+-- without the registry: wherever it was on its course, it is further on it, and its disks, which were the first before and are the second after,
+-- did what the course says
+pub record WentAlone {D : Type 0} (state : D → DiskState) (setup : Setup) (t : ℕ) (p : Phase) (c : Course) (before after : List (DevId × D)) (new : Worker) : Type 0 where
   pub course : Course
-  pub at : IsAt setup t p course new
+  pub at : IsAt setup t p course (contents_of state after) new
   pub posts : HasSamePosts c course
   pub seen : course.seen ≡ c.seen
+  pub did : AddsServed state setup c course before after
 
-abbrev pub GoesAlone : Worker → Worker → Type 0
-GoesAlone old new = (new.links.shut ≡ old.links.shut) × ((setup : Setup) (t : ℕ) (p : Phase) (c : Course) → IsAt setup t p c old → WentAlone setup t p c new)
+abbrev pub GoesAlone : {D : Type 0} → (D → DiskState) → List (DevId × D) → List (DevId × D) → Worker → Worker → Type 0
+GoesAlone state before after old new =
+    (new.links.shut ≡ old.links.shut)
+    × ((setup : Setup) (t : ℕ) (p : Phase) (c : Course) → IsAt setup t p c (contents_of state before) old → WentAlone state setup t p c before after new)
 
 -- ---- what an answer tells
 
@@ -98,22 +119,25 @@ pub record IsLentTo (w : Worker) (seen : ℕ) (lent : Registered) : Type 0 where
   pub t : ℕ
   pub p : Phase
   pub c : Course
-  pub at : IsAt setup t p c w
+  pub contents : DevId → Content
+  pub at : IsAt setup t p c contents w
   pub lent_is : IsLent setup t c seen lent
 
--- it saw the registry's journal to its end, in which it put rows of its own alone
-pub record WentWith (setup : Setup) (t : ℕ) (p : Phase) (c : Course) (lent : Registered) (new : Worker) (lent' : Registered) : Type 0 where
+-- it saw the registry's journal to its end, in which it put rows of its own alone, and its disks did what its course says
+pub record WentWith {D : Type 0} (state : D → DiskState) (setup : Setup) (t : ℕ) (p : Phase) (c : Course) (before after : List (DevId × D)) (lent : Registered) (new : Worker) (lent' : Registered) : Type 0 where
   pub course : Course
-  pub at : IsAt setup t p course new
+  pub at : IsAt setup t p course (contents_of state after) new
   pub posts : HasSamePosts c course
   pub seen : course.seen ≡ lent'.journal
   pub adds : AddsOwn t lent.journal lent'.journal
   pub start : start_of lent'.setup ≡ start_of lent.setup
+  pub did : AddsServed state setup c course before after
 
-abbrev pub GoesWith : ℕ → Worker → Registered → Worker → Registered → Type 0
-GoesWith seen old lent new lent' =
+abbrev pub GoesWith : {D : Type 0} → (D → DiskState) → List (DevId × D) → List (DevId × D) → ℕ → Worker → Registered → Worker → Registered → Type 0
+GoesWith state before after seen old lent new lent' =
     (new.links.shut ≡ old.links.shut)
-    × ((setup : Setup) (t : ℕ) (p : Phase) (c : Course) → IsAt setup t p c old → IsLent setup t c seen lent → WentWith setup t p c lent new lent')
+    × ((setup : Setup) (t : ℕ) (p : Phase) (c : Course) → IsAt setup t p c (contents_of state before) old → IsLent setup t c seen lent
+    → WentWith state setup t p c before after lent new lent')
 
 -- ---- a seat
 
@@ -129,9 +153,10 @@ made_by s = made_in s.worker
 abbrev pub HasSameEntries : {D : Type 0} → Seat D → Seat D → Type 0
 HasSameEntries old new = entries_in new ≡ entries_in old
 
--- thread t of the setup sits with its passes for these wires, at this place of its course
-pub record IsSeat {D : Type 0} (setup : Setup) (t : ℕ) (p : Phase) (c : Course) (w : Wires) (s : Seat D) : Type 0 where
-  pub worker : IsAt setup t p c s.worker
+-- thread t of the setup sits with its passes for these wires, at this place of its course; these were its disks at their opening, and they did just the
+-- pieces that the course says
+pub record IsSeat {D : Type 0} (state : D → DiskState) (setup : Setup) (t : ℕ) (p : Phase) (c : Course) (w : Wires) (opened : List (DevId × D)) (s : Seat D) : Type 0 where
+  pub worker : IsAt setup t p c (contents_of state s.disks) s.worker
   pub linked : IsLinked setup.threads w t s.passes
   pub start : s.passes.slot.start ≡ start_of setup
   pub taken : s.passes.take.taken ≡ c.taken
@@ -139,33 +164,34 @@ pub record IsSeat {D : Type 0} (setup : Setup) (t : ℕ) (p : Phase) (c : Course
   pub seen : s.passes.slot.seen ≡ c.seen
   pub wrote : s.passes.slot.wrote ≡ entries_of t c.seen
   pub count : s.seen ≡ length c.seen
+  pub done : AreDoneBy state setup c.served opened s.disks
 
 -- thread t of the setup sits, in this phase of its course
-pub record Sits {D : Type 0} (setup : Setup) (t : ℕ) (p : Phase) (w : Wires) (s : Seat D) : Type 0 where
+pub record Sits {D : Type 0} (state : D → DiskState) (setup : Setup) (t : ℕ) (p : Phase) (w : Wires) (opened : List (DevId × D)) (s : Seat D) : Type 0 where
   pub course : Course
-  pub seat : IsSeat setup t p course w s
+  pub seat : IsSeat state setup t p course w opened s
 
 -- the number of the thread that it says it is
 abbrev pub number_in : {D : Type 0} → Seat D → ℕ
 number_in s = s.worker.me
 
--- some thread sits, in some phase
-pub record IsSitting {D : Type 0} (w : Wires) (s : Seat D) : Type 0 where
+-- some thread sits, in some phase, whatever its disks were at their opening
+pub record IsSitting {D : Type 0} (state : D → DiskState) (w : Wires) (s : Seat D) : Type 0 where
   pub setup : Setup
   pub t : ℕ
   pub p : Phase
-  pub sits : Sits setup t p w s
+  pub opened : List (DevId × D)
+  pub sits : Sits state setup t p w opened s
 
 -- it sits, unless it has to halt
-abbrev pub SitsOrHalts : {D : Type 0} → Wires → Seat D → Type 0
-SitsOrHalts w s = s.halted ≡ None → IsSitting w s
+abbrev pub SitsOrHalts : {D : Type 0} → (D → DiskState) → Wires → Seat D → Type 0
+SitsOrHalts state w s = s.halted ≡ None → IsSitting state w s
 
--- whoever sat there sits there still, further on its course
+-- whoever sat there, whatever its disks were at their opening, sits there still, further on its course
 pub record Continues {D : Type 0} (state : D → DiskState) (w : Wires) (old new : Seat D) : Type 0 where
   pub flag : new.worker.links.shut ≡ old.worker.links.shut
   pub halted : new.halted ≡ old.halted
-  pub done : KeepsDone state old.worker old.disks new.worker new.disks
-  pub sits : (setup : Setup) (t : ℕ) (p : Phase) → Sits setup t p w old → Sits setup t p w new
+  pub sits : (setup : Setup) (t : ℕ) (p : Phase) (opened : List (DevId × D)) → Sits state setup t p w opened old → Sits state setup t p w opened new
 
 -- whichever the wires
 abbrev pub KeepsOn : {D : Type 0} → (D → DiskState) → Seat D → Seat D → Type 0

@@ -3,39 +3,39 @@ use Rattle.std.specs.Prelude.{◌≡◌, ◌≢◌, ℕ, ◌<◌, ◌==◌, true
 use Rattle.bd_base.specs.declared.act.Act.TheVariants as acts
 use Rattle.bd_base.specs.declared.act.Entry.{Entry}
 use Rattle.bd_base.specs.declared.setup.Setup.{Setup}
+use Rattle.bd_base.specs.declared.id.DevId.{DevId}
+use Rattle.bd_machine.specs.declared.state.Content.{Content}
 use Rattle.bd_machine.specs.Lines.{shutdown_at}
 use Rattle.bd_outside.specs.Disk.{DiskState}
 use Rattle.bd_registry.specs.State.{Registered, start_of}
 use Rattle.bd_ring.specs.SlotRule.{AddsOwn}
 use Rattle.bd_apart.specs.Course.{Course, Phase}
 use Rattle.bd_apart.specs.Steps.{second_phase}
-use Rattle.bd_thread.specs.Seen.{local}
+use Rattle.bd_storage.specs.Contents.{contents_of}
 use Rattle.bd_wires.specs.declared.wires.Wires.{Wires}
 use Rattle.bd_node.specs.declared.node.Node.{Node}
 use Rattle.bd_node.specs.declared.seat.Seat.{Seat}
 use Rattle.bd_node.specs.declared.worker.Worker.{Worker}
-use Rattle.bd_node.specs.Disks.{KeepsDone}
-use Rattle.bd_node.specs.Seats.{entries_in, HasSamePosts, IsAt, IsLent, IsSeat}
+use Rattle.bd_node.specs.Seats.{entries_in, seen_over, HasSamePosts, IsAt, IsLent, IsSeat}
 
 -- ---- a worker
 
 -- thread 0 has the Shutdown with this stamp in its log, and the registry in its journal, which the thread saw to its end
-pub record ShutWith (setup : Setup) (p : Phase) (c : Course) (stamp : ℕ) (old : Worker) (lent : Registered) (new : Worker) (lent' : Registered) : Type 0 where
+pub record ShutWith (setup : Setup) (p : Phase) (c : Course) (contents : DevId → Content) (stamp : ℕ) (old : Worker) (lent : Registered) (new : Worker) (lent' : Registered) : Type 0 where
   pub course : Course
-  pub at : IsAt setup 0 (second_phase stamp 0 p c (local old.thread old.links)) course new
+  pub at : IsAt setup 0 (second_phase stamp 0 p c (seen_over setup contents old)) course contents new
   pub posts : HasSamePosts c course
+  pub served : course.served ≡ c.served
   pub seen : course.seen ≡ lent'.journal
   pub adds : AddsOwn 0 lent.journal lent'.journal
   pub start : start_of lent'.setup ≡ start_of lent.setup
 
 pub record ShutsWith (seen met : ℕ) (old : Worker) (lent : Registered) (stamp : ℕ) (new : Worker) (lent' : Registered) : Type 0 where
-  pub me : new.me ≡ old.me
-  pub thread : new.thread ≡ old.thread
   pub flag : new.links.shut ≡ true
   pub above : met < stamp
   pub later : old.log.last < stamp
   pub entries : new.log.entries ≡ old.log.entries ++ record { stamp = stamp; thread = old.log.thread; act = acts.Shutdown } ∷ []
-  pub at : (setup : Setup) (p : Phase) (c : Course) → IsAt setup 0 p c old → IsLent setup 0 c seen lent → ShutWith setup p c stamp old lent new lent'
+  pub at : (setup : Setup) (p : Phase) (c : Course) (contents : DevId → Content) → IsAt setup 0 p c contents old → IsLent setup 0 c seen lent → ShutWith setup p c contents stamp old lent new lent'
 
 -- ---- a seat
 
@@ -44,21 +44,20 @@ abbrev pub shutdown_by : ℕ → ℕ → List Entry
 shutdown_by stamp t = cond (t == 0) (shutdown_at stamp ∷ []) []
 
 -- a Shutdown came with this stamp: whoever sat there, at some place of its course, sits there in the phase after it
-pub record IsShutAt {D : Type 0} (setup : Setup) (t : ℕ) (p : Phase) (c : Course) (stamp : ℕ) (w : Wires) (old new : Seat D) : Type 0 where
+pub record IsShutAt {D : Type 0} (state : D → DiskState) (setup : Setup) (t : ℕ) (p : Phase) (c : Course) (stamp : ℕ) (w : Wires) (opened : List (DevId × D)) (old new : Seat D) : Type 0 where
   pub course : Course
-  pub seat : IsSeat setup t (second_phase stamp t p c (local old.worker.thread old.worker.links)) course w new
+  pub seat : IsSeat state setup t (second_phase stamp t p c (seen_over setup (contents_of state old.disks) old.worker)) course w opened new
 
-pub record Shuts {D : Type 0} (w : Wires) (stamp : ℕ) (old new : Seat D) : Type 0 where
+pub record Shuts {D : Type 0} (state : D → DiskState) (w : Wires) (stamp : ℕ) (old new : Seat D) : Type 0 where
   pub flag : new.worker.links.shut ≡ true
   pub halted : new.halted ≡ old.halted
   pub later : old.worker.log.last < stamp
   pub entries : entries_in new ≡ entries_in old ++ shutdown_by stamp old.worker.me
-  pub done : (state : D → DiskState) → KeepsDone state old.worker old.disks new.worker new.disks
-  pub sits : (setup : Setup) (t : ℕ) (p : Phase) (c : Course) → IsSeat setup t p c w old → IsShutAt setup t p c stamp w old new
+  pub sits : (setup : Setup) (t : ℕ) (p : Phase) (c : Course) (opened : List (DevId × D)) → IsSeat state setup t p c w opened old → IsShutAt state setup t p c stamp w opened old new
 
 -- so it is with any wires
 abbrev pub LearnsShut : {D : Type 0} → ℕ → Seat D → Seat D → Type 0
-LearnsShut stamp old new = (w : Wires) → Shuts w stamp old new
+LearnsShut {D} stamp old new = (state : D → DiskState) (w : Wires) → Shuts state w stamp old new
 
 -- each seat but the first is another thread's than 0, and has lower stamps
 abbrev pub AreToLearn : {D : Type 0} → ℕ → List (Seat D) → Type 0

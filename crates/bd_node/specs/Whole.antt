@@ -1,9 +1,11 @@
 -- A node: when all its seats are on their courses, and how far it is.
 use Rattle.std.specs.Prelude.{◌≡◌, ℕ, ◌<◌, ◌≤◌, ◌==◌, Bool, true, false, cond, ◌&&◌, List, [], length, map, sum_by, slice_get, Option, Some, None, is_none, not}
 use Rattle.std.specs.List.{list_all}
+use Rattle.bd_base.specs.declared.id.DevId.{DevId}
 use Rattle.bd_base.specs.declared.setup.Setup.{Setup}
 use Rattle.bd_log.specs.Log.{log_part, Written}
 use Rattle.bd_log.specs.Merge.{Part}
+use Rattle.bd_machine.specs.Content.{Told}
 use Rattle.bd_machine.specs.Messages.{count_at}
 use Rattle.bd_machine.specs.View.{View}
 use Rattle.bd_merged.specs.Rows.{Row}
@@ -14,47 +16,56 @@ use Rattle.bd_apart.specs.Steps.{first_phase}
 use Rattle.bd_thread.specs.Resting.{has_destructed_all, is_blocked, rests}
 use Rattle.bd_seat.specs.declared.seat_no.SeatNo.{SeatNo}
 use Rattle.bd_seat.specs.declared.seat_no.SeatNo.TheVariants.{OutOfMemory, StampsSpent}
+use Rattle.bd_told.specs.Told.{AreBasesLowest}
 use Rattle.bd_wires.specs.declared.wires.Wires.{Wires}
 use Rattle.bd_node.specs.declared.node.Node.{Node}
 use Rattle.bd_node.specs.declared.node.NodeState.{NodeState}
 use Rattle.bd_node.specs.declared.node.NodeState.TheVariants.{Idle, Done, Busy}
 use Rattle.bd_node.specs.declared.seat.Seat.{Seat}
-use Rattle.bd_node.specs.Disks.{StillHaveDone}
+use Rattle.bd_node.specs.Disks.{disks_at, told_of}
 use Rattle.bd_node.specs.Seats.{made_by, Sits}
 
 -- ---- all seats
 
 -- thread i sits in its phase, knows whether the Shutdown came, and doesn't halt
-pub record IsIn {D : Type 0} (setup : Setup) (w : Wires) (shut : Bool) (phases : ℕ → Phase) (i : ℕ) (s : Seat D) : Type 0 where
-  pub sits : Sits setup i (phases i) w s
+pub record IsIn {D : Type 0} (state : D → DiskState) (setup : Setup) (w : Wires) (starts : List (List (DevId × D))) (shut : Bool) (phases : ℕ → Phase) (i : ℕ) (s : Seat D) : Type 0 where
+  pub sits : Sits state setup i (phases i) w (disks_at starts i) s
   pub flag : s.worker.links.shut ≡ shut
   pub goes : s.halted ≡ None
 
--- each thread of the setup sits at its place
-pub record AreSeated {D : Type 0} (setup : Setup) (w : Wires) (seats : List (Seat D)) (shut : Bool) (phases : ℕ → Phase) : Type 0 where
+-- each thread of the setup sits at its place, where these were the disks of the threads at their opening, in order
+pub record AreSeated {D : Type 0} (state : D → DiskState) (setup : Setup) (w : Wires) (starts : List (List (DevId × D))) (seats : List (Seat D)) (shut : Bool) (phases : ℕ → Phase) : Type 0 where
   pub some : 0 < setup.threads
   pub len : length seats ≡ setup.threads
-  pub each : (i : ℕ) (s : Seat D) → slice_get seats i ≡ Some s → IsIn setup w shut phases i s
+  pub each : (i : ℕ) (s : Seat D) → slice_get seats i ≡ Some s → IsIn state setup w starts shut phases i s
 
 -- ---- their phases
 
 -- a Shutdown came with this stamp, when all rested
-pub record AreShut (setup : Setup) (phases : ℕ → Phase) : Type 0 where
+pub record AreShut (setup : Setup) (told : Told) (phases : ℕ → Phase) : Type 0 where
   pub stamp : ℕ
   pub firsts : ℕ → List Row
   pub marks : ℕ → View
-  pub marked : AreMarked setup stamp firsts marks
   pub none_first : (t : ℕ) → setup.threads ≤ t → firsts t ≡ []
-  pub phases_are : (t : ℕ) → phases t ≡ phase_after stamp firsts marks t
+  -- where base devices stand on nothing
+  pub marked : AreBasesLowest setup → AreMarked setup told stamp firsts marks
+  pub phases_are : AreBasesLowest setup → (t : ℕ) → phases t ≡ phase_after setup told stamp firsts marks t
 
-abbrev pub ArePhases : Setup → Bool → (ℕ → Phase) → Type 0
-ArePhases setup false phases = (t : ℕ) → phases t ≡ first_phase setup t
-ArePhases setup true phases = AreShut setup phases
+abbrev pub ArePhases : Setup → Told → Bool → (ℕ → Phase) → Type 0
+ArePhases setup told false phases = (t : ℕ) → phases t ≡ first_phase setup told t
+ArePhases setup told true phases = AreShut setup told phases
 
-pub record IsNode {D : Type 0} (n : Node D) : Type 0 where
+-- these were the disks of its threads at their opening: each thread is on its course from what they told, and its disks did what the course says
+pub record IsNodeOf {D : Type 0} (state : D → DiskState) (starts : List (List (DevId × D))) (n : Node D) : Type 0 where
+  pub many : length starts ≡ n.setup.now.threads
   pub phases : ℕ → Phase
-  pub seated : AreSeated n.setup.now n.wires n.seats.items n.shut phases
-  pub phases_are : ArePhases n.setup.now n.shut phases
+  pub seated : AreSeated state n.setup.now n.wires starts n.seats.items n.shut phases
+  pub phases_are : ArePhases n.setup.now (told_of state n.setup.now starts) n.shut phases
+
+-- so it is, whatever they were
+pub record IsNode {D : Type 0} (state : D → DiskState) (n : Node D) : Type 0 where
+  pub starts : List (List (DevId × D))
+  pub node : IsNodeOf state starts n
 
 abbrev pub seat_goes : {D : Type 0} → Seat D → Bool
 seat_goes s = is_none s.halted
@@ -71,13 +82,15 @@ abbrev pub halt_of : {D : Type 0} → List (Seat D) → SeatNo
 halt_of seats = cond (list_all seat_has_stamps seats) OutOfMemory StampsSpent
 
 -- whichever setup's threads sat at their places sit there still, where none has to halt
-abbrev pub StaySeated : {D : Type 0} → Wires → List (Seat D) → List (Seat D) → Type 0
-StaySeated w old new = list_all seat_goes new ≡ true → (setup : Setup) (shut : Bool) (phases : ℕ → Phase) → AreSeated setup w old shut phases → AreSeated setup w new shut phases
+abbrev pub StaySeated : {D : Type 0} → (D → DiskState) → Wires → List (Seat D) → List (Seat D) → Type 0
+StaySeated {D} state w old new =
+    list_all seat_goes new ≡ true
+    → (setup : Setup) (starts : List (List (DevId × D))) (shut : Bool) (phases : ℕ → Phase) → AreSeated state setup w starts old shut phases → AreSeated state setup w starts new shut phases
 
--- its threads went on with their disks, and what lies on its shelf lies there still
+-- its threads went on with their disks, whatever these were at their opening, and what lies on its shelf lies there still
 pub record KeepsDisks {D : Type 0} (state : D → DiskState) (old new : Node D) : Type 0 where
   pub shelf : new.shelf.items ≡ old.shelf.items
-  pub done : StillHaveDone state old.seats.items new.seats.items
+  pub node : (starts : List (List (DevId × D))) → IsNodeOf state starts old → IsNodeOf state starts new
 
 -- ---- how far it is
 

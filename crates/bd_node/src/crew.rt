@@ -87,7 +87,7 @@ impl<'w, 'g, G: Gate> Crew<'w, 'g, G> {
         place: usize,
     ) -> bool
         requires within { place < length seats.old }
-        requires sit { All (SitsOrHalts wires.now) seats.old }
+        requires sit { All (SitsOrHalts D.state wires.now) seats.old }
         ensures { AllWentOn D.state wires.now seats.old seats.new }
     {
         self.turns = self.turns.saturating_add(1);
@@ -110,7 +110,7 @@ impl<'w, 'g, G: Gate> Crew<'w, 'g, G> {
         place: usize,
     ) -> bool
         requires within { place < length seats.old }
-        requires sit { All (SitsOrHalts wires.now) seats.old }
+        requires sit { All (SitsOrHalts D.state wires.now) seats.old }
         ensures { AllWentOn D.state wires.now seats.old seats.new }
     {
         let moved = self.turn(rt, alloc, wires, seats, place);
@@ -129,7 +129,7 @@ impl<'w, 'g, G: Gate> Crew<'w, 'g, G> {
         wires: &Wires,
         seats: &mut [Seat<D>],
     ) -> bool
-        requires { All (SitsOrHalts wires.now) seats.old }
+        requires { All (SitsOrHalts D.state wires.now) seats.old }
         ensures { AllWentOn D.state wires.now seats.old seats.new }
     {
         let mut moved = false;
@@ -148,7 +148,7 @@ impl<'w, 'g, G: Gate> Crew<'w, 'g, G> {
         wires: &Wires,
         seats: &mut [Seat<D>],
     ) -> bool
-        requires { All (SitsOrHalts wires.now) seats.old }
+        requires { All (SitsOrHalts D.state wires.now) seats.old }
         ensures { AllWentOn D.state wires.now seats.old seats.new }
     {
         if self.pass(rt, alloc, wires, seats) {
@@ -168,7 +168,7 @@ impl<'w, 'g, G: Gate> Crew<'w, 'g, G> {
         wires: &Wires,
         seats: &mut [Seat<D>],
     )
-        requires { All (SitsOrHalts wires.now) seats.old }
+        requires { All (SitsOrHalts D.state wires.now) seats.old }
         ensures { AllWentOn D.state wires.now seats.old seats.new }
     {
         for _ in rt.forever() {
@@ -190,7 +190,7 @@ pub(crate) fn give_turns<W: Wait, G: Gate, D: Disk>(
     watch: &Watch<G>,
     seats: &mut [Seat<D>],
 )
-    requires { All (SitsOrHalts wires.now) seats.old }
+    requires { All (SitsOrHalts D.state wires.now) seats.old }
     ensures { AllWentOn D.state wires.now seats.old seats.new }
 {
     let mut crew = Crew {

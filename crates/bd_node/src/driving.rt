@@ -1,17 +1,17 @@
 //! What a node does: its turns and rounds, its shutdown, and its end.
-ghost use Rattle.std.specs.Prelude.{◌≡◌, ◌<◌, ◌≤◌, ◌+◌, List, [], slice_index_or, None, false, length, sum_by, vec_len, IfOk, MatchBool, OnOk};
+ghost use Rattle.std.specs.Prelude.{◌≡◌, ◌<◌, ◌≤◌, ◌+◌, List, [], None, false, length, sum_by, vec_len, IfOk, MatchBool, OnOk};
 ghost use Rattle.std.specs.List.{list_all};
 ghost use Rattle.bd_apart.specs.Steps.{first_phase};
 ghost use Rattle.bd_log.specs.Merge.{IsMerge};
 ghost use Rattle.bd_machine.specs.Run.{IsCompleteRun};
 ghost use Rattle.bd_base.specs.declared.id.DevId.{DevId};
-ghost use Rattle.bd_outside.specs.Disk.{DiskState};
-ghost use Rattle.bd_node.specs.Disks.{disks_of, HaveDone, SaysOfDisks};
+ghost use Rattle.bd_told.specs.Told.{AreBasesLowest};
+ghost use Rattle.bd_node.specs.Disks.{disks_of, told_of, SaysOfDisks};
 ghost use Rattle.bd_node.specs.Schedule.{advance, advance_by};
 ghost use Rattle.bd_node.specs.Seats.{has_moved, made_by, HasMoved, Tells};
 ghost use Rattle.bd_node.specs.Shutting.{AddsShutdown, IsUnchanged};
 ghost use Rattle.bd_node.specs.Waits.{TurnsQuietly};
-ghost use Rattle.bd_node.specs.Whole.{AreSeated, HasSameFlag, KeepsDisks, HasSameSetup, IsNode, are_all_taken, entries_made, halt_of, has_taken, is_spent, is_at_rest, is_idle, is_over, logs_of, seat_goes, seat_has_destructed, seat_has_stamps, seat_is_blocked, seat_rests, seed_of, setup_in, state_of};
+ghost use Rattle.bd_node.specs.Whole.{AreSeated, HasSameFlag, KeepsDisks, HasSameSetup, IsNode, IsNodeOf, are_all_taken, entries_made, halt_of, has_taken, is_spent, is_at_rest, is_idle, is_over, logs_of, seat_goes, seat_has_destructed, seat_has_stamps, seat_is_blocked, seat_rests, seed_of, setup_in, state_of};
 
 use crate::building::{abandon_all, seats_of};
 use crate::crew::Watch;
@@ -120,7 +120,7 @@ fn is_spent(halted: Option<SeatNo>) -> bool
 }
 
 // The threads of a setup before any entry, each with the disks at its place of the shelf, and what they share.
-fn seat_all<'a, R: Wait, D>(
+fn seat_all<'a, R: Wait, D: Disk>(
     rt: &R,
     alloc: Global,
     setup: &'a Setup,
@@ -129,7 +129,8 @@ fn seat_all<'a, R: Wait, D>(
     requires some { 0 < setup.now.threads }
     requires disks { length shelf.old.items ≡ setup.now.threads }
     requires room { setup.now.threads ≤ shelf.old.capacity }
-    ensures seated { IfOk result (λ made. AreSeated setup.now made.0 made.1.items false (first_phase setup.now)) }
+    ensures seated { IfOk result (λ made. AreSeated D.state setup.now made.0 shelf.old.items made.1.items false
+        (first_phase setup.now (told_of D.state setup.now shelf.old.items))) }
     ensures none { IfOk result (λ made. sum_by made_by made.1.items ≡ 0) }
     ensures disks { IfOk result (λ made. disks_of made.1.items ≡ shelf.old.items) }
     ensures empty { IfOk result (λ _made. shelf.new.items ≡ []) }
@@ -154,11 +155,12 @@ impl<'a, D: Disk> Node<'a, D> {
         requires some { 0 < setup.now.threads }
         requires disks { length disks.items ≡ setup.now.threads }
         requires room { setup.now.threads ≤ disks.capacity }
-        ensures node { IfOk result IsNode }
+        ensures node { IfOk result (IsNode D.state) }
+        ensures opened { IfOk result (IsNodeOf D.state disks.items) }
         ensures setup { IfOk result (λ node. setup_in node ≡ setup.now) }
         ensures seed { IfOk result (λ node. seed_of node ≡ seed) }
         ensures none { IfOk result (λ node. entries_made node ≡ 0) }
-        ensures disks { IfOk result (λ node. HaveDone D.state (λ t. slice_index_or disks.items t []) node.seats.items) }
+        ensures disks { IfOk result (λ node. disks_of node.seats.items ≡ disks.items) }
         ensures shelf { IfOk result (λ node. node.shelf.items ≡ []) }
     {
         let mut shelf = disks;
@@ -179,8 +181,8 @@ impl<'a, D: Disk> Node<'a, D> {
 
     /// A turn of a thread; quiet where there is no such thread.
     pub fn turn_of<R: Wait>(&mut self, rt: &R, thread: u32) -> Result<Turned, SeatNo>
-        requires { IsNode self.old }
-        ensures node { OnOk result (IsNode self.new) }
+        requires { IsNode D.state self.old }
+        ensures node { OnOk result (IsNode D.state self.new) }
         ensures setup { OnOk result (HasSameSetup self.old self.new) }
         ensures flag { OnOk result (HasSameFlag self.old self.new) }
         ensures schedule { OnOk result (seed_of self.new ≡ seed_of self.old) }
@@ -199,8 +201,8 @@ impl<'a, D: Disk> Node<'a, D> {
 
     // The next turn by the schedule; whether it moved.
     fn next_turn<R: Wait>(&mut self, rt: &R) -> Result<bool, SeatNo>
-        requires { IsNode self.old }
-        ensures node { OnOk result (IsNode self.new) }
+        requires { IsNode D.state self.old }
+        ensures node { OnOk result (IsNode D.state self.new) }
         ensures setup { OnOk result (HasSameSetup self.old self.new) }
         ensures flag { OnOk result (HasSameFlag self.old self.new) }
         ensures schedule { OnOk result (seed_of self.new ≡ advance (seed_of self.old)) }
@@ -214,8 +216,8 @@ impl<'a, D: Disk> Node<'a, D> {
 
     /// 256 turns by the schedule, which goes on from call to call. True where some turn moved.
     pub fn round_by<R: Wait>(&mut self, rt: &R) -> Result<bool, SeatNo>
-        requires { IsNode self.old }
-        ensures node { OnOk result (IsNode self.new) }
+        requires { IsNode D.state self.old }
+        ensures node { OnOk result (IsNode D.state self.new) }
         ensures setup { OnOk result (HasSameSetup self.old self.new) }
         ensures flag { OnOk result (HasSameFlag self.old self.new) }
         ensures schedule { OnOk result (seed_of self.new ≡ advance_by 256 (seed_of self.old)) }
@@ -244,8 +246,8 @@ impl<'a, D: Disk + Send> Node<'a, D> {
         reactors: u32,
         gate: &G,
     ) -> Result<(), SeatNo>
-        requires { IsNode self.old }
-        ensures node { OnOk result (IsNode self.new) }
+        requires { IsNode D.state self.old }
+        ensures node { OnOk result (IsNode D.state self.new) }
         ensures setup { OnOk result (HasSameSetup self.old self.new) }
         ensures flag { OnOk result (HasSameFlag self.old self.new) }
         ensures schedule { OnOk result (seed_of self.new ≡ seed_of self.old) }
@@ -305,17 +307,19 @@ impl<'a, D> Node<'a, D> {
             NodeState::Busy
         }
     }
+}
 
+impl<'a, D: Disk> Node<'a, D> {
     /// Thread 0 shuts down, with a stamp above all others. False where the registry wasn't in its slot; then
     /// the node isn't shut.
     pub fn shut<R: Wait>(&mut self, rt: &R) -> Result<bool, SeatNo>
-        requires node { IsNode self.old }
+        requires node { IsNode D.state self.old }
         requires idle { state_of self.old ≡ NodeState.Idle }
-        ensures node { OnOk result (IsNode self.new) }
+        ensures node { OnOk result (IsNode D.state self.new) }
         ensures setup { OnOk result (HasSameSetup self.old self.new) }
         ensures shut { IfOk result (λ shut. self.new.shut ≡ shut) }
         ensures logs { IfOk result (λ shut. MatchBool shut (AddsShutdown self.old self.new) (IsUnchanged self.old self.new)) }
-        ensures disks { (state : D → DiskState) → OnOk result (KeepsDisks state self.old self.new) }
+        ensures disks { OnOk result (KeepsDisks D.state self.old self.new) }
     {
         let above = greatest(self.seats.as_slice());
         let first = &mut self.seats[0];
@@ -330,13 +334,14 @@ impl<'a, D> Node<'a, D> {
     /// The history of a run that is complete: the threads' logs, merged by stamp and thread. The disks are given
     /// back, also where there was no memory for the history.
     pub fn settle<R: Wait>(self, rt: &R) -> (Result<History, OutOfMemory>, Shelf<D>)
-        requires node { IsNode self }
+        requires node { IsNode D.state self }
         requires done { state_of self ≡ NodeState.Done }
         ensures merged { IfOk result.0 (λ history. IsMerge (logs_of self.entry) history) }
-        ensures complete { IfOk result.0 (λ history. IsCompleteRun (setup_in self.entry) [] history) }
-        ensures disks { (state : D → DiskState) (starts : List (List (DevId × D))) → self.entry.shelf.items ≡ []
-            → length starts ≡ (setup_in self.entry).threads → HaveDone state (λ t. slice_index_or starts t []) self.entry.seats.items
-            → IfOk result.0 (λ history. SaysOfDisks state (setup_in self.entry) history starts result.1.items) }
+        ensures complete { (starts : List (List (DevId × D))) → IsNodeOf D.state starts self.entry → AreBasesLowest (setup_in self.entry)
+            → IfOk result.0 (λ history. IsCompleteRun (setup_in self.entry) (told_of D.state (setup_in self.entry) starts) history) }
+        ensures disks { (starts : List (List (DevId × D))) → self.entry.shelf.items ≡ []
+            → IsNodeOf D.state starts self.entry → AreBasesLowest (setup_in self.entry)
+            → IfOk result.0 (λ history. SaysOfDisks D.state (setup_in self.entry) history starts result.1.items) }
     {
         let Node {
             alloc,
@@ -360,7 +365,9 @@ impl<'a, D> Node<'a, D> {
             Err(OutOfMemory) => (Err(OutOfMemory), shelf),
         }
     }
+}
 
+impl<'a, D> Node<'a, D> {
     /// Abandons every ticket, where the run halts, and gives the disks back.
     pub fn abandon(self) -> Shelf<D> {
         let Node {

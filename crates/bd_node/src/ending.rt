@@ -10,6 +10,7 @@ use crate::worker::Worker;
 use bd_base::{Act, OutOfMemory};
 use bd_disks::Shelf;
 use bd_log::Log;
+use bd_outside::Disk;
 use bd_registry::Registry;
 use bd_seat::{SeatNo, catch_up};
 use bd_wires::{Passes, Wires};
@@ -52,7 +53,7 @@ impl<'a> Worker<'a> {
     }
 }
 
-impl<'a, D> Seat<'a, D> {
+impl<'a, D: Disk> Seat<'a, D> {
     /// Thread 0 shuts down, with a stamp above this one, which it answers. None where the registry wasn't in its
     /// slot; then nothing changes.
     pub fn shut<W: Wait>(
@@ -62,9 +63,9 @@ impl<'a, D> Seat<'a, D> {
         wires: &Wires,
         above: u128,
     ) -> Result<Option<u128>, SeatNo>
-        requires sits { IsSitting wires.now self.old }
+        requires sits { IsSitting D.state wires.now self.old }
         requires first { self.old.worker.me ≡ 0 }
-        ensures shut { IfOk result (λ o. MatchOption o (self.new ≡ self.old) (λ stamp. (above < stamp) × Shuts wires.now stamp self.old self.new)) }
+        ensures shut { IfOk result (λ o. MatchOption o (self.new ≡ self.old) (λ stamp. (above < stamp) × Shuts D.state wires.now stamp self.old self.new)) }
     {
         let Some(mut lent) = wires.slot.try_take(rt, &mut self.passes.slot) else {
             return Ok(None);
@@ -74,7 +75,9 @@ impl<'a, D> Seat<'a, D> {
         wires.slot.give(rt, &mut self.passes.slot, lent);
         Ok(Some(stamp))
     }
+}
 
+impl<'a, D> Seat<'a, D> {
     /// Another thread learns of the Shutdown, whose stamp its log meets.
     pub fn learn_shut(&mut self, stamp: u128)
         requires other { self.old.worker.me ≢ 0 }

@@ -3,7 +3,8 @@ ghost use Rattle.std.specs.Prelude.{◌≡◌, ◌<◌, ◌≤◌, [], true, len
 ghost use Rattle.bd_machine.specs.Run.{IsCompleteRun};
 ghost use Rattle.bd_node.specs.declared.node.NodeState.TheVariants as states;
 ghost use Rattle.bd_node.specs.Schedule.{seed_by};
-ghost use Rattle.bd_node.specs.Disks.{SaysOfDisks};
+ghost use Rattle.bd_node.specs.Disks.{told_of, SaysOfDisks};
+ghost use Rattle.bd_told.specs.Told.{AreBasesLowest};
 ghost use Rattle.bd_node.specs.Whole.{HasSameSetup, IsNode, KeepsDisks, state_of};
 
 use crate::history::History;
@@ -45,8 +46,8 @@ fn play_out<'a, R: Threads + Wait + Sync, G: Gate + Sync, D: Disk + Send>(
     drive: Drive,
     gate: &G,
 ) -> Result<(), SeatNo>
-    requires { IsNode node.old }
-    ensures node { OnOk result (IsNode node.new) }
+    requires { IsNode D.state node.old }
+    ensures node { OnOk result (IsNode D.state node.new) }
     ensures setup { OnOk result (HasSameSetup node.old node.new) }
     ensures disks { OnOk result (KeepsDisks D.state node.old node.new) }
     ensures done { OnOk result (state_of node.new ≡ states.Done) }
@@ -69,9 +70,10 @@ fn play_out<'a, R: Threads + Wait + Sync, G: Gate + Sync, D: Disk + Send>(
 }
 
 /// Plays the setup's scripts to their end on as many threads as it has: however they are driven, what is
-/// returned is a complete run of the machine. It answers out of memory also where a number of a thread
-/// runs out, as after 2^62 requests or 2^128 stamps. The disks are those of each thread, in the order of the
-/// threads' numbers, and are given back however the run ends, in some order.
+/// returned is a complete run of the machine, over what the disks told when it was called, where the setup's
+/// base devices stand on nothing. It answers out of memory also where a number of a thread runs out, as after
+/// 2^62 requests or 2^128 stamps. The disks are those of each thread, in the order of the threads' numbers, and
+/// are given back however the run ends, in some order.
 pub fn play<R: Threads + Wait + Sync, G: Gate + Sync, D: Disk + Send>(
     rt: &R,
     alloc: Global,
@@ -83,8 +85,8 @@ pub fn play<R: Threads + Wait + Sync, G: Gate + Sync, D: Disk + Send>(
     requires some { 0 < setup.now.threads }
     requires disks { length disks.items ≡ setup.now.threads }
     requires room { setup.now.threads ≤ disks.capacity }
-    ensures complete { IfOk result.0 (λ history. IsCompleteRun setup.now [] history) }
-    ensures disks { IfOk result.0 (λ history. SaysOfDisks D.state setup.now history disks.items result.1.items) }
+    ensures complete { AreBasesLowest setup.now → IfOk result.0 (λ history. IsCompleteRun setup.now (told_of D.state setup.now disks.items) history) }
+    ensures disks { AreBasesLowest setup.now → IfOk result.0 (λ history. SaysOfDisks D.state setup.now history disks.items result.1.items) }
 {
     let mut node = match Node::build(rt, alloc, setup, disks, drive.seed()) {
         Ok(node) => node,

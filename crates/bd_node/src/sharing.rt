@@ -1,10 +1,8 @@
 //! How reactors share the threads of a node.
-ghost use Rattle.std.specs.Prelude.{◌≡◌, ◌<◌, All, IsPermutation, true, length};
-ghost use Rattle.std.specs.List.{list_all};
+ghost use Rattle.std.specs.Prelude.{◌≡◌, ◌<◌, All, IsPermutation, length};
 ghost use Rattle.std.specs.List.Sorted.{IsNonDecreasingBy};
-ghost use Rattle.bd_node.specs.Disks.{StillHaveDone};
 ghost use Rattle.bd_node.specs.Seats.{AllWentOn, IsSitting, number_in};
-ghost use Rattle.bd_node.specs.Whole.{seat_goes, StaySeated};
+ghost use Rattle.bd_node.specs.Whole.{StaySeated};
 
 use crate::crew::{Watch, give_turns};
 use crate::seat::Seat;
@@ -79,7 +77,7 @@ fn turn_each<R: Threads + Wait + Sync, G: Gate + Sync, D: Disk + Send>(
     seats: &mut [Seat<D>],
 )
     requires some { 0 < each }
-    requires sits { All (IsSitting wires.now) seats.old }
+    requires sits { All (IsSitting D.state wires.now) seats.old }
     ensures len { length seats.new ≡ length seats.old }
     ensures each { AllWentOn D.state wires.now seats.old seats.new }
 {
@@ -101,10 +99,9 @@ pub(crate) fn turn_all<R: Threads + Wait + Sync, G: Gate + Sync, D: Disk + Send>
     seats: &mut [Seat<D>],
 )
     requires some { 0 < deal.each }
-    requires sits { All (IsSitting wires.now) seats.old }
+    requires sits { All (IsSitting D.state wires.now) seats.old }
     ensures len { length seats.new ≡ length seats.old }
-    ensures seats { StaySeated wires.now seats.old seats.new }
-    ensures done { list_all seat_goes seats.new ≡ true → StillHaveDone D.state seats.old seats.new }
+    ensures seats { StaySeated D.state wires.now seats.old seats.new }
 {
     deal_out(&deal, seats);
     turn_each(rt, alloc, wires, watch, deal.each as usize, seats);

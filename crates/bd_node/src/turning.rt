@@ -14,7 +14,7 @@ use std::sync::Wait;
 impl<'a, D: Disk> Seat<'a, D> {
     // Posts of its ring come into its queue.
     fn receive<W: Wait>(&mut self, rt: &W, wires: &Wires) -> Result<(), SeatNo>
-        requires { IsSitting wires.now self.old }
+        requires { IsSitting D.state wires.now self.old }
         ensures goes { OnOk result (Continues D.state wires.now self.old self.new) }
         ensures entries { OnOk result (HasSameEntries self.old self.new) }
         ensures came { OnOk result (Receives self.old self.new) }
@@ -34,7 +34,7 @@ impl<'a, D: Disk> Seat<'a, D> {
 
     // What is in its queues to others goes into their rings.
     fn send<W: Wait>(&mut self, rt: &W, wires: &Wires) -> Result<(), SeatNo>
-        requires { IsSitting wires.now self.old }
+        requires { IsSitting D.state wires.now self.old }
         ensures goes { OnOk result (Continues D.state wires.now self.old self.new) }
         ensures entries { OnOk result (HasSameEntries self.old self.new) }
         ensures went { OnOk result (Sends self.old self.new) }
@@ -59,7 +59,7 @@ impl<'a, D: Disk> Seat<'a, D> {
         alloc: Global,
         wires: &Wires,
     ) -> Result<Option<Turned>, SeatNo>
-        requires { IsSitting wires.now self.old }
+        requires { IsSitting D.state wires.now self.old }
         ensures goes { OnOk result (Continues D.state wires.now self.old self.new) }
         ensures turned { IfOk result (TellsIfAny (made_by self.old) (made_by self.new)) }
         ensures quiet { IfOk result (IdlesIfLent self.old self.new) }
@@ -87,7 +87,7 @@ impl<'a, D: Disk> Seat<'a, D> {
 
     // A turn with the registry, where the thread wants it and it is in its slot; else one without.
     fn act<W: Wait>(&mut self, rt: &W, alloc: Global, wires: &Wires) -> Result<Turned, SeatNo>
-        requires { IsSitting wires.now self.old }
+        requires { IsSitting D.state wires.now self.old }
         ensures goes { OnOk result (Continues D.state wires.now self.old self.new) }
         ensures turned { IfOk result (Tells (made_by self.old) (made_by self.new)) }
         ensures quiet { IfOk result (Idles self.old self.new) }
@@ -103,7 +103,7 @@ impl<'a, D: Disk> Seat<'a, D> {
 
     /// A turn: what came in its ring, what the thread does, and what it put to others.
     pub fn turn<W: Wait>(&mut self, rt: &W, alloc: Global, wires: &Wires) -> Result<Turned, SeatNo>
-        requires { IsSitting wires.now self.old }
+        requires { IsSitting D.state wires.now self.old }
         ensures goes { OnOk result (Continues D.state wires.now self.old self.new) }
         ensures turned { IfOk result (Tells (made_by self.old) (made_by self.new)) }
         ensures quiet { IfOk result (QuietTurns self.old self.new) }
@@ -116,7 +116,7 @@ impl<'a, D: Disk> Seat<'a, D> {
 
     /// A turn in a round, unless the seat has to halt; true where it moved. What halts it is kept.
     pub fn step<W: Wait>(&mut self, rt: &W, alloc: Global, wires: &Wires) -> bool
-        requires { SitsOrHalts wires.now self.old }
+        requires { SitsOrHalts D.state wires.now self.old }
         ensures { WentOn D.state wires.now self.old self.new }
     {
         if self.halted.is_some() {

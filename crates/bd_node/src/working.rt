@@ -1,7 +1,6 @@
 //! What a worker does in a turn.
 ghost use Rattle.std.specs.Prelude.{◌≡◌, [], IfOk, OnOk};
 ghost use Rattle.bd_thread.specs.Work.{wants_registry};
-ghost use Rattle.bd_node.specs.Disks.{KeepsDone};
 ghost use Rattle.bd_node.specs.Seats.{made_in, GoesAlone, GoesWith, IsLentTo, IsWorking, Tells};
 ghost use Rattle.bd_node.specs.Waits.{IdlesAlone, IdlesWith};
 
@@ -35,8 +34,7 @@ impl<'a> Worker<'a> {
     /// A turn with the thread's disks that asks the registry for nothing. What it did is in the log.
     pub fn work<D: Disk>(&mut self, alloc: Global, disks: &mut Disks<D>) -> Result<Turned, SeatNo>
         requires { IsWorking self.old }
-        ensures goes { OnOk result (GoesAlone self.old self.new) }
-        ensures done { OnOk result (KeepsDone D.state self.old disks.old self.new disks.new) }
+        ensures goes { OnOk result (GoesAlone D.state disks.old disks.new self.old self.new) }
         ensures turned { IfOk result (Tells (made_in self.old) (made_in self.new)) }
         ensures quiet { IfOk result (IdlesAlone self.old self.new) }
     {
@@ -56,8 +54,7 @@ impl<'a> Worker<'a> {
         seen: usize,
     ) -> Result<Turned, SeatNo>
         requires { IsLentTo self.old seen lent.old }
-        ensures goes { OnOk result (GoesWith seen self.old lent.old self.new lent.new) }
-        ensures done { OnOk result (KeepsDone D.state self.old disks.old self.new disks.new) }
+        ensures goes { OnOk result (GoesWith D.state disks.old disks.new seen self.old lent.old self.new lent.new) }
         ensures turned { IfOk result (Tells (made_in self.old) (made_in self.new)) }
         ensures quiet { IfOk result (IdlesWith lent.old self.old self.new) }
     {

@@ -1,2 +1,4 @@
 pub mod Served
+mod Contents
+mod Turned
 mod Turns

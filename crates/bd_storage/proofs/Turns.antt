@@ -1,5 +1,5 @@
 -- Turns in which disks serve first.
-use Rattle.std.proofs.Common.{◌≡◌, ℕ, zero, suc, ◌<◌, ◌≤◌, ◌+◌, ◌-◌, ◌==◌, ◌⊎◌, inl, inr, Bool, true, false, cond, List, [], ◌∷◌, ◌++◌, length, Option, Some, None, option_and_then, slice_get, Result, Ok, Err, IfOk, refl, sym, ◌∙◌, ap, subst, arith, eq-eqb, eqb-true}
+use Rattle.std.proofs.Common.{◌≡◌, ℕ, zero, suc, ◌<◌, ◌≤◌, ◌+◌, ◌⊎◌, inl, inr, Bool, true, false, List, [], ◌∷◌, ◌++◌, length, Option, Some, None, option_and_then, slice_get, Result, Ok, Err, IfOk, refl, sym, ◌∙◌, ap, subst, arith}
 use Rattle.std.specs.Option.{option_map}
 use Rattle.std.proofs.lemmas.Bool.{cases_lt}
 use Rattle.std.proofs.lemmas.Option.{slice_get_within}
@@ -11,41 +11,40 @@ use Rattle.bd_machine.specs.declared.state.Id.TheVariants as ids
 use Rattle.bd_machine.specs.declared.state.OpenPiece.{OpenPiece}
 use Rattle.bd_machine.specs.Kept.{as_piece}
 use Rattle.bd_outside.specs.Disk.{DiskState}
-use Rattle.bd_storage.specs.Serving.{moment, AreServed, Moment, NoService, NoServiceBelow, NoServiceOn, RestsOnDisks, Serves, ServesIf, Still}
+use Rattle.bd_storage.specs.Contents.{contents_of}
+use Rattle.bd_storage.specs.Served.{WentWithDisks}
+use Rattle.bd_storage.specs.Serving.{moment, AreServed, Moment, NoService, NoServiceBelow, NoServiceOn, Serves, ServesIf, Still}
 use Rattle.bd_thread.specs.declared.links.Links.{Links}
 use Rattle.bd_thread.specs.declared.thread.Thread.{Thread}
-use Rattle.bd_thread.specs.declared.turn.Turned.{Turned}
-use Rattle.bd_thread.specs.declared.turn.Turned.TheVariants.{Moved, Quiet}
-use Rattle.bd_thread.specs.Acted.{Acted, Went}
-use Rattle.bd_thread.specs.Disks.{disk_due, piece_on_disk, ServesAs, ServesAsBy}
-use Rattle.bd_thread.specs.Moves.{turned_of}
+use Rattle.bd_thread.specs.Disks.{disk_due, piece_on_disk}
+use Rattle.bd_thread.specs.Given.{ServesAs, ServesAsBy}
 use Rattle.bd_thread.specs.Seen.{block_size}
-use Rattle.bd_thread.specs.Waits.{Idles, IsIdle, IsWaiting, Quiets}
-use Rattle.bd_thread.specs.Work.{ActedAlone, AsksNothing, IsWaitingAlone, QuietsAlone, WentAlone}
+use Rattle.bd_thread.specs.Waits.{Idles, IsIdle}
 use Rattle.bd_tokens.specs.Tokens.{here_in}
-use Rattle.bd_thread.proofs.Alone.{acted_alone, alone_then}
-use Rattle.bd_thread.proofs.Going.{acted_then, acted_went}
-use Rattle.bd_thread.proofs.Idle.{grown}
-use Rattle.bd_thread.proofs.Waiting.{quiet_by}
-use Rattle.bd_thread.proofs.Working.{quiet_alone_by}
+use Rattle.bd_thread.proofs.Over.{over_grown}
 
 -- ---- disks one after the other
 
-pub still_then : {D : Type 0} (o : Thread) (a : Links) (m : Thread) (b : Links) (n : Thread) (c : Links) (x y z : List (DevId × D)) → Went o a m b → Went m b n c → Still a b x y → Still b c y z → Still a c x z
-still_then o a m b n c x y z g h first second few = second (omega (arith, few, grown o a m b g)) ∙ first (omega (arith, few, grown m b n c h))
+-- a turn adds entries only
+grown_with : {D : Type 0} (state : D → DiskState) (x y : List (DevId × D)) (o : Thread) (a : Links) (n : Thread) (c : Links) → WentWithDisks state x o a y n c → length a.entries ≤ length c.entries
+grown_with state x y o a n c g = over_grown (contents_of state x) (contents_of state y) o a n c g.went
+
+pub still_then : {D : Type 0} (state : D → DiskState) (x y z : List (DevId × D)) (o : Thread) (a : Links) (m : Thread) (b : Links) (n : Thread) (c : Links)
+    → WentWithDisks state x o a y m b → WentWithDisks state y m b z n c → Still a b x y → Still b c y z → Still a c x z
+still_then state x y z o a m b n c g h first second few = second (omega (arith, few, grown_with state x y o a m b g)) ∙ first (omega (arith, few, grown_with state y z m b n c h))
 
 -- a step in which a disk may serve, after others
-pub serves_then : {D : Type 0} {P : Thread → Links → Type 0} (state : D → DiskState) (dev : DevId) (x y : List (DevId × D)) (o : Thread) (a : Links) (m : Thread) (b : Links) (n : Thread) (c : Links)
-    → Went o a m b
-    → Went m b n c
+pub serves_then : {D : Type 0} {P : Thread → Links → Type 0} (state : D → DiskState) (dev : DevId) (x y z : List (DevId × D)) (o : Thread) (a : Links) (m : Thread) (b : Links) (n : Thread) (c : Links)
+    → WentWithDisks state x o a y m b
+    → WentWithDisks state y m b z n c
     → Still a b x y
     → Idles P o a m b
     → Idles (λ t links. NoServiceOn state y dev t) m b n c
     → Idles (λ t links. NoServiceOn state x dev t) o a n c
-serves_then {D = D} {P = P} state dev x y o a m b n c g h still first second few =
-    let one : IsIdle P o a m b = first (omega (arith, few, grown m b n c h)) in
-    let two : IsIdle (λ t links. NoServiceOn state y dev t) m b n c = second (omega (arith, few, grown o a m b g)) in
-    let same : y ≡ x = still (omega (arith, few, grown m b n c h)) in
+serves_then {D = D} {P = P} state dev x y z o a m b n c g h still first second few =
+    let one : IsIdle P o a m b = first (omega (arith, few, grown_with state y z m b n c h)) in
+    let two : IsIdle (λ t links. NoServiceOn state y dev t) m b n c = second (omega (arith, few, grown_with state x y o a m b g)) in
+    let same : y ≡ x = still (omega (arith, few, grown_with state y z m b n c h)) in
     record {
       thread = two.thread ∙ one.thread;
       links = two.links ∙ one.links;
@@ -56,18 +55,18 @@ some_same : {X : Type 0} {x y : X} → Some x ≡ Some y → x ≡ y
 some_same e = cc
 
 -- the disk at a place, after those before it
-pub serves_below : {D : Type 0} (state : D → DiskState) (place : ℕ) (row : DevId × D) (x y : List (DevId × D)) (o : Thread) (a : Links) (m : Thread) (b : Links) (n : Thread) (c : Links)
-    → Went o a m b
-    → Went m b n c
+pub serves_below : {D : Type 0} (state : D → DiskState) (place : ℕ) (row : DevId × D) (x y z : List (DevId × D)) (o : Thread) (a : Links) (m : Thread) (b : Links) (n : Thread) (c : Links)
+    → WentWithDisks state x o a y m b
+    → WentWithDisks state y m b z n c
     → Still a b x y
     → slice_get y place ≡ Some row
     → Idles (λ t links. NoServiceBelow place state x t) o a m b
     → Idles (λ t links. NoServiceOn state y row.0 t) m b n c
     → Idles (λ t links. NoServiceBelow (place + 1) state x t) o a n c
-serves_below {D = D} state place row x y o a m b n c g h still at first second few =
-    let one : IsIdle (λ t links. NoServiceBelow place state x t) o a m b = first (omega (arith, few, grown m b n c h)) in
-    let two : IsIdle (λ t links. NoServiceOn state x row.0 t) o a n c = serves_then {P = λ t links. NoServiceBelow place state x t} state row.0 x y o a m b n c g h still first second few in
-    let same : y ≡ x = still (omega (arith, few, grown m b n c h)) in
+serves_below {D = D} state place row x y z o a m b n c g h still at first second few =
+    let one : IsIdle (λ t links. NoServiceBelow place state x t) o a m b = first (omega (arith, few, grown_with state y z m b n c h)) in
+    let two : IsIdle (λ t links. NoServiceOn state x row.0 t) o a n c = serves_then {P = λ t links. NoServiceBelow place state x t} state row.0 x y z o a m b n c g h still first second few in
+    let same : y ≡ x = still (omega (arith, few, grown_with state y z m b n c h)) in
     let here : slice_get x place ≡ Some row = subst (λ (ds : List (DevId × D)). slice_get ds place ≡ Some row) same at in
     record { thread = two.thread; links = two.links; waits = λ i r less found. go here one.waits two.waits i r less found (cases_lt i place) }
   where
@@ -77,59 +76,6 @@ serves_below {D = D} state place row x y o a m b n c g h still at first second f
         let same : i ≡ place = omega (arith, less, upper) in
         let is : row ≡ r = some_same (sym here ∙ subst (λ (k : ℕ). slice_get x k ≡ Some r) same found) in
         subst (λ (q : DevId × D). NoServiceOn state x q.0 o) is one
-
--- ---- a turn after them
-
-still_quiet : (x y : ℕ) → x ≡ y → turned_of x y ≡ Quiet
-still_quiet x y e = ap (λ (b : Bool). cond b Quiet (Moved (y - x))) (eq-eqb x y e)
-
-pub quiet_then : {P : Thread → Links → Type 0} (o : Thread) (a : Links) (m : Thread) (b : Links) (n : Thread) (c : Links) (inner turned : Turned)
-    → Went o a m b
-    → Acted m b n c
-    → inner ≡ turned_of (length b.entries) (length c.entries)
-    → turned ≡ turned_of (length a.entries) (length c.entries)
-    → Idles P o a m b
-    → Quiets m b n c inner
-    → Quiets o a n c turned
-quiet_then {P = P} o a m b n c inner turned g h is so first quiet = quiet_by o a n c turned so (λ few.
-    let one : IsIdle P o a m b = first (omega (arith, few, grown m b n c h)) in
-    let same : length b.entries ≡ length c.entries = omega (arith, few, grown o a m b g, grown m b n c h) in
-    let two : IsIdle IsWaiting m b n c = subst (Quiets m b n c) (is ∙ still_quiet (length b.entries) (length c.entries) same) quiet in
-    record {
-      thread = two.thread ∙ one.thread;
-      links = two.links ∙ one.links;
-      waits = subst (λ (t : Thread). IsWaiting t a) one.thread (subst (λ (l : Links). IsWaiting m l) one.links two.waits);
-    })
-
-pub quiet_alone_then : {P : Thread → Links → Type 0} (o : Thread) (a : Links) (m : Thread) (b : Links) (n : Thread) (c : Links) (inner turned : Turned)
-    → Went o a m b
-    → Acted m b n c
-    → inner ≡ turned_of (length b.entries) (length c.entries)
-    → turned ≡ turned_of (length a.entries) (length c.entries)
-    → Idles P o a m b
-    → QuietsAlone m b n c inner
-    → QuietsAlone o a n c turned
-quiet_alone_then {P = P} o a m b n c inner turned g h is so first quiet = quiet_alone_by o a n c turned so (λ few.
-    let one : IsIdle P o a m b = first (omega (arith, few, grown m b n c h)) in
-    let same : length b.entries ≡ length c.entries = omega (arith, few, grown o a m b g, grown m b n c h) in
-    let two : IsIdle IsWaitingAlone m b n c = subst (QuietsAlone m b n c) (is ∙ still_quiet (length b.entries) (length c.entries) same) quiet in
-    record {
-      thread = two.thread ∙ one.thread;
-      links = two.links ∙ one.links;
-      waits = subst (λ (t : Thread). IsWaitingAlone t a) one.thread (subst (λ (l : Links). IsWaitingAlone m l) one.links two.waits);
-    })
-
--- after a quiet turn no disk can serve
-pub rests_on_disks : {D : Type 0} (state : D → DiskState) (disks : List (DevId × D)) (o : Thread) (a : Links) (m : Thread) (b : Links) (n : Thread) (c : Links) (turned : Turned)
-    → Acted m b n c
-    → turned ≡ turned_of (length a.entries) (length c.entries)
-    → Idles (λ t links. NoService state disks t) o a m b
-    → RestsOnDisks state disks o turned
-rests_on_disks state disks o a m b n c turned h so first = subst (RestsOnDisks state disks o) (sym so) (go (length a.entries == length c.entries) refl)
-  where
-    go : (same : Bool) → (length a.entries == length c.entries) ≡ same → RestsOnDisks state disks o (cond same Quiet (Moved (length c.entries - length a.entries)))
-    go true same = (first (let k : length a.entries ≡ length c.entries = eqb-true (length a.entries) (length c.entries) same in omega (arith, grown m b n c h))).waits
-    go false same = tt
 
 -- ---- what disks did
 
@@ -149,30 +95,30 @@ serves_if state a b true h = record { moments = b ∷ []; are = (h, refl) }
 serves_if state a b false h = record { moments = []; are = h }
 
 -- the disk did what the piece that is next asks, and the thread took it
-pub one_served : {D E : Type 0} (state : D → DiskState) (dev : DevId) (p : OpenPiece) (end : ApplyEnd) (bytes : List ℕ) (size : ℕ) (ds ds' : List (DevId × D)) (t : Thread) (a : Links) (t' : Thread) (a' : Links) (result : Result Bool E)
+pub one_served : {D E : Type 0} (state : D → DiskState) (dev : DevId) (p : OpenPiece) (end : ApplyEnd) (read : Option (List ℕ)) (size : ℕ) (ds ds' : List (DevId × D)) (t : Thread) (a : Links) (t' : Thread) (a' : Links) (result : Result Bool E)
     → Some p ≡ piece_on_disk t dev
     → size ≡ block_size t dev
-    → ChangesDisk p.base (λ old new. Does size p end bytes (state old) (state new)) ds ds'
-    → IfOk result (ServesAs dev end t a t' a')
+    → ChangesDisk p.base (λ old new. Does size p end read (state old) (state new)) ds ds'
+    → IfOk result (ServesAs dev end read t a t' a')
     → IfOk result (ServesIf state (moment ds t a) (moment ds' t' a'))
-one_served state dev p end bytes size ds ds' t a t' a' (Err e) next sized did serves = tt
-one_served {D = D} state dev p end bytes size ds ds' t a t' a' (Ok done) next sized did serves = go (disk_due t dev) refl serves
+one_served state dev p end read size ds ds' t a t' a' (Err e) next sized did serves = tt
+one_served {D = D} state dev p end read size ds ds' t a t' a' (Ok done) next sized did serves = go (disk_due t dev) refl serves
   where
     one : done ≡ true → ServesIf state (moment ds t a) (moment ds' t' a') done
     one is = subst (λ (b : Bool). ServesIf state (moment ds t a) (moment ds' t' a') b) (sym is) (record {
       dev = dev;
       piece = p;
       end = end;
-      bytes = bytes;
+      read = read;
       next = sym next;
-      did = subst (λ (n : ℕ). ChangesDisk p.base (λ old new. Does n p end bytes (state old) (state new)) ds ds') sized did;
-      says = subst (λ (b : Bool). ServesAs dev end t a t' a' b) is serves;
+      did = subst (λ (n : ℕ). ChangesDisk p.base (λ old new. Does n p end read (state old) (state new)) ds ds') sized did;
+      says = subst (λ (b : Bool). ServesAs dev end read t a t' a' b) is serves;
     })
 
     none : Some p ≡ None → ServesIf state (moment ds t a) (moment ds' t' a') done
     none e = cc
 
-    go : (due : Option Id) → disk_due t dev ≡ due → ServesAsBy dev end t a t' a' done due → ServesIf state (moment ds t a) (moment ds' t' a') done
+    go : (due : Option Id) → disk_due t dev ≡ due → ServesAsBy dev end read t a t' a' done due → ServesIf state (moment ds t a) (moment ds' t' a') done
     go None e h = none (next ∙ ap (λ (o : Option Id). option_and_then (λ (id : Id). as_piece (here_in t.held.items id)) o) e)
     go (Some (ids.Piece req k)) e h = one h.0
     go (Some (ids.Request req)) e h = absurd h
@@ -180,22 +126,22 @@ one_served {D = D} state dev p end bytes size ds ds' t a t' a' (Ok done) next si
     go (Some (ids.Notice sender receiver number)) e h = absurd h
 
 -- the disk of this device, at this place, after those before it
-pub serves_at : {D : Type 0} (state : D → DiskState) (place : ℕ) (dev : DevId) (x y : List (DevId × D)) (o : Thread) (a : Links) (m : Thread) (b : Links) (n : Thread) (c : Links)
-    → Went o a m b
-    → Went m b n c
+pub serves_at : {D : Type 0} (state : D → DiskState) (place : ℕ) (dev : DevId) (x y z : List (DevId × D)) (o : Thread) (a : Links) (m : Thread) (b : Links) (n : Thread) (c : Links)
+    → WentWithDisks state x o a y m b
+    → WentWithDisks state y m b z n c
     → Still a b x y
     → Some dev ≡ option_map (λ (row : DevId × D). row.0) (slice_get y place)
     → Idles (λ t links. NoServiceBelow place state x t) o a m b
     → Idles (λ t links. NoServiceOn state y dev t) m b n c
     → Idles (λ t links. NoServiceBelow (place + 1) state x t) o a n c
-serves_at {D = D} state place dev x y o a m b n c g h still at first second = go (slice_get y place) refl at
+serves_at {D = D} state place dev x y z o a m b n c g h still at first second = go (slice_get y place) refl at
   where
     none : Some dev ≡ None → Idles (λ t links. NoServiceBelow (place + 1) state x t) o a n c
     none e = cc
 
     go : (r : Option (DevId × D)) → slice_get y place ≡ r → Some dev ≡ option_map (λ (row : DevId × D). row.0) r → Idles (λ t links. NoServiceBelow (place + 1) state x t) o a n c
     go None e is = none is
-    go (Some row) e is = serves_below state place row x y o a m b n c g h still e first (subst (λ (d : DevId). Idles (λ t links. NoServiceOn state y d t) m b n c) (some_same is) second)
+    go (Some row) e is = serves_below state place row x y z o a m b n c g h still e first (subst (λ (d : DevId). Idles (λ t links. NoServiceOn state y d t) m b n c) (some_same is) second)
 
 -- after the last of them
 pub serves_all : {D : Type 0} (state : D → DiskState) (count : ℕ) (x : List (DevId × D)) (o : Thread) (a : Links) (n : Thread) (c : Links)
@@ -222,8 +168,3 @@ serves_there {D = D} {Q = Q} place x y a c within none still few = go x place wi
     go [] i within none = absurd (omega (arith, within))
     go (r ∷ rs) zero within none = no none
     go (r ∷ rs) (suc i) within none = go rs i (omega (arith, within)) none
-
--- where neither the disks nor the thread asked the registry, the turn didn't
-pub alone_after : (o : Thread) (a : Links) (m : Thread) (b : Links) (n : Thread) (c : Links) → Went o a m b → AsksNothing a b → ActedAlone m b n c → WentAlone o a n c
-alone_after o a m b n c g first h =
-    acted_alone o a n c (acted_then o a m b n c g (acted_went m b n c h.acted)) (alone_then a b c first (record { registry = h.registry; entries = h.acted.entries; added = h.acted.added; none_asks = h.none_asks }))

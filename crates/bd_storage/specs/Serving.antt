@@ -11,7 +11,8 @@ use Rattle.bd_thread.specs.declared.turn.Turned.{Turned}
 use Rattle.bd_thread.specs.declared.turn.Turned.TheVariants.{Moved, Quiet}
 use Rattle.bd_thread.specs.declared.links.Links.{Links}
 use Rattle.bd_thread.specs.Acted.{Acted}
-use Rattle.bd_thread.specs.Disks.{piece_on_disk, ServesAs}
+use Rattle.bd_thread.specs.Disks.{piece_on_disk}
+use Rattle.bd_thread.specs.Given.{ServesAs}
 use Rattle.bd_thread.specs.Seen.{block_size}
 
 -- there is no such piece, or it doesn't lie inside its disk
@@ -51,15 +52,16 @@ moment disks thread links = record { disks = disks; thread = thread; links = lin
 abbrev pub Still : {D : Type 0} → Links → Links → List (DevId × D) → List (DevId × D) → Type 0
 Still before after old new = length after.entries ≤ length before.entries → new ≡ old
 
--- the disk of a device did what the piece asks that was next there, and one Apply says so, with the end that the disk gave
+-- the disk of a device did what the piece asks that was next there, and one Apply says so, with the end that the disk gave; what the piece read
+-- of the disk is kept of it
 pub record ServesOne {D : Type 0} (state : D → DiskState) (before after : Moment D) : Type 0 where
   pub dev : DevId
   pub piece : OpenPiece
   pub end : ApplyEnd
-  pub bytes : List ℕ
+  pub read : Option (List ℕ)
   pub next : piece_on_disk before.thread dev ≡ Some piece
-  pub did : ChangesDisk piece.base (λ old new. Does (block_size before.thread dev) piece end bytes (state old) (state new)) before.disks after.disks
-  pub says : ServesAs dev end before.thread before.links after.thread after.links true
+  pub did : ChangesDisk piece.base (λ old new. Does (block_size before.thread dev) piece end read (state old) (state new)) before.disks after.disks
+  pub says : ServesAs dev end read before.thread before.links after.thread after.links true
 
 -- a piece was served, or nothing changed
 abbrev pub ServesIf : {D : Type 0} → (D → DiskState) → Moment D → Moment D → Bool → Type 0

@@ -1,7 +1,7 @@
 //! Disks serve the pieces that wait for them.
 ghost use Rattle.std.specs.Prelude.{◌<◌, vec_len, IfOk, OnOk};
+ghost use Rattle.bd_storage.specs.Served.{WentWithDisks};
 ghost use Rattle.bd_storage.specs.Serving.{moment, NoService, NoServiceOn, Serves, ServesIf, Still};
-ghost use Rattle.bd_thread.specs.Acted.{Went};
 ghost use Rattle.bd_thread.specs.Requests.{KeepsTickets};
 ghost use Rattle.bd_thread.specs.Seen.{number_of};
 ghost use Rattle.bd_thread.specs.Waits.{Idles};
@@ -24,7 +24,7 @@ fn serve_one<D: Disk>(
     dev: DevId,
 ) -> Result<bool, OutOfMemory>
     requires { number_of thread.old < vec_len links.old.queues }
-    ensures acted { OnOk result (Went thread.old links.old thread.new links.new) }
+    ensures over { OnOk result (WentWithDisks D.state disks.old thread.old links.old disks.new thread.new links.new) }
     ensures tickets { OnOk result (KeepsTickets thread.old → KeepsTickets thread.new) }
     ensures quiet { OnOk result (Idles (λ t _links. NoServiceOn D.state disks.old dev t) thread.old links.old thread.new links.new) }
     ensures alone { OnOk result (AsksNothing links.old links.new) }
@@ -50,7 +50,7 @@ fn serve_some<D: Disk>(
     dev: DevId,
 ) -> Result<(), OutOfMemory>
     requires { number_of thread.old < vec_len links.old.queues }
-    ensures acted { OnOk result (Went thread.old links.old thread.new links.new) }
+    ensures over { OnOk result (WentWithDisks D.state disks.old thread.old links.old disks.new thread.new links.new) }
     ensures tickets { OnOk result (KeepsTickets thread.old → KeepsTickets thread.new) }
     ensures quiet { OnOk result (Idles (λ t _links. NoServiceOn D.state disks.old dev t) thread.old links.old thread.new links.new) }
     ensures alone { OnOk result (AsksNothing links.old links.new) }
@@ -72,7 +72,7 @@ pub(crate) fn serve_all<D: Disk>(
     disks: &mut Disks<D>,
 ) -> Result<(), OutOfMemory>
     requires { number_of thread.old < vec_len links.old.queues }
-    ensures acted { OnOk result (Went thread.old links.old thread.new links.new) }
+    ensures over { OnOk result (WentWithDisks D.state disks.old thread.old links.old disks.new thread.new links.new) }
     ensures tickets { OnOk result (KeepsTickets thread.old → KeepsTickets thread.new) }
     ensures quiet { OnOk result (Idles (λ t _links. NoService D.state disks.old t) thread.old links.old thread.new links.new) }
     ensures alone { OnOk result (AsksNothing links.old links.new) }

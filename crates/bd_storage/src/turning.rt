@@ -1,14 +1,13 @@
 //! Turns of a thread, in which its disks serve first.
 ghost use Rattle.std.specs.Prelude.{◌≡◌, ◌<◌, ◌≤◌, vec_len, IfOk, OnOk};
 ghost use Rattle.bd_registry.specs.State.{rows_of};
-ghost use Rattle.bd_storage.specs.Served.{SaysAll};
+ghost use Rattle.bd_storage.specs.Served.{WentAloneWithDisks, WentWithDisks};
 ghost use Rattle.bd_storage.specs.Serving.{moment, RestsOnDisks, TurnsWith};
-ghost use Rattle.bd_thread.specs.Acted.{Went};
 ghost use Rattle.bd_thread.specs.Moves.{AddsMore, turned_of};
 ghost use Rattle.bd_thread.specs.Requests.{KeepsTickets};
 ghost use Rattle.bd_thread.specs.Seen.{number_of, setup_of};
 ghost use Rattle.bd_thread.specs.Waits.{Quiets};
-ghost use Rattle.bd_thread.specs.Work.{WentAlone, QuietsAlone};
+ghost use Rattle.bd_thread.specs.Work.{QuietsAlone};
 
 use crate::serving::serve_all;
 use bd_base::OutOfMemory;
@@ -37,13 +36,12 @@ pub fn turn_with_disks<D: Disk>(
 ) -> Result<Turned, OutOfMemory>
     requires me { number_of thread.old < vec_len links.old.queues }
     requires rows { links.old.registry.setup ≡ rows_of (setup_of thread.old) }
-    ensures acted { OnOk result (Went thread.old links.old thread.new links.new) }
+    ensures over { OnOk result (WentWithDisks D.state disks.old thread.old links.old disks.new thread.new links.new) }
     ensures tickets { OnOk result (KeepsTickets thread.old → KeepsTickets thread.new) }
     ensures turned { IfOk result (AddsMore links.old links.new) }
     ensures quiet { IfOk result (Quiets thread.old links.old thread.new links.new) }
     ensures disks { IfOk result (RestsOnDisks D.state disks.old thread.old) }
     ensures serves { OnOk result (TurnsWith D.state (moment disks.old thread.old links.old) (moment disks.new thread.new links.new)) }
-    ensures says { OnOk result (SaysAll D.state (setup_of thread.old) links.old links.new disks.old disks.new) }
 {
     let before = links.entries.len();
     serve_all(thread, links, disks)?;
@@ -59,14 +57,13 @@ pub fn work_with_disks<D: Disk>(
     disks: &mut Disks<D>,
 ) -> Result<Turned, OutOfMemory>
     requires { number_of thread.old < vec_len links.old.queues }
-    ensures acted { OnOk result (Went thread.old links.old thread.new links.new) }
+    ensures over { OnOk result (WentWithDisks D.state disks.old thread.old links.old disks.new thread.new links.new) }
     ensures tickets { OnOk result (KeepsTickets thread.old → KeepsTickets thread.new) }
     ensures turned { IfOk result (AddsMore links.old links.new) }
     ensures quiet { IfOk result (QuietsAlone thread.old links.old thread.new links.new) }
-    ensures alone { OnOk result (WentAlone thread.old links.old thread.new links.new) }
+    ensures alone { OnOk result (WentAloneWithDisks D.state disks.old thread.old links.old disks.new thread.new links.new) }
     ensures disks { IfOk result (RestsOnDisks D.state disks.old thread.old) }
     ensures serves { OnOk result (TurnsWith D.state (moment disks.old thread.old links.old) (moment disks.new thread.new links.new)) }
-    ensures says { OnOk result (SaysAll D.state (setup_of thread.old) links.old links.new disks.old disks.new) }
 {
     let before = links.entries.len();
     serve_all(thread, links, disks)?;

@@ -11,8 +11,8 @@ returns-clause-seated g c =
     let setup = c.args.setup.now in
     let wires = c.in_ok-wires.wires in
     let passes = c.in_ok-wires.passes.items in
-    seated_at_start setup wires c.in_ok-seats.seats.items passes c.requires.some c.in_ok-seats.ensures.len
-    (subst (λ (s : Start). AreNew setup.threads s wires passes) (ap (λ (r : Registered). start_of r.setup) c.in_ok-registry.ensures) c.in_ok-wires.ensures.new) c.in_ok-seats.ensures.each
+    seated_at_start g.D.Disk.state setup c.args.shelf.now.items wires c.in_ok-seats.seats.items passes c.requires.some c.in_ok-seats.ensures.len
+    (subst (λ (s : Start). AreNew setup.threads s wires passes) (ap (λ (r : Registered). start_of r.setup) c.in_ok-registry.ensures) c.in_ok-wires.ensures.new) c.in_ok-seats.ensures.each c.in_ok-seats.ensures.disks
 
 pub returns-clause-none : goal.returns-clause-none
 returns-clause-none g c =

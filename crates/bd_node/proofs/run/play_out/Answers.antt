@@ -8,7 +8,7 @@ loop-preserved-in_ok-shut-in-Idle g c =
     let shut = c.in_ok-shut-in-Idle.ensures in
     record {
       node = shut.node;
-      disks = keeps_disks_then g.D.Disk.state c.args.node.now c.loop.node c.shut.new.self i.disks (shut.disks g.D.Disk.state);
+      disks = keeps_disks_then g.D.Disk.state c.args.node.now c.loop.node c.shut.new.self i.disks shut.disks;
       setup = shut.setup ∙ i.setup;
     }
 

@@ -4,7 +4,7 @@ use Rattle.bd_node.proofs.run.play_out.Given as goal
 
 abbrev pub invariant-loop : goal.invariant-loop
 invariant-loop g l = record {
-  node : IsNode l.node;
+  node : IsNode g.D.Disk.state l.node;
   disks : KeepsDisks g.D.Disk.state l.initial.node l.node;
   setup : l.node.setup ≡ l.initial.node.setup;
 }

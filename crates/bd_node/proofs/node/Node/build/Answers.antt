@@ -1,9 +1,17 @@
-use Rattle.std.proofs.Common.{false}
+use Rattle.std.proofs.Common.{refl}
 use Rattle.bd_apart.specs.Steps.{first_phase}
-use Rattle.bd_node.proofs.Histories.{start_done}
+use Rattle.bd_node.specs.Disks.{told_of}
 use Rattle.bd_node.proofs.node.Node.build.Goals as goal
 
-pub returns-in-Ok-clause-disks : goal.returns-in-Ok-clause-disks
-returns-in-Ok-clause-disks g c =
+pub returns-in-Ok-clause-opened : goal.returns-in-Ok-clause-opened
+returns-in-Ok-clause-opened g c =
     let setup = c.args.setup.now in
-    start_done g.D.Disk.state setup c.in-Ok.wires c.in-Ok.seats.items false (first_phase setup) c.args.disks.items c.in-Ok.ensures.seated c.in-Ok.ensures.none c.in-Ok.ensures.disks
+    record { many = c.requires.disks; phases = first_phase setup (told_of g.D.Disk.state setup c.args.disks.items); seated = c.in-Ok.ensures.seated; phases_are = λ t. refl }
+
+pub returns-in-Ok-clause-node : goal.returns-in-Ok-clause-node
+returns-in-Ok-clause-node g c =
+    let setup = c.args.setup.now in
+    record {
+      starts = c.args.disks.items;
+      node = record { many = c.requires.disks; phases = first_phase setup (told_of g.D.Disk.state setup c.args.disks.items); seated = c.in-Ok.ensures.seated; phases_are = λ t. refl };
+    }

@@ -9,3 +9,8 @@ returns-clause-moved g c =
     let before = entries_made c.args.self.now in
     let after = entries_made c.turn_of.new.self in
     subst (λ (b : Bool). HasMoved before after b) (sym c.has_moved.ensures) (moved_as_told before after c.in_ok-turned.turned c.in_ok-turned.ensures.turned)
+
+pub returns-clause-disks : goal.returns-clause-disks
+returns-clause-disks g c =
+    let k = c.in_ok-turned.ensures.disks in
+    record { shelf = k.shelf; node = λ starts h. k.node starts (record { many = h.many; phases = h.phases; seated = h.seated; phases_are = h.phases_are }) }

@@ -3,7 +3,6 @@ use Rattle.std.specs.List.{list_all}
 use Rattle.std.specs.Vec.{with_items}
 use Rattle.std.proofs.lemmas.List.{with_items_is}
 use Rattle.bd_node.specs.declared.seat.Seat.{Seat}
-use Rattle.bd_node.specs.Disks.{StillHaveDone}
 use Rattle.bd_node.specs.Seats.{IsSitting}
 use Rattle.bd_node.specs.Whole.{seat_goes, AreSeated, StaySeated}
 use Rattle.bd_node.proofs.Rounds.{all_sit}
@@ -12,7 +11,7 @@ use Rattle.bd_node.proofs.node.Node.round.Goals as goal
 pub turn_all-requires-clause-sits : goal.turn_all-requires-clause-sits
 turn_all-requires-clause-sits g c κs within =
     let o = c.args.self.now in
-    subst (λ (ss : List (Seat g.row.D.Denot)). All (IsSitting o.wires) ss) (sym c.as_mut_slice.ensures.value) (all_sit o.setup.now o.wires o.seats.items o.shut c.requires.phases c.requires.seated)
+    subst (λ (ss : List (Seat g.row.D.Denot)). All (IsSitting g.D.Disk.state o.wires) ss) (sym c.as_mut_slice.ensures.value) (all_sit o.setup.now o.wires c.requires.starts o.seats.items o.shut c.requires.node.phases c.requires.node.seated)
 
 pub returns-then-all_go-clause-node : goal.returns-then-all_go-clause-node
 returns-then-all_go-clause-node g c =
@@ -23,12 +22,16 @@ returns-then-all_go-clause-node g c =
     let items-are : (with_items o.seats news).items ≡ news = with_items_is o.seats news (same ∙ sym many) in
     let go : list_all seat_goes news ≡ true =
     ap (list_all seat_goes) (sym (c.as_slice.ensures.value ∙ items-are)) ∙ sym c.all_go.ensures ∙ c.if-all_go.true in
-    let stay : StaySeated o.wires o.seats.items news = subst (λ (ss : List (Seat g.row.D.Denot)). StaySeated o.wires ss news) c.as_mut_slice.ensures.value c.turn_all.ensures.seats in
+    let stay : StaySeated g.D.Disk.state o.wires o.seats.items news = subst (λ (ss : List (Seat g.row.D.Denot)). StaySeated g.D.Disk.state o.wires ss news) c.as_mut_slice.ensures.value c.turn_all.ensures.seats in
     record {
-      phases = c.requires.phases;
-      seated = subst (λ (ss : List (Seat g.row.D.Denot)). AreSeated o.setup.now o.wires ss o.shut c.requires.phases) (sym items-are)
-          (stay go o.setup.now o.shut c.requires.phases c.requires.seated);
-      phases_are = c.requires.phases_are;
+      starts = c.requires.starts;
+      node = record {
+        many = c.requires.node.many;
+        phases = c.requires.node.phases;
+        seated = subst (λ (ss : List (Seat g.row.D.Denot)). AreSeated g.D.Disk.state o.setup.now o.wires c.requires.starts ss o.shut c.requires.node.phases) (sym items-are)
+            (stay go o.setup.now c.requires.starts o.shut c.requires.node.phases c.requires.node.seated);
+        phases_are = c.requires.node.phases_are;
+      };
     }
 
 pub returns-then-all_go-clause-disks : goal.returns-then-all_go-clause-disks
@@ -40,5 +43,13 @@ returns-then-all_go-clause-disks g c =
     let items-are : (with_items o.seats news).items ≡ news = with_items_is o.seats news (same ∙ sym many) in
     let go : list_all seat_goes news ≡ true =
     ap (list_all seat_goes) (sym (c.as_slice.ensures.value ∙ items-are)) ∙ sym c.all_go.ensures ∙ c.if-all_go.true in
-    let still : StillHaveDone g.D.Disk.state o.seats.items news = subst (λ (ss : List (Seat g.row.D.Denot)). StillHaveDone g.D.Disk.state ss news) c.as_mut_slice.ensures.value (c.turn_all.ensures.done go) in
-    record { shelf = refl; done = subst (λ (ss : List (Seat g.row.D.Denot)). StillHaveDone g.D.Disk.state o.seats.items ss) (sym items-are) still }
+    let stay : StaySeated g.D.Disk.state o.wires o.seats.items news = subst (λ (ss : List (Seat g.row.D.Denot)). StaySeated g.D.Disk.state o.wires ss news) c.as_mut_slice.ensures.value c.turn_all.ensures.seats in
+    record {
+      shelf = refl;
+      node = λ starts h. record {
+        many = h.many;
+        phases = h.phases;
+        seated = subst (λ (ss : List (Seat g.row.D.Denot)). AreSeated g.D.Disk.state o.setup.now o.wires starts ss o.shut h.phases) (sym items-are) (stay go o.setup.now starts o.shut h.phases h.seated);
+        phases_are = h.phases_are;
+      };
+    }

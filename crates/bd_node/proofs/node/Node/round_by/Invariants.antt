@@ -6,7 +6,7 @@ use Rattle.bd_node.proofs.node.Node.round_by.Given as goal
 
 abbrev pub invariant-loop : goal.invariant-loop
 invariant-loop g l = record {
-  node : IsNode l.self;
+  node : IsNode g.D.Disk.state l.self;
   setup : l.self.setup ≡ l.initial.self.setup;
   flag : l.self.shut ≡ l.initial.self.shut;
   disks : KeepsDisks g.D.Disk.state l.initial.self l.self;

@@ -3,7 +3,6 @@ use Rattle.std.specs.Coded.{le_prop}
 use Rattle.std.specs.List.{slice_get}
 use Rattle.std.proofs.lemmas.Option.{slice_get_read}
 use Rattle.std.proofs.lemmas.Result.{on_ok_weaker, IfOk-weaker}
-use Rattle.bd_node.proofs.Disks.{have_set}
 use Rattle.bd_node.proofs.Rounds.{one_sits, one_turned}
 use Rattle.bd_node.proofs.Telling.{tells_among}
 use Rattle.bd_node.proofs.Waiting.{turns_at}
@@ -15,7 +14,7 @@ turn-requires g c =
     let a = c.index_mut-seat.result.now in
     let lt : c.args.thread < length o.seats.items = search rules in
     let at : slice_get o.seats.items c.args.thread ≡ Some a = slice_get_read o.seats.items (length o.seats.items) c.args.thread a refl lt c.index_mut-seat.ensures.value in
-    one_sits o.setup.now o.wires o.seats.items o.shut c.requires.phases c.requires.seated c.args.thread a at
+    one_sits o.setup.now o.wires c.requires.starts o.seats.items o.shut c.requires.node.phases c.requires.node.seated c.args.thread a at
 
 pub returns-clause-node : goal.returns-clause-node
 returns-clause-node g c =
@@ -24,9 +23,13 @@ returns-clause-node g c =
     let lt : c.args.thread < length o.seats.items = search rules in
     let at : slice_get o.seats.items c.args.thread ≡ Some a = slice_get_read o.seats.items (length o.seats.items) c.args.thread a refl lt c.index_mut-seat.ensures.value in
     on_ok_weaker c.turn.result (λ on. record {
-      phases = c.requires.phases;
-      seated = one_turned o.setup.now o.wires o.seats.items o.shut c.requires.phases c.requires.seated c.args.thread a c.turn.new.self at on;
-      phases_are = c.requires.phases_are;
+      starts = c.requires.starts;
+      node = record {
+        many = c.requires.node.many;
+        phases = c.requires.node.phases;
+        seated = one_turned o.setup.now o.wires c.requires.starts o.seats.items o.shut c.requires.node.phases c.requires.node.seated c.args.thread a c.turn.new.self at on;
+        phases_are = c.requires.node.phases_are;
+      };
     }) c.turn.ensures.goes
 
 pub returns-clause-turned : goal.returns-clause-turned
@@ -56,4 +59,12 @@ returns-clause-disks g c =
     let a = c.index_mut-seat.result.now in
     let lt : c.args.thread < length o.seats.items = search rules in
     let at : slice_get o.seats.items c.args.thread ≡ Some a = slice_get_read o.seats.items (length o.seats.items) c.args.thread a refl lt c.index_mut-seat.ensures.value in
-    on_ok_weaker c.turn.result (λ on. record { shelf = refl; done = have_set g.D.Disk.state o.seats.items c.args.thread a c.turn.new.self at on.done }) c.turn.ensures.goes
+    on_ok_weaker c.turn.result (λ on. record {
+      shelf = refl;
+      node = λ starts h. record {
+        many = h.many;
+        phases = h.phases;
+        seated = one_turned o.setup.now o.wires starts o.seats.items o.shut h.phases h.seated c.args.thread a c.turn.new.self at on;
+        phases_are = h.phases_are;
+      };
+    }) c.turn.ensures.goes

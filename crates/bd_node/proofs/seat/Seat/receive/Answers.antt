@@ -6,7 +6,7 @@ use Rattle.bd_node.proofs.seat.Seat.receive.Goals as goal
 pub returns-clause-goes : goal.returns-clause-goes
 returns-clause-goes g c =
     let s = c.args.self.now in
-    received_continues c.args.wires.now s c.fetch.new.pass c.fetch.new.log (record s.worker.links { queues = c.fetch.new.queues }) refl c.fetch.ensures.len c.in_ok-fetch.ensures.fetched g.D.Disk.state
+    received_continues g.D.Disk.state c.args.wires.now s c.fetch.new.pass c.fetch.new.log (record s.worker.links { queues = c.fetch.new.queues }) refl c.fetch.ensures.len c.in_ok-fetch.ensures.fetched
 
 pub returns-clause-entries : goal.returns-clause-entries
 returns-clause-entries g c = ap (λ (l : Written). l.entries) c.in_ok-fetch.ensures.fetched.log_is

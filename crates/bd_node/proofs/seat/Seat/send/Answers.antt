@@ -6,9 +6,9 @@ use Rattle.bd_node.proofs.seat.Seat.send.Goals as goal
 pub returns-clause-goes : goal.returns-clause-goes
 returns-clause-goes g c =
     let s = c.args.self.now in
-    departed_continues c.args.wires.now s (record s.worker.links { queues = c.flush_all.new.queues }) (record s.passes { sends = c.flush_all.new.sends }) refl refl
+    departed_continues g.D.Disk.state c.args.wires.now s (record s.worker.links { queues = c.flush_all.new.queues }) (record s.passes { sends = c.flush_all.new.sends }) refl refl
     c.flush_all.ensures.queues c.flush_all.ensures.sends
-    (subst (λ (n : ℕ). FlushedAll s.worker.me n s.passes.sends.items s.worker.links.queues.items c.flush_all.new.sends.items c.flush_all.new.queues.items) c.last.ensures c.in_ok-flush_all.ensures.flushed) g.D.Disk.state
+    (subst (λ (n : ℕ). FlushedAll s.worker.me n s.passes.sends.items s.worker.links.queues.items c.flush_all.new.sends.items c.flush_all.new.queues.items) c.last.ensures c.in_ok-flush_all.ensures.flushed)
 
 pub returns-clause-went : goal.returns-clause-went
 returns-clause-went g c =

@@ -15,13 +15,11 @@ returns c =
     let log : IsLogged c.last_stamp.result c.args.above stamp old.log c.push.new.self =
     logged old.log c.meet.new.self c.meet-2.new.self c.push.new.self c.last_stamp.result c.args.above stamp c.meet.ensures c.meet-2.ensures pushed.stamp pushed.entries pushed.last pushed.thread in
     record {
-      me = refl;
-      thread = refl;
       flag = refl;
       above = log.second;
       later = log.later;
       entries = log.has.entries;
-      at = λ setup p d a lends.
-          shut_with setup p d old c.args.seen lent c.catch_up.new.replica c.push.new.self stamp c.shut.new.self (sym (c.journal-journal.ensures.leaves setup lends.start))
+      at = λ setup p d contents a lends.
+          shut_with setup p d contents old c.args.seen lent c.catch_up.new.replica c.push.new.self stamp c.shut.new.self (sym (c.journal-journal.ensures.leaves setup lends.start))
           c.catch_up.ensures.setup c.in_ok-catch_up.ensures.state log.later log.has c.in_ok-shut.ensures.ok a lends;
     }

@@ -2,32 +2,34 @@ use Rattle.std.proofs.Common.{◌≡◌, ℕ, List, ◌++◌, length, ap, ap₂,
 use Rattle.bd_base.specs.declared.act.Entry.{Entry}
 use Rattle.bd_merged.specs.Journals.{events}
 use Rattle.bd_apart.specs.Course.{acts_of, restamped}
-use Rattle.bd_seat.specs.Taking.{Appends, AppendsAlone}
+use Rattle.bd_seat.specs.Taking.{AppendsAlone}
 use Rattle.bd_thread.specs.Moves.{turned_of}
 use Rattle.bd_node.specs.declared.worker.Worker.{Worker}
 use Rattle.bd_node.specs.Seats.{GoesAlone, Tells}
-use Rattle.bd_node.specs.Disks.{KeepsDone}
-use Rattle.bd_node.proofs.Disks.{log_keeps}
 use Rattle.bd_node.proofs.Telling.{tells_appended}
 use Rattle.bd_node.proofs.Waiting.{idles_alone}
 use Rattle.bd_node.proofs.Workers.{goes_alone, has_queue}
 use Rattle.bd_node.proofs.worker.Worker.work.Goals as goal
 
 pub work_with_disks-requires : goal.work_with_disks-requires
-work_with_disks-requires g c = has_queue c.requires.setup c.requires.t c.requires.p c.requires.c c.args.self.now c.requires.at
+work_with_disks-requires g c = has_queue c.requires.setup c.requires.t c.requires.p c.requires.c c.requires.contents c.args.self.now c.requires.at
 
 pub append_all-requires : goal.append_all-requires
 append_all-requires g c =
     let alone = c.in_ok-turned.ensures.alone in
-    record { none_asks = ap events (c.take_entries-entries.ensures.entries ∙ alone.acted.added ∙ ap (λ (es : List Entry). es ++ alone.acted.entries) c.requires.at.empty) ∙ alone.none_asks }
+    let over = alone.went.went in
+    record { none_asks = ap events (c.take_entries-entries.ensures.entries ∙ over.added ∙ ap (λ (es : List Entry). es ++ over.entries) c.requires.at.empty) ∙ alone.none_asks }
 
 pub returns-clause-goes : goal.returns-clause-goes
 returns-clause-goes g c =
     let w = c.args.self.now in
     let entries = c.take_entries-entries.result in
     let log = c.append_all.new.log in
-    subst (λ (x : Worker). AppendsAlone x.log (restamped x.log.thread x.log.last (acts_of entries)) log → GoesAlone w (record { me = x.me; thread = x.thread; links = x.links; log = log })) (sym c.take_entries-entries.ensures.left)
-    (λ appends. goes_alone w c.work_with_disks.new.thread c.work_with_disks.new.links log c.in_ok-turned.ensures.alone c.in_ok-turned.ensures.tickets
+    let state = g.D.Disk.state in
+    let before = c.args.disks.now in
+    let after = c.work_with_disks.new.disks in
+    subst (λ (x : Worker). AppendsAlone x.log (restamped x.log.thread x.log.last (acts_of entries)) log → GoesAlone state before after w (record { me = x.me; thread = x.thread; links = x.links; log = log })) (sym c.take_entries-entries.ensures.left)
+    (λ appends. goes_alone state before after w c.work_with_disks.new.thread c.work_with_disks.new.links log c.in_ok-turned.ensures.alone c.in_ok-turned.ensures.tickets
     (subst (λ (es : List Entry). AppendsAlone w.log (restamped w.log.thread w.log.last (acts_of es)) log) c.take_entries-entries.ensures.entries appends))
     c.in_ok-append_all.ensures.appended
 
@@ -50,17 +52,3 @@ returns-clause-quiet g c =
     let log = c.append_all.new.log in
     idles_alone w (record x { log = log }) c.work_with_disks.new.thread c.work_with_disks.new.links c.in_ok-turned.turned c.requires.at.empty c.in_ok-turned.ensures.quiet
     (ap (λ (y : Worker). y.thread) c.take_entries-entries.ensures.left) (ap (λ (y : Worker). y.links) c.take_entries-entries.ensures.left)
-
-pub returns-clause-done : goal.returns-clause-done
-returns-clause-done g c =
-    let w = c.args.self.now in
-    let entries = c.take_entries-entries.result in
-    let log = c.append_all.new.log in
-    let state = g.D.Disk.state in
-    let links = c.work_with_disks.new.links in
-    let acted = c.in_ok-turned.ensures.acted in
-    subst (λ (x : Worker). AppendsAlone x.log (restamped x.log.thread x.log.last (acts_of entries)) log
-    → KeepsDone state w c.args.disks.now (record { me = x.me; thread = x.thread; links = x.links; log = log }) c.work_with_disks.new.disks) (sym c.take_entries-entries.ensures.left)
-    (λ appends. log_keeps state w c.work_with_disks.new.thread links log c.args.disks.now c.work_with_disks.new.disks (ap (λ s. s.now) acted.setup) c.requires.at.empty c.in_ok-turned.ensures.says
-    (subst (λ (es : List Entry). Appends w.log (restamped w.log.thread w.log.last (acts_of es)) log) c.take_entries-entries.ensures.entries appends.log_is))
-    c.in_ok-append_all.ensures.appended
