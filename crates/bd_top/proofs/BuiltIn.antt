@@ -23,6 +23,7 @@ use Rattle.bd_top.specs.Disks.{AreDisksOf, Opens}
 use Rattle.bd_top.specs.Opening.{AreDone, DoingCause}
 use Rattle.bd_top.specs.Exercise.{built_in}
 use Rattle.bd_top.proofs.ConfigureLemmas.{nothing_wrong}
+use Rattle.bd_top.proofs.NoDisks.{kinds_fine, AreNoneAio}
 use Rattle.bd_top.proofs.InForm.{text_is_no_memory, shape_is_no_memory, method_is_no_memory}
 
 -- a device M in memory, and a passthru P over it
@@ -101,6 +102,14 @@ makes told threads read devices asks served done =
       served = served;
       made = ap (configured threads read) (sym (no_disks told done.disks are)) ∙ done.is;
     }
+
+-- none of its devices is an aio device
+pub none_aio : (threads : ℕ) (other : Progress) → Configures threads built_in [] other → AreNoneAio other.setup.devices
+none_aio threads other is =
+    let same : is.commands ≡ commands = config_once built_in is.commands commands is.asks is_config in
+    let both : ◌≡◌ {A = Result Progress (ℕ × Errno)} (Ok (devices threads)) (Ok other) = sym (made threads) ∙ ap (λ (cs : List Command). configured threads cs []) (sym same) ∙ is.made in
+    let one : devices threads ≡ other = ap (devices_or other) both in
+    subst (λ (d : Progress). AreNoneAio d.setup.devices) one (kinds_fine (devices threads).setup.devices (refl, (refl, tt)))
 
 refused_never : (told : List ℕ → Told) (threads index : ℕ) (code : ℤ) → IsRefused threads told commands index code → ⊥
 refused_never told threads index code is =

@@ -1,11 +1,15 @@
 -- The disks of a run by the rows that the host tells of them: as they are opened, as the run goes on, and as they are closed.
-use Rattle.std.proofs.Common.{◌≡◌, ℕ, zero, suc, ◌+◌, ◌<◌, ◌≤◌, ◌%◌, true, List, [], ◌∷◌, ◌++◌, length, map, Option, Some, None, Ok, ◌⊎◌, inl, inr, refl, sym, ◌∙◌, ap, subst, append-nil, arith}
-use Rattle.std.specs.List.{slice_get}
+use Rattle.std.proofs.Common.{◌≡◌, ℕ, suc, ◌+◌, ◌<◌, ◌≤◌, ◌%◌, ◌&&◌, Bool, true, false, cond, List, [], ◌∷◌, ◌++◌, length, Option, Some, None, Ok, ◌⊎◌, inl, inr, refl, sym, ◌∙◌, ap, subst, append-nil, zero-add, arith}
+use Rattle.std.specs.List.{count_by, slice_get}
 use Rattle.std.specs.Option.{option_map}
-use Rattle.std.specs.Prelude.{is_some}
+use Rattle.std.specs.Prelude.{is_some, min, slice_index_or, IfSome}
+use Rattle.std.proofs.Math.Nat.{le-min, min-eq_left, min-eq_right, min-le_left, min-le_right}
+use Rattle.std.proofs.lemmas.Bool.{cases_lt}
 use Rattle.std.proofs.lemmas.List.{length-append}
+use Rattle.std.proofs.lemmas.List.Sums.{sum_by-cons}
+use Rattle.std.proofs.lemmas.Option.{get_or_from_slice_get}
 use Rattle.bd_base.specs.declared.act.ApplyEnd.{ApplyEnd}
-use Rattle.bd_base.specs.declared.act.ApplyEnd.TheVariants as ends
+use Rattle.bd_base.specs.declared.act.ApplyEnd.TheVariants as apply_ends
 use Rattle.bd_base.specs.declared.act.Entry.{Entry}
 use Rattle.bd_base.specs.declared.id.DevId.{DevId}
 use Rattle.bd_base.specs.declared.setup.Setup.{Setup}
@@ -14,29 +18,39 @@ use Rattle.bd_building.specs.Progress.{nothing_yet, stepped, Progress}
 use Rattle.bd_building.proofs.AioSteps.{aio_is, plain_first, stepped_grows}
 use Rattle.bd_config.specs.declared.command.Command.{Command}
 use Rattle.bd_config.specs.declared.command.Command.TheVariants as commands
-use Rattle.bd_disks.specs.Rows.{disk_of}
-use Rattle.bd_log.specs.Merge.{entries_of}
-use Rattle.bd_machine.specs.BlockMap.{base_of, home, is_aio, size_of}
+use Rattle.bd_disks.specs.Holding.{content_of}
+use Rattle.bd_disks.specs.Rows.{disk_of, Does}
+use Rattle.bd_disks.specs.Serving.{is_flush, IsServed}
+use Rattle.bd_machine.specs.declared.state.Base.{Base}
+use Rattle.bd_machine.specs.BlockMap.{base_of, has_kind, home, is_aio, is_aio_kind, row_of, size_of}
+use Rattle.bd_machine.specs.Completion.{is_done_end, is_fault_end}
+use Rattle.bd_machine.specs.Content.{content_told, Told as Contents}
+use Rattle.bd_machine.specs.Run.{state_after}
+use Rattle.bd_machine.specs.Start.{start}
 use Rattle.bd_machine.specs.Users.{dev_of}
-use Rattle.bd_node.specs.Disks.{SaysOfDisks}
+use Rattle.bd_node.specs.Disks.{disks_at, told_of, SaysOfDisks}
 use Rattle.bd_opened.specs.Closing.{closing_all}
-use Rattle.bd_opened.specs.Covering.{AreClosed, AreDone, AreOpen, Begun, HasAdded, HaveGoneOn, IsClosed, IsDone, WhereTold}
+use Rattle.bd_opened.specs.Covering.{AreClosed, AreDone, Begun, HasAdded, HaveGoneOn, IsClosed, IsDone}
 use Rattle.bd_opened.specs.Held.{none_held, with_disk, Held}
 use Rattle.bd_opened.proofs.Lists.{at_last, has_at, is_below}
 use Rattle.bd_opened.proofs.EachClosed.{untold_all}
-use Rattle.bd_opened.proofs.Opens.{closed_again, closed_so, none_open, one_more, raised}
-use Rattle.bd_outside.specs.Count.{last_count, Rises}
+use Rattle.bd_opened.proofs.Opens.{closed_again, closed_so, none_open, one_more as one_more_open, raised}
+use Rattle.bd_outside.specs.Count.{last_count, one_more, Rises}
 use Rattle.bd_outside.specs.Disk.{closing_of, DiskState, HasWholeBlocks, IsOpenedOver}
 use Rattle.bd_outside.specs.File.{Told}
 use Rattle.bd_outside.specs.Host.{HostState, IsLater, Opens}
 use Rattle.bd_outside.specs.Opening.{open_row, AddsOpening}
 use Rattle.bd_outside.specs.declared.opening.Opening.{Opening}
-use Rattle.bd_storage.specs.Served.{ends_on, DidPieces, DidPiecesIf}
+use Rattle.bd_served.specs.Served.{served_in, ServedPiece}
+use Rattle.bd_storage.specs.Contents.{content_if, contents_of}
+use Rattle.bd_storage.specs.Served.{DidPieces, DidPiecesIf}
+use Rattle.bd_top.proofs.AtHome.{base_last, begins_as_told}
+use Rattle.bd_top.proofs.Contents.{told_at_home}
 use Rattle.bd_top.specs.declared.fault.Fault.{Fault}
 use Rattle.bd_top.specs.declared.fault.Fault.TheVariants.{OutOfMemory}
 use Rattle.bd_top.specs.Run.{IsDone as IsAskedDone, NamesNoFile}
 use Rattle.bd_top.specs.Words.{Asked, Exercise, Generate, Run}
-use Rattle.bd_top.specs.DiskRows.{ends_of, faults_in, AreFresh, AreSetOut, HasDisks, IsClosedUnless, IsDiskOf, IsFresh, IsSetOut, OpensFor, StandOpen, TellDisks, TellsSo}
+use Rattle.bd_top.specs.DiskRows.{content_at_home, is_fault, is_flushed, AreFresh, AreSetOut, HasDisks, IsClosedUnless, IsDiskOf, IsFresh, IsSetOut, OpensFor, StandOpen, TellDisks, TellsSo}
 
 none_is_some : {X : Type 0} {Q : Type 0} {x : X} → None ≡ Some x → Q
 none_is_some e = cc
@@ -88,7 +102,7 @@ opened_more {D = D} state told n devices held (Some base) (Some rows) next devic
       begun = are.begun ++ record { dev = dev_of n; name = name; disk = state disk } ∷ [];
       stand =
           raised state (suc n) (n + 1) (with_disk held (dev_of n) name disk) (are.begun ++ record { dev = dev_of n; name = name; disk = state disk } ∷ []) base (rows ++ open_row name (state disk).blocks ∷ []) (omega arith)
-          (one_more state n held are.begun base rows (dev_of n) name disk are.stand (omega arith) some added.1);
+          (one_more_open state n held are.begun base rows (dev_of n) name disk are.stand (omega arith) some added.1);
       fresh = fresh_more told devices are.begun device (record { dev = dev_of n; name = name; disk = state disk }) are.fresh is;
     })
 
@@ -181,35 +195,106 @@ closed_same (Some rows) = record { added = []; are = sym (append-nil rows); each
 
 -- ---- what a disk did
 
-keeps_place : (size : ℕ) (es : List ApplyEnd) (a b : DiskState) → DidPieces size es a b → b.place ≡ a.place
+keeps_place : (size : ℕ) (pieces : List ServedPiece) (a b : DiskState) → DidPieces size pieces a b → b.place ≡ a.place
 keeps_place size [] a b did = ap (λ (d : DiskState). d.place) did
-keeps_place size (e ∷ es) a b did = keeps_place size es did.0 b did.4 ∙ did.3.shape.place
+keeps_place size (p ∷ ps) a b did = keeps_place size ps did.0 b did.3 ∙ did.2.shape.place
 
-keeps_faults : (size : ℕ) (es : List ApplyEnd) (a b : DiskState) → DidPieces size es a b → a.faults ≤ b.faults
-keeps_faults size [] a b did = subst (λ (d : DiskState). a.faults ≤ d.faults) (sym did) (omega arith)
-keeps_faults size (e ∷ es) a b did = let first : a.faults ≤ did.0.faults = did.3.faults in let rest = keeps_faults size es did.0 b did.4 in omega (arith, first, rest)
+-- one such piece more, or none
+one_counted : (is : ServedPiece → Bool) (p : ServedPiece) (ps : List ServedPiece) → count_by is (p ∷ ps) ≡ cond (is p) 1 0 + count_by is ps
+one_counted is p ps = sum_by-cons (λ (q : ServedPiece). cond (is q) 1 0) p ps
 
-bounded : (size : ℕ) (es : List ApplyEnd) (a b : DiskState) → DidPieces size es a b → (faults_in es + a.faults ≤ b.faults) ⊎ (last_count ≤ b.faults)
-bounded size [] a b did = inl (let le = keeps_faults size [] a b did in omega (arith, le))
-bounded size (ends.Done ∷ es) a b did = go (bounded size es did.0 b did.4)
+at_last_count : (k n m : ℕ) → n ≤ last_count → m ≡ min (k + n) last_count → m ≤ last_count
+at_last_count k n m le is = subst (λ (x : ℕ). x ≤ last_count) (sym is) (min-le_right (k + n) last_count)
+
+counts_on : (k l n m : ℕ) → m ≡ min (k + n) last_count → min (l + m) last_count ≡ min (k + l + n) last_count
+counts_on k l n m is = subst (λ (x : ℕ). min (l + x) last_count ≡ min (k + l + n) last_count) (sym is) (go (cases_lt (k + n) last_count))
   where
-    go : (faults_in es + did.0.faults ≤ b.faults) ⊎ (last_count ≤ b.faults) → (faults_in es + a.faults ≤ b.faults) ⊎ (last_count ≤ b.faults)
-    go (inl le) = inl (let first : a.faults ≤ did.0.faults = did.3.faults in omega (arith, le, first))
-    go (inr full) = inr full
-bounded size (ends.Fault ∷ es) a b did = go did.3.served.faults (bounded size es did.0 b did.4)
+    go : (k + n < last_count) ⊎ (last_count ≤ k + n) → min (l + min (k + n) last_count) last_count ≡ min (k + l + n) last_count
+    go (inl lt) = ap (λ (x : ℕ). min (l + x) last_count) (min-eq_left (omega (arith, lt))) ∙ ap (λ (x : ℕ). min x last_count) (omega arith)
+    go (inr le) =
+        ap (λ (x : ℕ). min (l + x) last_count) (min-eq_right le)
+        ∙ min-eq_right (omega arith) ∙ sym (min-eq_right (omega (arith, le)))
+
+-- a piece raised the count of flushes by one if it was a flush that was done, unless the count stood at its last value
+one_flushed : (size : ℕ) (p : ServedPiece) (read : Option (List ℕ)) (a b : DiskState) → Does size p.piece p.end read a b → a.flushes ≤ last_count → b.flushes ≡ min (cond (is_flushed p) 1 0 + a.flushes) last_count
+one_flushed size p read a b did le = by_end p.end did.served
   where
-    go : Rises a.faults did.0.faults → (faults_in es + did.0.faults ≤ b.faults) ⊎ (last_count ≤ b.faults) → (faults_in es + 1 + a.faults ≤ b.faults) ⊎ (last_count ≤ b.faults)
-    go (inl rose) (inl le) = inl (omega (arith, rose, le))
-    go (inl rose) (inr full) = inr full
-    go (inr full) more = inr (let rest : did.0.faults ≤ b.faults = keeps_faults size es did.0 b did.4 in subst (λ (n : ℕ). n ≤ b.faults) full rest)
+    none : a.flushes ≡ min (0 + a.flushes) last_count
+    none = sym (ap (λ (n : ℕ). min n last_count) (zero-add a.flushes) ∙ min-eq_left le)
+
+    if_flush : (f : Bool) → cond f (one_more a.flushes) a.flushes ≡ min (cond (f && true) 1 0 + a.flushes) last_count
+    if_flush true = ap (λ (n : ℕ). min n last_count) (omega arith)
+    if_flush false = none
+
+    if_fault : (f : Bool) → a.flushes ≡ min (cond (f && false) 1 0 + a.flushes) last_count
+    if_fault true = none
+    if_fault false = none
+
+    by_end : (end : ApplyEnd) → IsServed size p.piece a b end read → b.flushes ≡ min (cond (is_flush p.piece.op && is_done_end (Some end)) 1 0 + a.flushes) last_count
+    by_end apply_ends.Done is = is.flushes ∙ if_flush (is_flush p.piece.op)
+    by_end apply_ends.Fault is = is.flushes ∙ if_fault (is_flush p.piece.op)
+
+flushed : (size : ℕ) (pieces : List ServedPiece) (a b : DiskState) → DidPieces size pieces a b → a.flushes ≤ last_count → b.flushes ≡ min (count_by is_flushed pieces + a.flushes) last_count
+flushed size [] a b did le = ap (λ (d : DiskState). d.flushes) did ∙ sym (ap (λ (n : ℕ). min n last_count) (zero-add a.flushes) ∙ min-eq_left le)
+flushed size (p ∷ ps) a b did le =
+    let one : did.0.flushes ≡ min (cond (is_flushed p) 1 0 + a.flushes) last_count = one_flushed size p did.1 a did.0 did.2 le in
+    flushed size ps did.0 b did.3 (at_last_count (cond (is_flushed p) 1 0) a.flushes did.0.flushes le one)
+    ∙ counts_on (cond (is_flushed p) 1 0) (count_by is_flushed ps) a.flushes did.0.flushes one
+    ∙ ap (λ (n : ℕ). min (n + a.flushes) last_count) (sym (one_counted is_flushed p ps))
+
+least : (k l n m c : ℕ) → (k + n ≤ m) ⊎ (last_count ≤ m) → min (l + m) last_count ≤ c → min (k + l + n) last_count ≤ c
+least k l n m c raised le =
+    let no_more : min (k + l + n) last_count ≤ last_count = min-le_right (k + l + n) last_count in
+    let within : min (k + l + n) last_count ≤ l + m = go raised in
+    let both : min (k + l + n) last_count ≤ min (l + m) last_count = le-min within no_more in
+    omega (arith, both, le)
+  where
+    go : (k + n ≤ m) ⊎ (last_count ≤ m) → min (k + l + n) last_count ≤ l + m
+    go (inl rose) = let all : min (k + l + n) last_count ≤ k + l + n = min-le_left (k + l + n) last_count in omega (arith, all, rose)
+    go (inr full) = let all : min (k + l + n) last_count ≤ last_count = min-le_right (k + l + n) last_count in omega (arith, all, full)
+
+-- a piece that ended with a fault raised the count of faults, unless that stands at its last value
+one_faulted : (size : ℕ) (p : ServedPiece) (read : Option (List ℕ)) (a b : DiskState) → Does size p.piece p.end read a b → (cond (is_fault p) 1 0 + a.faults ≤ b.faults) ⊎ (last_count ≤ b.faults)
+one_faulted size p read a b did = by_end p.end did.served
+  where
+    rose : Rises a.faults b.faults → (1 + a.faults ≤ b.faults) ⊎ (last_count ≤ b.faults)
+    rose (inl lt) = inl (omega (arith, lt))
+    rose (inr full) = inr (omega (arith, full))
+
+    by_end : (end : ApplyEnd) → IsServed size p.piece a b end read → (cond (is_fault_end (Some end)) 1 0 + a.faults ≤ b.faults) ⊎ (last_count ≤ b.faults)
+    by_end apply_ends.Done is = inl (let le : a.faults ≤ b.faults = did.faults in omega (arith, le))
+    by_end apply_ends.Fault is = rose is.faults
+
+faulted : (size : ℕ) (pieces : List ServedPiece) (a b : DiskState) → DidPieces size pieces a b → min (count_by is_fault pieces + a.faults) last_count ≤ b.faults
+faulted size [] a b did = subst (λ (d : DiskState). min (0 + a.faults) last_count ≤ d.faults) (sym did) (let le : min (0 + a.faults) last_count ≤ 0 + a.faults = min-le_left (0 + a.faults) last_count in omega (arith, le))
+faulted size (p ∷ ps) a b did =
+    subst (λ (n : ℕ). min (n + a.faults) last_count ≤ b.faults) (sym (one_counted is_fault p ps))
+    (least (cond (is_fault p) 1 0) (count_by is_fault ps) a.faults did.0.faults b.faults (one_faulted size p did.1 a did.0 did.2) (faulted size ps did.0 b did.3))
 
 -- ---- after a run
 
 module _ {D : Type 0} (state : D → DiskState) (told : List ℕ → Told) (setup : Setup) (trace : List Entry) (held : Held D) (after : List (List (DevId × D))) (alone : AreBasesAlone setup)
-    (threads : length held.threads ≡ setup.threads) (says : SaysOfDisks state setup trace held.threads after) where
-  -- what a device's disk did, by the history
+    (some : 0 < setup.threads) (threads : length held.threads ≡ setup.threads) (says : SaysOfDisks state setup trace held.threads after) where
+  -- what the disks told as the run began
+  abbrev disks_told : Contents
+  disks_told = told_of state setup held.threads
+
+  -- what a device's disk did, and what it has then, by the history
   abbrev Did : DevId → DiskState → DiskState → Type 0
-  Did dev a b = DidPieces (size_of setup dev) (ends_on dev (entries_of (home setup dev) trace)) a b
+  Did dev a b = DidPieces (size_of setup dev) (served_in setup disks_told trace dev) a b × (content_at_home setup (state_after setup disks_told trace) dev ≡ Some (content_of b))
+
+  -- the disk of a device at its home has what the run leaves the device
+  has_last : (dev : DevId) (disks : List (DevId × D)) (disk : D) → is_aio setup dev ≡ true → base_of setup dev ≡ dev → slice_get after (home setup dev) ≡ Some disks → disk_of dev disks ≡ Some disk
+      → content_at_home setup (state_after setup disks_told trace) dev ≡ Some (content_of (state disk))
+  has_last dev disks disk aio own at found =
+      let base = base_last setup disks_told dev some (subst (λ (d : DevId). has_kind is_aio_kind (row_of setup d) ≡ true) own aio) trace in
+      let holds : base.0.content ≡ contents_of state (disks_at after (home setup dev)) dev =
+      subst (λ (o : Option Base). IfSome o (λ b. b.content ≡ contents_of state (disks_at after (home setup dev)) dev)) base.1 (says.holds dev aio) in
+      ap (option_map (λ (b : Base). b.content)) base.1
+      ∙ ap Some
+      (holds
+      ∙ ap (λ (ds : List (DevId × D)). contents_of state ds dev) (get_or_from_slice_get after (home setup dev) disks [] at)
+      ∙ ap (λ (o : Option D). content_if (option_map state o)) found)
 
   module _ (base rows : List Opening) (are : IsSetOut state told (length setup.devices) (aio_devices setup) held base rows) where
     -- the aio device of a disk that was opened
@@ -227,23 +312,41 @@ module _ {D : Type 0} (state : D → DiskState) (told : List ℕ → Told) (setu
         let aio : is_aio setup is.dev ≡ true = subst (λ (d : DevId). is_aio setup d ≡ true) (sym device.2.device_is) facts.0 in
         let own : base_of setup is.dev ≡ is.dev = subst (λ (d : DevId). base_of setup d ≡ d) (sym device.2.device_is) facts.1 in
         let t : is.dev.0 % length held.threads ≡ home setup is.dev = ap (λ (n : ℕ). is.dev.0 % n) threads ∙ ap (λ (d : DevId). d.0 % setup.threads) (sym own) in
-        let pieces = (says.each (is.dev.0 % length held.threads) a b at-a at-b).pieces is.dev aio in
-        subst (λ (n : ℕ). DidPieces (size_of setup is.dev) (ends_on is.dev (entries_of n trace)) (state x) (state y)) t
-        (subst (λ (o : Option D). DidPiecesIf (size_of setup is.dev) (ends_on is.dev (entries_of (is.dev.0 % length held.threads) trace)) (Some (state x)) (option_map state o)) at-y
-        (subst (λ (o : Option D). DidPiecesIf (size_of setup is.dev) (ends_on is.dev (entries_of (is.dev.0 % length held.threads) trace)) (option_map state o) (option_map state (disk_of is.dev b))) at-x pieces))
+        let there : slice_get held.threads (home setup is.dev) ≡ Some a = subst (λ (n : ℕ). slice_get held.threads n ≡ Some a) t at-a in
+        let then : slice_get after (home setup is.dev) ≡ Some b = subst (λ (n : ℕ). slice_get after n ≡ Some b) t at-b in
+        let pieces : DidPiecesIf (size_of setup is.dev) (served_in setup disks_told trace is.dev) (option_map state (disk_of is.dev a)) (option_map state (disk_of is.dev b)) =
+        (says.each (home setup is.dev) a b there then).pieces_are is.dev aio in (
+          subst (λ (o : Option D). DidPiecesIf (size_of setup is.dev) (served_in setup disks_told trace is.dev) (Some (state x)) (option_map state o)) at-y
+              (subst (λ (o : Option D). DidPiecesIf (size_of setup is.dev) (served_in setup disks_told trace is.dev) (option_map state o) (option_map state (disk_of is.dev b))) at-x pieces),
+          has_last is.dev b y aio own then at-y,
+        )
 
     went_on : HaveGoneOn state Did are.begun held.threads after
     went_on = record {
       len = says.len;
       devices = λ t a b at at'. (says.each t a b at at').devices;
       did = did_so;
-      place = λ dev a b did. keeps_place (size_of setup dev) (ends_on dev (entries_of (home setup dev) trace)) a b did;
+      place = λ dev a b did. keeps_place (size_of setup dev) (served_in setup disks_told trace dev) a b did.0;
     }
 
     end : (final : List Opening) × (closing_all state held.names after (Some rows) ≡ Some final) × AreDone Did are.begun base final
     end = closed_so state Did (length setup.devices) held are.begun base rows after are.stand went_on
 
-    each : (k : ℕ) (device : AioDevice) (row : Opening) → slice_get (aio_devices setup) k ≡ Some device → slice_get end.2.added k ≡ Some row → IsDiskOf told setup trace device row
+    -- the run began with what the disk of an aio device held
+    held_first : (k : ℕ) (device : AioDevice) (b : Begun) → slice_get (aio_devices setup) k ≡ Some device → slice_get are.begun k ≡ Some b → device.dev ≡ b.dev
+        → content_at_home setup (start setup disks_told) device.dev ≡ Some (content_of b.disk)
+    held_first k device b at at-b same =
+        let facts = aio_is setup k device alone at in
+        let at-home = are.stand.all k b at-b in
+        let t : ℕ = b.dev.0 % length held.threads in
+        let own : base_of setup b.dev ≡ b.dev = subst (λ (d : DevId). base_of setup d ≡ d) same facts.1 in
+        let here : t ≡ home setup b.dev = ap (λ (n : ℕ). b.dev.0 % n) threads ∙ ap (λ (d : DevId). d.0 % setup.threads) (sym own) in
+        begins_as_told setup disks_told device.dev some (subst (λ (d : DevId). has_kind is_aio_kind (row_of setup d) ≡ true) facts.1 facts.0)
+        ∙ ap Some
+        (ap (λ (d : DevId). content_told (slice_index_or disks_told d.0 None)) same
+        ∙ told_at_home state setup held.threads b (are.stand.each k b at-b).below here at-home (are.stand.apart t at-home.own at-home.there))
+
+    each : (k : ℕ) (device : AioDevice) (row : Opening) → slice_get (aio_devices setup) k ≡ Some device → slice_get end.2.added k ≡ Some row → IsDiskOf told disks_told setup trace device row
     each k device row at there = of_row (end.2.each k b row at-b there)
       where
         begins : (b : Begun) × (slice_get are.begun k ≡ Some b)
@@ -258,13 +361,14 @@ module _ {D : Type 0} (state : D → DiskState) (told : List ℕ → Told) (setu
         fresh : IsFresh told device b
         fresh = are.fresh.each k device b at at-b
 
-        of_row : IsDone Did b row → IsDiskOf told setup trace device row
+        pieces : List ServedPiece
+        pieces = served_in setup disks_told trace device.dev
+
+        of_row : IsDone Did b row → IsDiskOf told disks_told setup trace device row
         of_row is =
             let name : row.name ≡ b.name = ap (λ (r : Opening). r.name) is.is in
-            let size : size_of setup b.dev ≡ device.size = ap (size_of setup) fresh.device_is ∙ (aio_is setup k device alone at).2 in
-            let did : DidPieces device.size (ends_of setup trace device) b.disk is.last =
-            subst (λ (n : ℕ). DidPieces n (ends_of setup trace device) b.disk is.last) size
-            (subst (λ (d : DevId). DidPieces (size_of setup b.dev) (ends_on d (entries_of (home setup d) trace)) b.disk is.last) fresh.device_is is.did) in
+            let moved : Did device.dev b.disk is.last = subst (λ (d : DevId). Did d b.disk is.last) fresh.device_is is.did in
+            let did : DidPieces device.size pieces b.disk is.last = subst (λ (n : ℕ). DidPieces n pieces b.disk is.last) (aio_is setup k device alone at).2 moved.0 in
             record {
               opened = b.disk;
               closed = is.last;
@@ -278,30 +382,34 @@ module _ {D : Type 0} (state : D → DiskState) (told : List ℕ → Told) (setu
                 no_faults = fresh.no_faults;
                 no_flushes = fresh.no_flushes;
               };
+              begins = held_first k device b at at-b (sym fresh.device_is);
               did = did;
+              ends = moved.1;
+              flushes =
+                  flushed device.size pieces b.disk is.last did (subst (λ (n : ℕ). n ≤ last_count) (sym fresh.no_flushes) (omega arith))
+                  ∙ ap (λ (n : ℕ). min (count_by is_flushed pieces + n) last_count) fresh.no_flushes
+                  ∙ ap (λ (n : ℕ). min n last_count) (omega arith);
+              faults =
+                  subst (λ (n : ℕ). min n last_count ≤ is.last.faults) (omega arith)
+                  (subst (λ (n : ℕ). min (count_by is_fault pieces + n) last_count ≤ is.last.faults) fresh.no_faults (faulted device.size pieces b.disk is.last did));
               is = is.is ∙ ap (λ (n : List ℕ). record { name = n; blocks = b.disk.blocks; closing = Some (closing_of is.last) }) (sym name);
-              faults = at_start (bounded device.size (ends_of setup trace device) b.disk is.last did);
             }
-          where
-            at_start : (faults_in (ends_of setup trace device) + b.disk.faults ≤ is.last.faults) ⊎ (last_count ≤ is.last.faults) → (faults_in (ends_of setup trace device) ≤ is.last.faults) ⊎ (last_count ≤ is.last.faults)
-            at_start (inl le) = inl (omega (arith, le))
-            at_start (inr full) = inr full
 
-    has_disks : (final : List Opening) × (closing_all state held.names after (Some rows) ≡ Some final) × HasDisks told setup trace base final
+    has_disks : (final : List Opening) × (closing_all state held.names after (Some rows) ≡ Some final) × HasDisks told disks_told setup trace base final
     has_disks = (end.0, end.1, record { added = end.2.added; are = end.2.are; many = end.2.many ∙ are.fresh.many; each = each })
 
   -- **the host keeps of each disk what the history says that was done to it**
-  pub set_out_done : (base now : Option (List Opening)) → AreSetOut state told (length setup.devices) (aio_devices setup) held base now → TellDisks told setup trace base (closing_all state held.names after now)
-  set_out_done base None are = subst (TellDisks told setup trace base) (sym (untold_all state held.names after)) tt
+  pub set_out_done : (base now : Option (List Opening)) → AreSetOut state told (length setup.devices) (aio_devices setup) held base now → TellDisks told disks_told setup trace base (closing_all state held.names after now)
+  set_out_done base None are = subst (TellDisks told disks_told setup trace base) (sym (untold_all state held.names after)) tt
   set_out_done None (Some rows) are = absurd are
   set_out_done (Some base) (Some rows) are =
       let end = has_disks base rows are in
-      subst (TellDisks told setup trace (Some base)) (sym end.1) end.2
+      subst (TellDisks told disks_told setup trace (Some base)) (sym end.1) end.2
 
 -- ---- closed after all
 
-each_is_closed : (told : List ℕ → Told) (setup : Setup) (trace : List Entry) (base rows : List Opening) → HasDisks told setup trace base rows → HasAdded IsClosed base rows
-each_is_closed told setup trace base rows has = record { added = has.added; are = has.are; each = each }
+each_is_closed : (told : List ℕ → Told) (contents : Contents) (setup : Setup) (trace : List Entry) (base rows : List Opening) → HasDisks told contents setup trace base rows → HasAdded IsClosed base rows
+each_is_closed told contents setup trace base rows has = record { added = has.added; are = has.are; each = each }
   where
     each : (k : ℕ) (row : Opening) → slice_get has.added k ≡ Some row → IsClosed k row
     each k row at =
@@ -309,13 +417,13 @@ each_is_closed told setup trace base rows has = record { added = has.added; are 
         ap (λ (r : Opening). is_some r.closing) (has.each k device.0 row device.1 at).is
 
 -- where the host keeps so much of each disk, each is closed
-pub tells_closed : (told : List ℕ → Told) (setup : Setup) (trace : List Entry) (base now : Option (List Opening)) → TellDisks told setup trace base now → AreClosed base now
-tells_closed told setup trace base None tells = tt
-tells_closed told setup trace None (Some rows) tells = absurd tells
-tells_closed told setup trace (Some base) (Some rows) tells = each_is_closed told setup trace base rows tells
+pub tells_closed : (told : List ℕ → Told) (contents : Contents) (setup : Setup) (trace : List Entry) (base now : Option (List Opening)) → TellDisks told contents setup trace base now → AreClosed base now
+tells_closed told contents setup trace base None tells = tt
+tells_closed told contents setup trace None (Some rows) tells = absurd tells
+tells_closed told contents setup trace (Some base) (Some rows) tells = each_is_closed told contents setup trace base rows tells
 
 -- what was asked was done: each disk that was opened is closed
 pub done_closed : (asked : Asked) (old new : HostState) (trace : List Entry) (text : List ℕ) → IsAskedDone asked old new trace text → (NamesNoFile asked → new ≡ old) → AreClosed old.openings new.openings
-done_closed (Run arguments) old new trace text done unread = tells_closed old.told done.setup trace old.openings new.openings done.disks
+done_closed (Run arguments) old new trace text done unread = tells_closed old.told done.contents done.setup trace old.openings new.openings done.disks
 done_closed (Exercise numbers playing) old new trace text done unread = subst (λ (h : HostState). AreClosed old.openings h.openings) (sym (unread tt)) (closed_same old.openings)
 done_closed (Generate numbers threads) old new trace text done unread = subst (λ (h : HostState). AreClosed old.openings h.openings) (sym (unread tt)) (closed_same old.openings)

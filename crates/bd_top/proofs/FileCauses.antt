@@ -10,7 +10,7 @@ use Rattle.bd_building.specs.declared.building.BuildNo.TheVariants as builds
 use Rattle.bd_config.specs.Commands.{minus}
 use Rattle.bd_config.specs.declared.command.Command.{Command}
 use Rattle.bd_opened.specs.Closing.{KeepsCounts}
-use Rattle.bd_opened.proofs.EachClosed.{kept_same, kept_then}
+use Rattle.bd_opened.proofs.EachClosed.{kept_same}
 use Rattle.bd_outside.specs.Count.{Rises}
 use Rattle.bd_outside.specs.File.{Told, IsAbsent}
 use Rattle.bd_outside.specs.Host.{HostState, IsLater, FailsAt, Misses}

@@ -1,8 +1,7 @@
 -- How pieces of a file come together.
-use Rattle.std.proofs.Common.{◌≡◌, ℕ, ◌+◌, ◌-◌, ◌<◌, ◌≤◌, inl, inr, List, [], ◌++◌, length, take, drop, Option, None, Some, refl, sym, ◌∙◌, ap, subst, append_assoc, length-append, arith}
+use Rattle.std.proofs.Common.{◌≡◌, ℕ, ◌+◌, ◌<◌, ◌≤◌, List, ◌++◌, length, take, drop, refl, sym, ◌∙◌, ap, subst, length-append, arith}
 use Rattle.std.proofs.Math.Seq.{take-add}
-use Rattle.std.proofs.lemmas.List.{length-take, length-drop, append-nil, take_all, take-take}
-use Rattle.bd_outside.specs.Count.{Rises}
+use Rattle.std.proofs.lemmas.List.{length-take, append-nil, take_all, take-take}
 use Rattle.bd_outside.specs.File.{Told, Untold, NoFile, Content, GivesPiece, ReadsAt, IsWhole}
 use Rattle.bd_outside.specs.Host.{HostState, IsLater, FailsAt, Misses}
 use Rattle.bd_report.proofs.WritingLemmas.{rises_from}

@@ -1,33 +1,47 @@
 -- What a complete run says of scripts, requests and devices, and that it was played.
-use Rattle.std.proofs.Common.{◌≡◌, ℕ, Bool, List, [], subst}
+use Rattle.std.proofs.Common.{◌≡◌, ℕ, Bool, false, List, [], sym, subst}
 use Rattle.bd_base.specs.declared.act.Entry.{Entry}
 use Rattle.bd_base.specs.declared.setup.Setup.{Setup}
+use Rattle.bd_machine.specs.Content.{Told}
 use Rattle.bd_machine.specs.Run.{IsRun, IsCompleteRun}
 use Rattle.bd_machine.proofs.LastClose.{destructed_after_last_close}
 use Rattle.bd_machine.proofs.Lines.{scripts_go_as_far}
 use Rattle.bd_machine.proofs.Runs.{each_is_completed_once, each_is_destructed_once}
 use Rattle.bd_report.specs.Report.{report_of}
-use Rattle.bd_top.specs.Run.{GoAsFar, AreCompletedOnce, AreDestructedOnce, AreAfterLastClose, IsPlayed}
+use Rattle.bd_top.proofs.BuiltIn.{none_aio}
+use Rattle.bd_top.proofs.NoDisks.{told_nothing, AreNoneAio}
+use Rattle.bd_top.specs.Exercise.{IsExercise}
+use Rattle.bd_top.specs.Run.{GoAsFar, AreCompletedOnce, AreDestructedOnce, AreAfterLastClose, IsExercised, IsPlayed}
 
-go_as_far : (setup : Setup) (trace : List Entry) → IsCompleteRun setup [] trace → GoAsFar setup trace
-go_as_far setup trace run t is_thread = scripts_go_as_far setup [] trace t is_thread run
+go_as_far : (setup : Setup) (told : Told) (trace : List Entry) → IsCompleteRun setup told trace → GoAsFar setup told trace
+go_as_far setup told trace run t is_thread = scripts_go_as_far setup told trace t is_thread run
 
-completed_once : (setup : Setup) (trace : List Entry) → IsCompleteRun setup [] trace → AreCompletedOnce trace
-completed_once setup trace run = each_is_completed_once setup [] trace run
+completed_once : (setup : Setup) (told : Told) (trace : List Entry) → IsCompleteRun setup told trace → AreCompletedOnce trace
+completed_once setup told trace run = each_is_completed_once setup told trace run
 
-destructed_once : (setup : Setup) (trace : List Entry) → IsCompleteRun setup [] trace → AreDestructedOnce setup trace
-destructed_once setup trace run = each_is_destructed_once setup [] trace run
+destructed_once : (setup : Setup) (told : Told) (trace : List Entry) → IsCompleteRun setup told trace → AreDestructedOnce setup trace
+destructed_once setup told trace run = each_is_destructed_once setup told trace run
 
-after_last_close : (setup : Setup) (trace : List Entry) → IsCompleteRun setup [] trace → AreAfterLastClose setup trace
-after_last_close setup trace run dev before e behind split is = destructed_after_last_close setup [] before e behind dev (subst (IsRun setup []) split run.0) is
+after_last_close : (setup : Setup) (told : Told) (trace : List Entry) → IsCompleteRun setup told trace → AreAfterLastClose setup told trace
+after_last_close setup told trace run dev before e behind split is = destructed_after_last_close setup told before e behind dev (subst (IsRun setup told) split run.0) is
 
 -- a setup was played where a complete run was made of it, with its report
-pub played : (setup : Setup) (full : Bool) (trace : List Entry) (report : List ℕ) → IsCompleteRun setup [] trace → report ≡ report_of full setup trace → IsPlayed setup full trace report
-played setup full trace report complete says = record {
+pub played : (setup : Setup) (told : Told) (full : Bool) (trace : List Entry) (report : List ℕ) → IsCompleteRun setup told trace → report ≡ report_of full setup trace → IsPlayed setup told full trace report
+played setup told full trace report complete says = record {
   complete = complete;
-  scripts = go_as_far setup trace complete;
-  once = completed_once setup trace complete;
-  destructed = destructed_once setup trace complete;
-  last_close = after_last_close setup trace complete;
+  scripts = go_as_far setup told trace complete;
+  once = completed_once setup told trace complete;
+  destructed = destructed_once setup told trace complete;
+  last_close = after_last_close setup told trace complete;
   says = says;
 }
+
+-- an exercise was played, whatever is told of disks: it has none
+pub exercised : (numbers threads : ℕ) (setup : Setup) (told : Told) (trace : List Entry) (report : List ℕ) → IsExercise numbers threads setup → IsPlayed setup told false trace report → IsExercised numbers threads trace report
+exercised numbers threads setup told trace report is was =
+    let none : AreNoneAio setup.devices = subst (λ (s : Setup). AreNoneAio s.devices) (sym is.is) (none_aio threads is.devices is.of_config) in
+    record {
+      setup = setup;
+      meant = is;
+      played = played setup [] false trace report (told_nothing setup told none trace was.complete) was.says;
+    }

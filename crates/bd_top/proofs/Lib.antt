@@ -1,11 +1,14 @@
 pub mod Answers
+pub mod AtHome
 pub mod BuiltIn
 pub mod BuiltLemmas
 pub mod ConfigureLemmas
+pub mod Contents
 pub mod FileCauses
 pub mod FileLemmas
 pub mod Histories
 pub mod InForm
+pub mod NoDisks
 pub mod OneCause
 pub mod Opening
 pub mod Wrong

@@ -1,14 +1,24 @@
 -- The disks of a run, from their opening to their closing, by the rows that the host tells of them.
-use Rattle.std.specs.Prelude.{◌≡◌, ℕ, ◌+◌, ◌≤◌, ◌⊎◌, cond, List, [], ◌∷◌, ◌++◌, length, slice_get, Option, Some, None}
-use Rattle.bd_base.specs.declared.act.ApplyEnd.{ApplyEnd}
-use Rattle.bd_base.specs.declared.act.ApplyEnd.TheVariants as ends
+use Rattle.std.specs.Prelude.{◌≡◌, ℕ, ◌+◌, ◌≤◌, ◌⊎◌, ◌&&◌, min, Bool, List, ◌++◌, length, slice_get, Option, Some}
+use Rattle.std.specs.List.{count_by}
+use Rattle.std.specs.Option.{option_map}
 use Rattle.bd_base.specs.declared.act.Entry.{Entry}
+use Rattle.bd_base.specs.declared.id.DevId.{DevId}
 use Rattle.bd_base.specs.declared.setup.Setup.{Setup}
 use Rattle.bd_building.specs.AioDevices.{aio_devices, aio_of, AioDevice, IsPlain}
 use Rattle.bd_building.specs.Progress.{Progress}
 use Rattle.bd_config.specs.declared.command.Command.{Command}
-use Rattle.bd_log.specs.Merge.{entries_of}
+use Rattle.bd_disks.specs.Holding.{content_of}
+use Rattle.bd_disks.specs.Serving.{is_flush}
+use Rattle.bd_machine.specs.declared.state.Content.{Content}
+use Rattle.bd_machine.specs.declared.state.State.{State}
 use Rattle.bd_machine.specs.BlockMap.{home}
+use Rattle.bd_machine.specs.Completion.{is_done_end, is_fault_end}
+use Rattle.bd_machine.specs.Content.{Told as Contents}
+use Rattle.bd_machine.specs.Homes.{base_here}
+use Rattle.bd_machine.specs.Run.{state_after}
+use Rattle.bd_machine.specs.Start.{start}
+use Rattle.bd_machine.specs.View.{view}
 use Rattle.bd_opened.specs.Covering.{AreClosed, AreOpen, Begun, WhereTold}
 use Rattle.bd_opened.specs.Held.{Held}
 use Rattle.bd_outside.specs.Count.{last_count}
@@ -16,7 +26,8 @@ use Rattle.bd_outside.specs.Disk.{closing_of, DiskState, HasWholeBlocks, IsOpene
 use Rattle.bd_outside.specs.File.{Told}
 use Rattle.bd_outside.specs.Host.{HostState}
 use Rattle.bd_outside.specs.declared.opening.Opening.{Opening}
-use Rattle.bd_storage.specs.Served.{DidPieces, ends_on}
+use Rattle.bd_served.specs.Served.{served_in, ServedPiece}
+use Rattle.bd_storage.specs.Served.{DidPieces}
 use Rattle.bd_top.specs.declared.fault.Fault.{Fault}
 use Rattle.bd_top.specs.declared.fault.Fault.TheVariants.{OutOfMemory}
 
@@ -70,36 +81,43 @@ pub record StandOpen {D : Type 0} (state : D → DiskState) (told : List ℕ →
 abbrev pub IsClosedUnless : Fault → Option (List Opening) → Option (List Opening) → Type 0
 IsClosedUnless fault base now = (fault ≡ OutOfMemory) ⊎ AreClosed base now
 
--- how many pieces ended with a fault
-abbrev pub fault_of_end : ApplyEnd → ℕ → ℕ
-fault_of_end ends.Done n = n
-fault_of_end ends.Fault n = n + 1
+-- a piece that ended with a fault
+abbrev pub is_fault : ServedPiece → Bool
+is_fault served = is_fault_end (Some served.end)
 
-abbrev pub faults_in : List ApplyEnd → ℕ
-faults_in [] = 0
-faults_in (end ∷ rest) = fault_of_end end (faults_in rest)
+-- a flush that was done
+abbrev pub is_flushed : ServedPiece → Bool
+is_flushed served = is_flush served.piece.op && is_done_end (Some served.end)
 
--- what the history says of the pieces of an aio device that were applied, in order: how each ended
-abbrev pub ends_of : Setup → List Entry → AioDevice → List ApplyEnd
-ends_of setup trace device = ends_on device.dev (entries_of (home setup device.dev) trace)
+-- how many such pieces there are, as a count has it that stands still at its last value
+abbrev pub counted : (ServedPiece → Bool) → List ServedPiece → ℕ
+counted is pieces = min (count_by is pieces) last_count
 
--- what the host keeps of a device's disk: it was opened over the device's file, it did just the pieces of which the history says
--- that they were applied, each with that end, and it was closed with what it told then. Its count of faults bounds those ends
-pub record IsDiskOf (told : List ℕ → Told) (setup : Setup) (trace : List Entry) (device : AioDevice) (row : Opening) : Type 0 where
+-- the content of a device in a state of the machine, at the device's home
+abbrev pub content_at_home : Setup → State → DevId → Option Content
+content_at_home setup s dev = option_map (λ base. base.content) (base_here (view s (home setup dev)) dev)
+
+-- what the host keeps of a device's disk. It was opened over the device's file, with the content that the device has as the run begins. It did just
+-- the pieces of which the run says that the device served them, one after the other, each with that end. Then it had the content that the run leaves
+-- the device, its count of flushes was that of those pieces, and its count of faults at least theirs; and it was closed with what it told then
+pub record IsDiskOf (told : List ℕ → Told) (contents : Contents) (setup : Setup) (trace : List Entry) (device : AioDevice) (row : Opening) : Type 0 where
   pub opened : DiskState
   pub closed : DiskState
   pub fresh : IsFresh told device (record { dev = device.dev; name = row.name; disk = opened })
-  pub did : DidPieces device.size (ends_of setup trace device) opened closed
+  pub begins : content_at_home setup (start setup contents) device.dev ≡ Some (content_of opened)
+  pub did : DidPieces device.size (served_in setup contents trace device.dev) opened closed
+  pub ends : content_at_home setup (state_after setup contents trace) device.dev ≡ Some (content_of closed)
+  pub flushes : closed.flushes ≡ counted is_flushed (served_in setup contents trace device.dev)
+  pub faults : counted is_fault (served_in setup contents trace device.dev) ≤ closed.faults
   pub is : row ≡ record { name = row.name; blocks = opened.blocks; closing = Some (closing_of closed) }
-  pub faults : (faults_in (ends_of setup trace device) ≤ closed.faults) ⊎ (last_count ≤ closed.faults)
 
 -- the rows that were added are those of the setup's aio devices, in the order of their numbers
-pub record HasDisks (told : List ℕ → Told) (setup : Setup) (trace : List Entry) (old new : List Opening) : Type 0 where
+pub record HasDisks (told : List ℕ → Told) (contents : Contents) (setup : Setup) (trace : List Entry) (old new : List Opening) : Type 0 where
   pub added : List Opening
   pub are : new ≡ old ++ added
   pub many : length added ≡ length (aio_devices setup)
-  pub each : (k : ℕ) (device : AioDevice) (row : Opening) → slice_get (aio_devices setup) k ≡ Some device → slice_get added k ≡ Some row → IsDiskOf told setup trace device row
+  pub each : (k : ℕ) (device : AioDevice) (row : Opening) → slice_get (aio_devices setup) k ≡ Some device → slice_get added k ≡ Some row → IsDiskOf told contents setup trace device row
 
 -- the same, where the host still tells its openings
-abbrev pub TellDisks : (List ℕ → Told) → Setup → List Entry → Option (List Opening) → Option (List Opening) → Type 0
-TellDisks told setup trace old new = WhereTold (HasDisks told setup trace) old new
+abbrev pub TellDisks : (List ℕ → Told) → Contents → Setup → List Entry → Option (List Opening) → Option (List Opening) → Type 0
+TellDisks told contents setup trace old new = WhereTold (HasDisks told contents setup trace) old new

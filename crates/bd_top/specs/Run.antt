@@ -6,6 +6,7 @@ use Rattle.bd_base.specs.declared.id.DevId.{DevId}
 use Rattle.bd_base.specs.declared.id.ReqId.{ReqId}
 use Rattle.bd_base.specs.declared.job.Script.{Script}
 use Rattle.bd_base.specs.declared.setup.Setup.{Setup}
+use Rattle.bd_machine.specs.Content.{Told as Contents}
 use Rattle.bd_machine.specs.Destruction.{IsAfterLastClose}
 use Rattle.bd_machine.specs.Laws.{IsCompletedOnce, count_of, is_destruct_of}
 use Rattle.bd_machine.specs.Lines.{GoesAsFar}
@@ -42,8 +43,8 @@ use Rattle.bd_top.specs.Words.{Arguments, Asked, Run, Exercise, Generate, asked_
 
 -- the script of each thread goes as far as it can: at the Shutdown it is at its end or at a line that waits,
 -- and the lines before that one are exactly those that were done
-abbrev pub GoAsFar : Setup → List Entry → Type 0
-GoAsFar setup trace = (t : ℕ) → t < setup.threads → GoesAsFar setup [] trace t
+abbrev pub GoAsFar : Setup → Contents → List Entry → Type 0
+GoAsFar setup contents trace = (t : ℕ) → t < setup.threads → GoesAsFar setup contents trace t
 
 -- each request that was accepted is completed once, on its own thread
 abbrev pub AreCompletedOnce : List Entry → Type 0
@@ -54,9 +55,9 @@ abbrev pub AreDestructedOnce : Setup → List Entry → Type 0
 AreDestructedOnce setup trace = (n : ℕ) → n < length setup.devices → count_of (is_destruct_of (dev_of n)) trace ≡ 1
 
 -- where a device is destructed, its last close and put came before
-abbrev pub AreAfterLastClose : Setup → List Entry → Type 0
-AreAfterLastClose setup trace = (dev : DevId) (before : List Entry) (e : Entry) (after : List Entry)
-    → trace ≡ before ++ e ∷ after → is_destruct_of dev e.act ≡ true → IsAfterLastClose setup [] dev before after
+abbrev pub AreAfterLastClose : Setup → Contents → List Entry → Type 0
+AreAfterLastClose setup contents trace = (dev : DevId) (before : List Entry) (e : Entry) (after : List Entry)
+    → trace ≡ before ++ e ∷ after → is_destruct_of dev e.act ≡ true → IsAfterLastClose setup contents dev before after
 
 -- ---- Ok
 
@@ -98,27 +99,30 @@ pub record IsNotSupported (threads : ℕ) (jobs : Told) (line : ℕ) : Type 0 wh
   pub means : scripts_of threads bytes ≡ Some scripts
   pub first : IsFirstNotBuilt (lines_in scripts) line
 
--- this setup was played: this is the history, and this its report, with a line for each command where it is full
-pub record IsPlayed (setup : Setup) (full : Bool) (trace : List Entry) (report : List ℕ) : Type 0 where
-  pub complete : IsCompleteRun setup [] trace
-  pub scripts : GoAsFar setup trace
+-- this setup was played, where its disks told these contents: this is the history, and this its report, with a line for each command
+-- where it is full
+pub record IsPlayed (setup : Setup) (contents : Contents) (full : Bool) (trace : List Entry) (report : List ℕ) : Type 0 where
+  pub complete : IsCompleteRun setup contents trace
+  pub scripts : GoAsFar setup contents trace
   pub once : AreCompletedOnce trace
   pub destructed : AreDestructedOnce setup trace
-  pub last_close : AreAfterLastClose setup trace
+  pub last_close : AreAfterLastClose setup contents trace
   pub says : report ≡ report_of full setup trace
 
--- the two files were played, with a full report; what the host then keeps of the disks is that run's
+-- the two files were played, with a full report, over what the disks told at their opening; what the host then keeps of the disks is
+-- that run's
 pub record AreFilesPlayed (arguments : Arguments) (old new : HostState) (trace : List Entry) (report : List ℕ) : Type 0 where
   pub setup : Setup
   pub meant : IsMeant arguments.playing.threads old.told (old.told arguments.config) (old.told arguments.jobs) setup
-  pub played : IsPlayed setup true trace report
-  pub disks : TellDisks old.told setup trace old.openings new.openings
+  pub contents : Contents
+  pub played : IsPlayed setup contents true trace report
+  pub disks : TellDisks old.told contents setup trace old.openings new.openings
 
--- the built-in configuration was played with the generated script, with a report that isn't full
+-- the built-in configuration, which has no aio device, was played with the generated script, with a report that isn't full
 pub record IsExercised (numbers threads : ℕ) (trace : List Entry) (report : List ℕ) : Type 0 where
   pub setup : Setup
   pub meant : IsExercise numbers threads setup
-  pub played : IsPlayed setup false trace report
+  pub played : IsPlayed setup [] false trace report
 
 -- nothing was played, and the text is the generated script
 pub record IsGenerated (numbers threads : ℕ) (trace : List Entry) (text : List ℕ) : Type 0 where

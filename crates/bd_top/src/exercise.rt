@@ -1,5 +1,6 @@
 //! The built-in configuration, and the setup of an exercise.
 ghost use Rattle.std.specs.Prelude.{◌≡◌, ◌<◌, ◌≤◌, [], length, None, Some, IfOk, All};
+ghost use Rattle.bd_building.specs.AioDevices.{AreBasesAlone};
 ghost use Rattle.bd_building.specs.Served.{first_unserved};
 ghost use Rattle.bd_config.specs.Commands.{IsOpenable};
 ghost use Rattle.bd_config.specs.Config.{IsConfig};
@@ -49,6 +50,7 @@ fn devices<H: Host>(
     requires { 0 < threads }
     ensures devices { IfOk result (λ o. Configures threads built_in [] o.devices) }
     ensures threads { IfOk result (λ o. length o.disks.threads ≡ threads) }
+    ensures alone { IfOk result (λ o. AreBasesAlone o.devices.setup) }
 {
     let commands = commands(alloc)?;
     match open_devices(alloc, host, threads, commands) {
@@ -85,6 +87,7 @@ pub(crate) fn exercise_setup<H: Host>(
     ensures setup { IfOk result (λ r. IsExercise numbers threads r.setup) }
     ensures threads { IfOk result (λ r. r.setup.threads ≡ threads) }
     ensures disks { IfOk result (λ r. length r.disks.threads ≡ threads) }
+    ensures alone { IfOk result (λ r. AreBasesAlone r.setup) }
 {
     let scripts = scripts(alloc, numbers, threads)?;
     let Opened { devices, disks } = devices(alloc, host, threads)?;

@@ -1,6 +1,7 @@
 //! The top call.
 ghost use Rattle.std.specs.Prelude.{◌≡◌, ◌<◌, ◌≤◌, ◌⊎◌, ℕ, List, length, map, string_bytes, IfOk, IfErr, MatchResult, Option, None, Some, Err};
 ghost use Rattle.bd_building.specs.AioDevices.{aio_devices, AreBasesAlone};
+ghost use Rattle.bd_node.specs.Disks.{told_of};
 ghost use Rattle.bd_opened.specs.Covering.{AreClosed};
 ghost use Rattle.bd_outside.specs.File.{Told};
 ghost use Rattle.bd_outside.specs.declared.opening.Opening.{Opening};
@@ -56,10 +57,12 @@ where
     H::Disk: Send,
     requires some { 0 < ready.setup.threads }
     requires disks { length ready.disks.threads ≡ ready.setup.threads }
-    ensures played { IfOk result (λ done. IsPlayed ready.setup full done.trace done.text.items) }
+    ensures played { AreBasesAlone ready.setup → IfOk result (λ done. IsPlayed ready.setup (told_of H.Disk.state ready.setup ready.disks.threads) full
+        done.trace done.text.items) }
     ensures disks { (told : List ℕ → Told) (base : Option (List Opening)) → AreBasesAlone ready.setup
         → AreSetOut H.Disk.state told (length ready.setup.devices) (aio_devices ready.setup) ready.disks base (H.state host.old).openings
-        → IfOk result (λ done. TellDisks told ready.setup done.trace base (H.state host.new).openings) }
+        → IfOk result (λ done. TellDisks told (told_of H.Disk.state ready.setup ready.disks.threads) ready.setup done.trace base
+        (H.state host.new).openings) }
 {
     let Ready { setup, disks } = ready;
     let (names, shelf) = match disks.shelve(rt.alloc()) {
@@ -168,8 +171,9 @@ where
 ///
 /// The file of each aio device is opened as a disk just before its command is done, and all disks are
 /// closed before this returns, whatever it returns. After a run, a host that tells its openings has one
-/// row for each: the disk was opened over the device's file, did just the pieces of which the history says
-/// that they were applied, with those ends, and was closed with what it told then.
+/// row for each: the disk was opened over the device's file, did just the pieces that the history says the
+/// device served, one after the other and to those ends, and was closed with what it told then: the content
+/// that the run leaves the device, and a count of the flushes among them.
 ///
 /// Faults are looked for in this order: the words; the configuration's file, its text, its shape, its
 /// commands as they are read and as they are served; then command after command, the file that it opens

@@ -1,3 +1,4 @@
+use Rattle.bd_node.specs.Disks.{told_of}
 use Rattle.bd_top.proofs.top.run_files.Goals as goal
 
 pub returns-in-Ok-clause-done : goal.returns-in-Ok-clause-done
@@ -6,6 +7,7 @@ returns-in-Ok-clause-done g c =
     record {
       setup = c.in_ok-ready.ready.setup;
       meant = c.in_ok-ready.ensures.setup;
-      played = c.in-Ok.ensures.played;
+      contents = told_of g.H.Disk.Disk.state c.in_ok-ready.ready.setup c.in_ok-ready.ready.disks.threads;
+      played = c.in-Ok.ensures.played c.in_ok-ready.ensures.alone;
       disks = c.in-Ok.ensures.disks old.told old.openings c.in_ok-ready.ensures.alone c.in_ok-ready.ensures.opened;
     }
