@@ -2,6 +2,7 @@
 //! and digests are by python.
 ghost use Rattle.std.specs.Prelude.{◌≡◌, ◌<◌, ◌≤◌, length, IfOk, OnOk};
 ghost use Rattle.bd_node.specs.Whole.{IsNode};
+ghost use Rattle.bd_outside.specs.Memory.{memory_state};
 
 use crate::tests::setups::{PLAIN, WRITE, WRITE_9, Word, count_of, long_setup, setup};
 use bd_base::{Act, Entry, Op, OutOfMemory, Setup, Shown, Status};
@@ -115,7 +116,7 @@ fn node_of<'a, R: Wait>(
     setup: &'a Setup,
 ) -> Result<Node<'a, MemDisk>, OutOfMemory>
     requires { 0 < setup.now.threads }
-    ensures { IfOk result IsNode }
+    ensures { IfOk result (IsNode memory_state) }
 {
     let shelf = no_disks(alloc, setup.threads)?;
     match Node::build(rt, alloc, setup, shelf, 0) {
@@ -179,8 +180,8 @@ fn are_both_done(entries: &[Entry]) -> bool {
 // ---- turns in an order
 
 fn turns<R: Wait>(rt: &R, node: &mut Node<MemDisk>, order: &[u32]) -> Result<(), SeatNo>
-    requires { IsNode node.old }
-    ensures { OnOk result (IsNode node.new) }
+    requires { IsNode memory_state node.old }
+    ensures { OnOk result (IsNode memory_state node.new) }
 {
     for thread in order {
         node.turn_of(rt, *thread)?;
@@ -191,8 +192,8 @@ fn turns<R: Wait>(rt: &R, node: &mut Node<MemDisk>, order: &[u32]) -> Result<(),
 // Turns in this order, over and over, with a Shutdown once the scripts are blocked, until all is over, if the
 // order brings it so far.
 fn play_by<R: Wait>(rt: &R, node: &mut Node<MemDisk>, order: &[u32]) -> Result<(), SeatNo>
-    requires { IsNode node.old }
-    ensures { OnOk result (IsNode node.new) }
+    requires { IsNode memory_state node.old }
+    ensures { OnOk result (IsNode memory_state node.new) }
 {
     for _ in 0..ROUNDS {
         if node.state() == NodeState::Idle {
@@ -374,8 +375,8 @@ fn added(turned: Turned) -> usize {
 
 // So many turns of thread 1: how many entries they added in all.
 fn turns_alone<R: Wait>(rt: &R, node: &mut Node<MemDisk>, count: u32) -> Result<usize, SeatNo>
-    requires { IsNode node.old }
-    ensures { OnOk result (IsNode node.new) }
+    requires { IsNode memory_state node.old }
+    ensures { OnOk result (IsNode memory_state node.new) }
 {
     let mut entries: usize = 0;
     for _ in 0..count {
@@ -388,7 +389,7 @@ fn turns_alone<R: Wait>(rt: &R, node: &mut Node<MemDisk>, count: u32) -> Result<
 // Turns of thread 1 alone, and how many entries they added; then a last one, one of thread 0, and two of thread 1
 // again.
 fn flood<R: Wait>(rt: &R, node: &mut Node<MemDisk>) -> Result<(usize, [Turned; 4]), SeatNo>
-    requires { IsNode node.old }
+    requires { IsNode memory_state node.old }
 {
     let entries = turns_alone(rt, node, ROUNDS * 3)?;
     let stuck = node.turn_of(rt, 1)?;
@@ -429,7 +430,7 @@ fn what_is_to_be_put_waits_for_room(rt: HostRuntime) -> Result<(), Fail> {
 
 // Turns of thread 1 alone: how many entries they added, and the answer of a last one.
 fn crowd<R: Wait>(rt: &R, node: &mut Node<MemDisk>) -> Result<(usize, Turned), SeatNo>
-    requires { IsNode node.old }
+    requires { IsNode memory_state node.old }
 {
     let entries = turns_alone(rt, node, ROUNDS * 2)?;
     let last = node.turn_of(rt, 1)?;

@@ -1,5 +1,6 @@
 use Rattle.bd_node.specs.Whole.{IsNode}
+use Rattle.bd_outside.specs.Memory.{memory_state}
 use Rattle.bd_judge.proofs.tests.nodes.turns_alone.Given as goal
 
 abbrev pub invariant-loop : goal.invariant-loop
-invariant-loop g l = IsNode l.node
+invariant-loop g l = IsNode memory_state l.node
