@@ -90,7 +90,7 @@ rows_ordered (r ∷ rs) h = (all rs h.0, rows_ordered rs h.1)
 
 -- ---- the rows on either side of the Shutdown
 
-abbrev shutdown_row : ℕ → Row
+abbrev pub shutdown_row : ℕ → Row
 shutdown_row stamp = record { entry = shutdown_at stamp; post = None; between = None }
 
 abbrev is_early : ℕ → Row → Bool
@@ -243,30 +243,30 @@ after_on : (setup : Setup) (s : State) (es fs : List Entry) → after_all setup 
 after_on setup s [] fs = refl
 after_on setup s (e ∷ es) fs = after_on setup (after setup s e) es fs
 
-entries_on : (xs ys : List Row) → entries (xs ++ ys) ≡ entries xs ++ entries ys
+pub entries_on : (xs ys : List Row) → entries (xs ++ ys) ≡ entries xs ++ entries ys
 entries_on [] ys = refl
 entries_on (x ∷ xs) ys = ap (λ (l : List Entry). x.entry ∷ l) (entries_on xs ys)
 
 -- ---- the law
 
 module _ (setup : Setup) (told : Told) (logs : ℕ → List Row) (journal merged : List Entry) (sh : AreShut setup told logs journal) (fits : Fits setup (registry_at_start setup) logs journal) (merge : IsMergeOf logs merged) where
-  m : AreRows logs merged
+  pub m : AreRows logs merged
   m = rows_of merged logs merge.parts
 
-  ordered : IsOrdered (entries m.rows)
+  pub ordered : IsOrdered (entries m.rows)
   ordered = subst IsOrdered (sym m.entries_are) merge.ordered
 
-  sides : AreSplit sh.stamp sh.firsts sh.seconds m.rows
+  pub sides : AreSplit sh.stamp sh.firsts sh.seconds m.rows
   sides = split sh.stamp sh.firsts sh.seconds m.rows ordered (λ t. m.parts t ∙ sh.logs_are t) sh.early sh.late
 
-  early : ArePlayed setup false (start setup told) (registry_at_start setup) sides.before_it (shutdown_row sh.stamp ∷ sides.after_it) sh.marks
+  pub early : ArePlayed setup false (start setup told) (registry_at_start setup) sides.before_it (shutdown_row sh.stamp ∷ sides.after_it) sh.marks
   early = are_played setup false (start setup told) (view_at_start setup told) (shared_at_start setup) sides.before_it (shutdown_row sh.stamp ∷ sides.after_it) sh.marks
       (playable_by setup false (start setup told) (view_at_start setup told) (shared_at_start setup) m.rows sides.before_it (shutdown_row sh.stamp ∷ sides.after_it) sh.marks
       (to_play_at_start setup told m.rows (fit setup (registry_at_start setup) logs journal m.rows fits sh.none_else ordered m.parts))
       sides.is (start_is_tied setup told) refl
       (λ t lt. subst (λ (rs : List Row). Accepts setup false t (view_at_start setup told t) rs (sh.marks t)) (sym (sides.firsts_are t)) (sh.to_marks t lt)))
 
-  abbrev middle : State
+  abbrev pub middle : State
   middle = after_all setup (start setup told) (entries sides.before_it)
 
   lower : early.shared.stamp < sh.stamp
@@ -297,13 +297,13 @@ module _ (setup : Setup) (told : Told) (logs : ℕ → List Row) (journal merged
   quiet : AreQuiet setup early.shared.registry sh.marks
   quiet = subst (λ (r : Registry). AreQuiet setup r sh.marks) registry_is sh.quiet_at_marks
 
-  shut : IsShut setup middle early.views early.shared sh.stamp
+  pub shut : IsShut setup middle early.views early.shared sh.stamp
   shut = shutdown_is_allowed setup middle early.views early.shared sh.stamp early.playable.tied sh.some
       (at_rest setup middle early.views early.shared sh.marks early.playable.tied early.playable.outer early.playable.accepts sh.quiet_at_marks.all_taken sh.some quiet)
       (λ t lt. ap (λ (v : View). is_script_blocked setup t v) (early.playable.accepts t lt) ∙ sh.blocked t lt)
       early.playable.shut_is lower
 
-  abbrev shared_shut : Shared
+  abbrev pub shared_shut : Shared
   shared_shut = record early.shared { stamp = sh.stamp; shut = true }
 
   later_than_shutdown : (rs : List Row) → AllByRecursion (IsBefore (shutdown_at sh.stamp)) (entries rs) → IsNextLater (after setup middle (shutdown_at sh.stamp)) rs
@@ -316,7 +316,7 @@ module _ (setup : Setup) (told : Told) (logs : ℕ → List Row) (journal merged
   finds_later [] h u = tt
   finds_later (r ∷ rs) h u = (finds_next setup early.shared.registry (shutdown_at sh.stamp) r (entries sides.after_it) h.0 u.0, finds_later rs h.1 u.1)
 
-  to_play : AreToPlay setup (after setup middle (shutdown_at sh.stamp)) shared_shut sides.after_it
+  pub to_play : AreToPlay setup (after setup middle (shutdown_at sh.stamp)) shared_shut sides.after_it
   to_play = record {
     later = later_than_shutdown sides.after_it early.playable.ordered.0;
     ordered = early.playable.ordered.1;
@@ -349,7 +349,7 @@ module _ (setup : Setup) (told : Told) (logs : ℕ → List Row) (journal merged
       home_lt : (n : ℕ) → home setup (dev_of n) < setup.threads
       home_lt n = mod_below (base_of setup (dev_of n)).0 setup.threads sh.some
 
-  entries_are : entries sides.before_it ++ (shutdown_at sh.stamp ∷ entries sides.after_it) ≡ merged
+  pub entries_are : entries sides.before_it ++ (shutdown_at sh.stamp ∷ entries sides.after_it) ≡ merged
   entries_are = sym (ap entries sides.is ∙ entries_on sides.before_it (shutdown_row sh.stamp ∷ sides.after_it)) ∙ m.entries_are
 
   pub complete : IsCompleteRun setup told merged

@@ -42,22 +42,22 @@ abbrev stamp_for : (ℕ → List ℕ) → ℕ → Act → ℕ
 stamp_for stamps n (acts.Took source number what) = first_or (stamps source)
 stamp_for stamps n _ = n
 
-abbrev stamps_left : (ℕ → List ℕ) → Act → ℕ → List ℕ
+abbrev pub stamps_left : (ℕ → List ℕ) → Act → ℕ → List ℕ
 stamps_left stamps (acts.Took source number what) = λ s. cond (source == s) (drop 1 (stamps s)) (stamps s)
 stamps_left stamps _ = stamps
 
-abbrev row_stamped : (ℕ → List ℕ) → Row → Row
+abbrev pub row_stamped : (ℕ → List ℕ) → Row → Row
 row_stamped stamps r = record { entry = r.entry; post = with_stamp (stamp_for stamps r.entry.stamp r.entry.act) r.post; between = r.between }
 
-abbrev restamped : (ℕ → List ℕ) → List Row → List Row
+abbrev pub restamped : (ℕ → List ℕ) → List Row → List Row
 restamped stamps [] = []
 restamped stamps (r ∷ rs) = row_stamped stamps r ∷ restamped (stamps_left stamps r.entry.act) rs
 
-abbrev all_left : (ℕ → List ℕ) → List Row → ℕ → List ℕ
+abbrev pub all_left : (ℕ → List ℕ) → List Row → ℕ → List ℕ
 all_left stamps [] = stamps
 all_left stamps (r ∷ rs) = all_left (stamps_left stamps r.entry.act) rs
 
-restamped_on : (stamps : ℕ → List ℕ) (as' bs : List Row) → restamped stamps (as' ++ bs) ≡ restamped stamps as' ++ restamped (all_left stamps as') bs
+pub restamped_on : (stamps : ℕ → List ℕ) (as' bs : List Row) → restamped stamps (as' ++ bs) ≡ restamped stamps as' ++ restamped (all_left stamps as') bs
 restamped_on stamps [] bs = refl
 restamped_on stamps (a ∷ as') bs = ap (λ (rs : List Row). row_stamped stamps a ∷ rs) (restamped_on (stamps_left stamps a.entry.act) as' bs)
 
@@ -70,7 +70,7 @@ messages_same stamp None = refl
 messages_same stamp (Some p) = refl
 
 -- what is said of entries and of what they find
-all_same : (P : Entry → Option Between → Type 0) (stamps : ℕ → List ℕ) (rows : List Row) → AllByRecursion (λ r. P r.entry r.between) rows → AllByRecursion (λ r. P r.entry r.between) (restamped stamps rows)
+pub all_same : (P : Entry → Option Between → Type 0) (stamps : ℕ → List ℕ) (rows : List Row) → AllByRecursion (λ r. P r.entry r.between) rows → AllByRecursion (λ r. P r.entry r.between) (restamped stamps rows)
 all_same P stamps [] h = tt
 all_same P stamps (r ∷ rs) h = (h.0, all_same P (stamps_left stamps r.entry.act) rs h.1)
 
@@ -83,12 +83,12 @@ refusal_with setup shut t v r ms = first_failing ((UNBUILT, is_built r.entry.act
 abbrev Carried : Setup → Bool → ℕ → View → Row → List Message → Type 0
 Carried setup shut t v r ms = CarriesBy r.entry.act t (change setup t v r.entry.act (came_with shut t r.entry.act ms r.between)) ms
 
-view_same : (setup : Setup) (shut : Bool) (t : ℕ) (v : View) (stamps : ℕ → List ℕ) (r : Row) → view_after setup shut t v (row_stamped stamps r) ≡ view_after setup shut t v r
+pub view_same : (setup : Setup) (shut : Bool) (t : ℕ) (v : View) (stamps : ℕ → List ℕ) (r : Row) → view_after setup shut t v (row_stamped stamps r) ≡ view_after setup shut t v r
 unfolding view_after
 view_same setup shut t v stamps r =
     ap (λ (ms : List Message). view_by setup t v (change setup t v r.entry.act (came_with shut t r.entry.act ms r.between)) (asked r.entry.act)) (messages_same (stamp_for stamps r.entry.stamp r.entry.act) r.post)
 
-accepts_same : (setup : Setup) (shut : Bool) (t : ℕ) (v w : View) (stamps : ℕ → List ℕ) (rows : List Row) → Accepts setup shut t v rows w → Accepts setup shut t v (restamped stamps rows) w
+pub accepts_same : (setup : Setup) (shut : Bool) (t : ℕ) (v w : View) (stamps : ℕ → List ℕ) (rows : List Row) → Accepts setup shut t v rows w → Accepts setup shut t v (restamped stamps rows) w
 accepts_same setup shut t v w stamps [] h = h
 accepts_same setup shut t v w stamps (r ∷ rs) h =
     let same = sym (messages_same (stamp_for stamps r.entry.stamp r.entry.act) r.post) in (
@@ -218,7 +218,7 @@ goes_all threads (r ∷ rs) h none =
 
 -- ---- the law
 
-shut_on : (stamp : ℕ) (stamps : ℕ → List ℕ) (t : ℕ) (rows : List Row) → restamped stamps (shutdown_of stamp t ++ rows) ≡ shutdown_of stamp t ++ restamped stamps rows
+pub shut_on : (stamp : ℕ) (stamps : ℕ → List ℕ) (t : ℕ) (rows : List Row) → restamped stamps (shutdown_of stamp t ++ rows) ≡ shutdown_of stamp t ++ restamped stamps rows
 shut_on stamp stamps t rows = go (t == 0)
   where
     go : (b : Bool) → restamped stamps (cond b (record { entry = shutdown_at stamp; post = None; between = None } ∷ []) [] ++ rows) ≡ cond b (record { entry = shutdown_at stamp; post = None; between = None } ∷ []) [] ++ restamped stamps rows
@@ -226,7 +226,7 @@ shut_on stamp stamps t rows = go (t == 0)
     go false = refl
 
 module _ (setup : Setup) (told : Told) (logs : ℕ → List Row) (journal merged : List Entry) (sh : AreShut setup told logs journal) (fit : FitLoosely setup (registry_at_start setup) logs journal) (merge : IsMergeOf logs merged) where
-  fits : Fits setup (registry_at_start setup) (λ t. restamped (λ s. put_stamps t (logs s)) (logs t)) journal
+  pub fits : Fits setup (registry_at_start setup) (λ t. restamped (λ s. put_stamps t (logs s)) (logs t)) journal
   fits = record {
     messages = λ s t. (
         let p = fit.messages s t in
@@ -245,7 +245,7 @@ module _ (setup : Setup) (told : Told) (logs : ℕ → List Row) (journal merged
     finds = λ t. all_same (λ e b. IsBetweenIfAny (registry_by setup (registry_at_start setup) (before e journal)) b (asked e.act)) (λ s. put_stamps t (logs s)) (logs t) (fit.finds t);
   }
 
-  shut : AreShut setup told (λ t. restamped (λ s. put_stamps t (logs s)) (logs t)) journal
+  unfoldable pub shut : AreShut setup told (λ t. restamped (λ s. put_stamps t (logs s)) (logs t)) journal
   shut = record {
     stamp = sh.stamp;
     firsts = λ t. restamped (λ s. put_stamps t (logs s)) (sh.firsts t);
@@ -269,7 +269,7 @@ module _ (setup : Setup) (told : Told) (logs : ℕ → List Row) (journal merged
     destructed = sh.destructed;
   }
 
-  merge_same : IsMergeOf (λ t. restamped (λ s. put_stamps t (logs s)) (logs t)) merged
+  pub merge_same : IsMergeOf (λ t. restamped (λ s. put_stamps t (logs s)) (logs t)) merged
   merge_same = record { ordered = merge.ordered; parts = λ t. merge.parts t ∙ sym (entries_same (λ s. put_stamps t (logs s)) (logs t)) }
 
 pub loose_logs_are_complete_run : LooseLogsAreCompleteRun
