@@ -7,7 +7,7 @@ use Rattle.bd_base.specs.declared.id.DevId.{DevId}
 use Rattle.bd_base.specs.declared.id.ReqId.{ReqId}
 use Rattle.bd_base.specs.declared.setup.Setup.{Setup}
 use Rattle.bd_machine.specs.BlockMap.{base_of, home}
-use Rattle.bd_tables.specs.Channels.{Channel, changed, queued, sent, waits}
+use Rattle.bd_retries.specs.Channels.{Channel, changed, queued, sent, waits}
 
 -- a piece that is still to be put to a thread
 abbrev pub piece_to : ℕ → ReqId → ℕ → ℕ × Token

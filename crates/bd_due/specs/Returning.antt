@@ -7,7 +7,7 @@ use Rattle.bd_machine.specs.declared.state.Kept.{Kept}
 use Rattle.bd_machine.specs.declared.state.OpenPiece.{OpenPiece}
 use Rattle.bd_machine.specs.Kept.{as_piece, as_request}
 use Rattle.bd_machine.specs.Messages.{is_aborted}
-use Rattle.bd_tables.specs.Channels.{Channel, changed, changed_if_any, landed, refused}
+use Rattle.bd_retries.specs.Channels.{Channel, changed, changed_if_any, landed, refused}
 
 -- one piece fewer is in flight; one without an end waits to be sent again, unless its request is aborted
 abbrev pub back_by : ReqId → ℕ → Bool → Option OpenPiece → List Channel → List Channel

@@ -18,7 +18,7 @@ use Rattle.bd_machine.specs.Kept.{as_piece, as_request, request_here}
 use Rattle.bd_machine.specs.Same.{same_request}
 use Rattle.bd_machine.specs.Step.{first_failing}
 use Rattle.bd_machine.specs.View.{View}
-use Rattle.bd_tables.specs.Channels.{Channel, changed_if_any, dropped}
+use Rattle.bd_retries.specs.Channels.{Channel, changed_if_any, dropped}
 
 -- the rules let the thread abort the request for this cause
 abbrev pub may_stop : Setup → ℕ → View → ReqId → AbortCause → Bool

@@ -8,7 +8,7 @@ ghost use Rattle.bd_due.specs.Pieces.{channels_cut, outbox_cut, pieces_to};
 use bd_base::{DevId, OutOfMemory, ReqId, Rows, Setup, Token};
 use bd_blocks::{base_of, home, new_piece};
 use bd_machine::{Extent, Id, Kept, OpenRequest};
-use bd_tables::Retries;
+use bd_retries::Retries;
 use bd_tokens::Tokens;
 use std::collections::VecDeque;
 

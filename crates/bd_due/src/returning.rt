@@ -7,7 +7,7 @@ ghost use Rattle.bd_due.specs.Returning.{back_by, channels_back};
 
 use bd_base::{OutOfMemory, ReqId};
 use bd_machine::{Id, Kept};
-use bd_tables::Retries;
+use bd_retries::Retries;
 use bd_tokens::Tokens;
 
 // Whether it is a request that is aborted.

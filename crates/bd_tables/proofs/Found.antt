@@ -64,7 +64,7 @@ none_read f p rows none = rw (none_found p rows none)
 
 -- the row that keeps a request comes to another place
 pub first_moved : (id : ReqId) (place : Place) (rows left : List Row) (i : ℕ) (row : Row) → IsFirst (keeps id) rows i → left ≡ remove rows i → row ≡ at rows i →
-    left ++ record { request = row.request; place = place } ∷ [] ≡ moved id place rows
+    left ++ record { request = row.request; place = place; under = row.under } ∷ [] ≡ moved id place rows
 first_moved id place rows left i row first gone here =
     rw (first_found (keeps id) rows i first, first_goes (keeps id) rows i first, gone, here)
 

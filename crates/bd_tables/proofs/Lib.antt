@@ -1,5 +1,5 @@
 pub mod Order
 pub mod Found
-mod Left
-mod Moving
-mod Answered
+pub mod Lines
+pub mod Index
+pub mod Devices

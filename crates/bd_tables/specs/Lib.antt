@@ -1,4 +1,5 @@
-pub mod Channels
 pub mod Rows
 pub mod Shelf
 pub mod Firsts
+pub mod Under
+pub mod Lines

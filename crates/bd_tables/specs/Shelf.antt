@@ -3,12 +3,14 @@ use Rattle.std.specs.Prelude.{◌≡◌, ◌≢◌, ℕ, ◌-◌, ◌^◌, List,
 use Rattle.bd_base.specs.declared.request.Op.TheVariants.{Flush}
 use Rattle.bd_tables.specs.declared.place.Place.TheVariants.{Fresh}
 use Rattle.bd_tables.specs.declared.row.Row.{Row}
+use Rattle.bd_tables.specs.Under.{nothing_under}
 
 -- no row
 abbrev pub absent : Row
 absent = record {
   request = record { id = record { thread = 0; seq = 0 }; dev = record { 0 = 0 }; handle = record { 0 = 0 }; op = Flush; lba = 0; count = 0 };
   place = Fresh;
+  under = nothing_under;
 }
 
 -- what lies at a key

@@ -1,17 +1,15 @@
-//! Where the requests of a thread wait: the table of held requests by place, and the retry queues of its channels.
+//! Where the requests of a thread wait: the table of held requests by place, with who waits over each device.
 #![tactic(auto)]
 
+mod board;
+mod line;
 mod place;
-mod retries;
-mod retry;
 mod row;
 mod shelf;
 mod tables;
-mod waiting;
+mod under;
 
 pub use place::Place;
-pub use retries::Retries;
-pub use retry::Retry;
 pub use row::Row;
 pub use tables::Tables;
-pub use waiting::Waiting;
+pub use under::Under;

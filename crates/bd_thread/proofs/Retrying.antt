@@ -5,8 +5,8 @@ use Rattle.bd_base.specs.declared.id.ReqId.{ReqId}
 use Rattle.bd_machine.specs.declared.state.OpenPiece.{OpenPiece}
 use Rattle.bd_machine.specs.declared.state.Progress.{Progress}
 use Rattle.bd_machine.specs.declared.state.Progress.TheVariants.{Held, Out, Served}
-use Rattle.bd_tables.specs.declared.waiting.Waiting.{Waiting}
-use Rattle.bd_tables.specs.Channels.{Channel, next_at, next_in}
+use Rattle.bd_retries.specs.declared.waiting.Waiting.{Waiting}
+use Rattle.bd_retries.specs.Channels.{Channel, next_at, next_in}
 use Rattle.bd_thread.specs.declared.links.Links.{Links}
 use Rattle.bd_thread.specs.declared.thread.Thread.{Thread}
 use Rattle.bd_thread.specs.Acted.{Acted}

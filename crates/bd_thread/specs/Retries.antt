@@ -9,8 +9,8 @@ use Rattle.bd_machine.specs.BlockMap.{home}
 use Rattle.bd_machine.specs.Messages.{count_at}
 use Rattle.bd_due.specs.Returning.{channels_back}
 use Rattle.bd_links.specs.Entries.{longer}
-use Rattle.bd_tables.specs.declared.waiting.Waiting.{Waiting}
-use Rattle.bd_tables.specs.Channels.{changed_if_any, next_at, retried}
+use Rattle.bd_retries.specs.declared.waiting.Waiting.{Waiting}
+use Rattle.bd_retries.specs.Channels.{changed_if_any, next_at, retried}
 use Rattle.bd_tokens.specs.Tokens.{here_in}
 use Rattle.bd_thread.specs.declared.links.Links.{Links}
 use Rattle.bd_thread.specs.declared.thread.Thread.{Thread}

@@ -11,7 +11,7 @@ use bd_blocks::part_at_start;
 use bd_links::add;
 use bd_machine::Part;
 use bd_msg::Purse;
-use bd_tables::Retries;
+use bd_retries::Retries;
 use bd_tokens::Tokens;
 use std::alloc::Global;
 use std::collections::VecDeque;

@@ -23,7 +23,8 @@ mod words;
 use bd_base::OutOfMemory;
 use bd_devices::Devices;
 use bd_poller::Pollers;
-use bd_tables::{Retries, Tables};
+use bd_retries::Retries;
+use bd_tables::Tables;
 use std::alloc::Global;
 
 fn answer(alloc: Global, subject: &str, case: &str) -> Result<String, OutOfMemory> {

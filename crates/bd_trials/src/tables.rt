@@ -1,9 +1,10 @@
 //! Where requests wait: the table of a thread's requests by place, and the retry queues of its channels.
 use crate::steps::{Subject, said};
 use crate::words::{number, request, small};
-use bd_base::{DevId, HandleId, Op, OutOfMemory};
+use bd_base::{DevId, HandleId, Op, OutOfMemory, ThreadId};
 use bd_msg::Request;
-use bd_tables::{Place, Retries, Tables};
+use bd_retries::Retries;
+use bd_tables::{Place, Tables};
 use std::alloc::Global;
 
 // A read on handle 7.
@@ -23,16 +24,32 @@ fn place(word: &str) -> Place {
     match word {
         "fresh" => Place::Fresh,
         "away" => Place::Away,
+        "out" => Place::Out,
         _ => Place::Quality(DevId(small(word))),
     }
 }
 
-fn park(alloc: Global, tables: &mut Tables, seq: &str, word: &str) -> Result<String, OutOfMemory> {
+// The devices of these numbers.
+fn devices(alloc: Global, words: &[&str]) -> Result<Vec<DevId>, OutOfMemory> {
+    let mut devices = Vec::new(alloc);
+    for word in words {
+        devices.push(DevId(small(word)))?;
+    }
+    Ok(devices)
+}
+
+fn park(
+    alloc: Global,
+    tables: &mut Tables,
+    seq: &str,
+    word: &str,
+    under: &[DevId],
+) -> Result<String, OutOfMemory> {
     let request = read(seq);
     if tables.keeps(request.id) || !tables.has_room() {
         return said(alloc, "not parked");
     }
-    tables.park(request, place(word));
+    tables.park(request, place(word), under);
     said(alloc, "done")
 }
 
@@ -50,11 +67,14 @@ fn rows(alloc: Global, tables: &Tables) -> Result<String, OutOfMemory> {
 impl Subject for Tables {
     fn step(&mut self, alloc: Global, words: &[&str]) -> Result<String, OutOfMemory> {
         match words {
-            ["reserve", count] => {
-                self.reserve(small(count))?;
+            ["reserve", count, devices] => {
+                self.reserve(small(count), small(devices))?;
                 said(alloc, "done")
             }
-            ["park", seq, word] => park(alloc, self, seq, word),
+            ["park", seq, word, under @ ..] => {
+                let under = devices(alloc, under)?;
+                park(alloc, self, seq, word, under.as_slice())
+            }
             ["move", seq, word] => {
                 let moved = self.move_to(request(seq), place(word));
                 Ok(format!(in alloc; "{moved}")?)
@@ -62,6 +82,14 @@ impl Subject for Tables {
             ["first", word] => {
                 let given = self.first_in(place(word));
                 Ok(format!(in alloc; "{given:?}")?)
+            }
+            ["first", "under", dev] => {
+                let given = self.first_under(DevId(small(dev)));
+                Ok(format!(in alloc; "{given:?}")?)
+            }
+            ["count", dev, thread] => {
+                let count = self.count_under(DevId(small(dev)), ThreadId(small(thread)));
+                Ok(format!(in alloc; "{count}")?)
             }
             ["away", seq] => {
                 let given = self.away(request(seq));

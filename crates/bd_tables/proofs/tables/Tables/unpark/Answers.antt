@@ -1,8 +1,9 @@
-use Rattle.std.proofs.Common.{ap, sym, ◌∙◌, remove}
+use Rattle.std.proofs.Common.{ap, sym, ◌∙◌, remove, ◌≡◌, true, subst}
 use Rattle.bd_tables.specs.declared.row.Row.{Row}
-use Rattle.bd_tables.specs.Firsts.{at}
-use Rattle.bd_tables.specs.Rows.{Rows, keeps}
+use Rattle.bd_tables.specs.Firsts.{at, NonePasses}
+use Rattle.bd_tables.specs.Rows.{Rows, keeps, is_waiting, row_id}
 use Rattle.bd_tables.proofs.Found.{none_read, first_read, none_goes, first_goes}
+use Rattle.bd_tables.proofs.Index.{kept_first}
 use Rattle.bd_tables.proofs.tables.Tables.unpark.Goals as goal
 
 pub returns-in_default-clause-request : goal.returns-in_default-clause-request
@@ -20,3 +21,8 @@ pub returns-clause-rows : goal.returns-clause-rows
 returns-clause-rows c =
     ap (λ (t : Rows). t.rows) c.take.ensures.rest ∙ ap (λ (t : Rows). remove t.rows c.in-Some.i) c.self.view_is
     ∙ sym (first_goes (keeps c.args.id) c.args.self.now.rows c.in-Some.i c.in-Some.ensures)
+
+pub take-requires-clause-first : goal.take-requires-clause-first
+take-requires-clause-first c =
+    subst (λ (t : Rows). is_waiting (at t.rows c.in-Some.i) ≡ true → NonePasses (keeps (row_id (at t.rows c.in-Some.i))) t.rows c.in-Some.i) (sym c.self.view_is)
+    (kept_first c.args.id c.args.self.now.rows c.in-Some.i c.in-Some.ensures)
