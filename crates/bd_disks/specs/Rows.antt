@@ -1,5 +1,5 @@
 -- The disks of a thread, each with its device, in order.
-use Rattle.std.specs.Prelude.{◌≡◌, ◌==◌, ◌≤◌, ℕ, Bool, true, false, cond, List, [], ◌∷◌, Option, None, Some}
+use Rattle.std.specs.Prelude.{◌≡◌, ◌==◌, ◌≤◌, ℕ, Bool, true, false, cond, List, [], ◌∷◌, map, Option, None, Some}
 use Rattle.bd_base.specs.declared.act.ApplyEnd.{ApplyEnd}
 use Rattle.bd_base.specs.declared.id.DevId.{DevId}
 use Rattle.bd_machine.specs.declared.state.OpenPiece.{OpenPiece}
@@ -14,6 +14,10 @@ is_row dev row = row.0.0 == dev.0
 abbrev pub disk_of : {D : Type 0} → DevId → List (DevId × D) → Option D
 disk_of dev [] = None
 disk_of dev (row ∷ rows) = cond (is_row dev row) (Some row.1) (disk_of dev rows)
+
+-- each device with the place of its disk among the openings of its host, in order: which disks there are, whatever they hold
+abbrev pub places : {D : Type 0} → (D → DiskState) → List (DevId × D) → List (DevId × Option ℕ)
+places state rows = map (λ row. (row.0, (state row.1).place)) rows
 
 -- there is such a disk, and the piece lies inside it
 abbrev pub IsInsideOne : Option DiskState → ℕ → OpenPiece → Type 0

@@ -2,7 +2,7 @@
 ghost use Rattle.std.specs.Prelude.{◌≡◌, ◌↔◌, ◌++◌, ◌∷◌, [], length, slice_get, IsTrue, IfOk, IfErr, OnOk, OnErr};
 ghost use Rattle.std.specs.List.{position};
 ghost use Rattle.std.specs.Option.{option_map};
-ghost use Rattle.bd_disks.specs.Rows.{ChangesDisk, Does, IsInsideOne, disk_of, is_row};
+ghost use Rattle.bd_disks.specs.Rows.{ChangesDisk, Does, IsInsideOne, disk_of, is_row, places};
 ghost use Rattle.bd_disks.specs.Serving.{IsInsideDisk};
 
 use crate::serving::{can_serve, serve};
@@ -102,6 +102,7 @@ fn serve_row<D: Disk>(
     requires inside { IsInsideDisk (D.state row.old.1) size piece.now }
     ensures does { IfOk result (λ s. Does size piece.now s.end s.read (D.state row.old.1) (D.state row.new.1)) }
     ensures same_device { row.new.0 ≡ row.old.0 }
+    ensures same_place { (D.state row.new.1).place ≡ (D.state row.old.1).place }
     ensures out_of_memory { OnErr result (row.new ≡ row.old) }
 {
     serve(alloc, &mut row.1, size, piece)
@@ -137,6 +138,7 @@ fn serve_in<D: Disk>(
     requires inside { IsInsideOne (option_map D.state (disk_of piece.now.base rows.old)) size piece.now }
     ensures does { IfOk result (λ s. ChangesDisk piece.now.base
         (λ old new. Does size piece.now s.end s.read (D.state old) (D.state new)) rows.old rows.new) }
+    ensures kept { places D.state rows.new ≡ places D.state rows.old }
     ensures out_of_memory { OnErr result (rows.new ≡ rows.old) }
 {
     let Some(i) = place(rows, piece.base) else {
@@ -162,12 +164,13 @@ impl<D: Disk> Disks<D> {
         can_serve_in(self.rows.as_slice(), size, piece)
     }
 
-    /// Does to the disk of the piece's device what the piece asks, as `serve` does it to one disk.
-    /// Out of memory leaves all disks as they were.
+    /// Does to the disk of the piece's device what the piece asks, as `serve` does it to one disk. The
+    /// same disks are there after it. Out of memory leaves all disks as they were.
     pub fn serve(&mut self, size: u32, piece: &OpenPiece) -> Result<Given, OutOfMemory>
         requires inside { IsInsideOne (option_map D.state (disk_of piece.now.base self.old)) size piece.now }
         ensures does { IfOk result (λ s. ChangesDisk piece.now.base
             (λ old new. Does size piece.now s.end s.read (D.state old) (D.state new)) self.old self.new) }
+        ensures kept { places D.state self.new ≡ places D.state self.old }
         ensures out_of_memory { OnErr result (self.new ≡ self.old) }
     {
         let alloc = *self.rows.allocator();

@@ -26,7 +26,7 @@ kept_then a b c p q = record { told = λ name. q.told name ∙ p.told name; faul
 
 -- ---- names
 
-name_same : (name : List ℕ) → same_name name name ≡ true
+pub name_same : (name : List ℕ) → same_name name name ≡ true
 name_same name = nat_list_eq_equiv.refl name
 
 -- ---- one closing

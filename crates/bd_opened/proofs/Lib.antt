@@ -1,3 +1,4 @@
 pub mod Lists
 pub mod EachClosed
 pub mod Opens
+pub mod AllThere

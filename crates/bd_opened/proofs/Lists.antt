@@ -1,9 +1,11 @@
 -- What stands in a list, and at its places.
-use Rattle.std.proofs.Common.{◌≡◌, ℕ, zero, suc, ◌+◌, ◌<◌, ◌≤◌, Bool, true, false, cond, List, [], ◌∷◌, ◌++◌, length, map, set, Option, Some, None, ◌⊎◌, inl, inr, refl, sym, ◌∙◌, ap, ap₂, subst, zero-add, arith}
+use Rattle.std.proofs.Common.{◌≡◌, ℕ, zero, suc, ◌+◌, ◌<◌, ◌≤◌, Bool, true, false, cond, List, [], ◌∷◌, ◌++◌, length, map, set, All, IsPermutation, Option, Some, None, ◌⊎◌, inl, inr, refl, sym, ◌∙◌, ap, ap₂, subst, zero-add, arith}
 use Rattle.std.specs.List.{position, slice_get}
 use Rattle.std.specs.Prelude.{slice_index_or}
 use Rattle.std.specs.Option.{option_map}
 use Rattle.std.proofs.lemmas.Bool.{eq-eqb}
+use Rattle.std.proofs.lemmas.List.Sorted.{All-permutation, IsPermutation-sym}
+use Rattle.std.proofs.lemmas.Option.{get_or_from_slice_get, slice_get-get_or}
 use Rattle.bd_base.specs.declared.id.DevId.{DevId}
 use Rattle.bd_disks.specs.Rows.{disk_of, is_row}
 use Rattle.bd_disks.proofs.Changing.{disk_at, no_disk}
@@ -90,6 +92,18 @@ pub in_at : {X : Type 0} (x : X) (xs : List X) (i : ℕ) → slice_get xs i ≡ 
 in_at x [] i e = none_some e
 in_at x (y ∷ xs) zero e = inl (some_same e)
 in_at x (y ∷ xs) (suc i) e = inr (in_at x xs i e)
+
+pub at_in : {X : Type 0} (x : X) (xs : List X) → IsIn x xs → (i : ℕ) × (slice_get xs i ≡ Some x)
+at_in x [] h = absurd h
+at_in x (y ∷ xs) (inl e) = (0, ap Some e)
+at_in x (y ∷ xs) (inr h) = let r = at_in x xs h in (suc r.0, r.1)
+
+-- what is in a list is in it in another order
+pub in_permutation : {X : Type 0} (x : X) (xs ys : List X) → IsPermutation xs ys → IsIn x xs → IsIn x ys
+in_permutation {X = X} x xs ys same h =
+    let at = at_in x xs h in
+    let in_order : All (λ (z : X). IsIn z ys) xs = All-permutation (λ (z : X). IsIn z ys) ys xs (IsPermutation-sym xs ys same) (λ i d lt. in_at (slice_index_or ys i d) ys i (slice_get-get_or ys i d lt)) in
+    subst (λ (z : X). IsIn z ys) (get_or_from_slice_get xs at.0 x x at.1) (in_order at.0 x (is_below xs at.0 x at.1))
 
 pub in_first : {X : Type 0} (x : X) (xs ys : List X) → IsIn x xs → IsIn x (xs ++ ys)
 in_first x [] ys h = absurd h

@@ -1,7 +1,7 @@
 -- Disks that are open, one more each time, and what becomes of them.
 use Rattle.std.proofs.Common.{◌≡◌, ℕ, zero, suc, ◌+◌, ◌-◌, ◌<◌, ◌≤◌, ◌%◌, Bool, false, cond, List, [], ◌∷◌, ◌++◌, length, map, Option, Some, None, ◌⊎◌, inl, inr, refl, sym, ◌∙◌, ap, subst, append_assoc, append-nil, arith}
 use Rattle.std.specs.List.{slice_get}
-use Rattle.std.specs.Prelude.{is_some, replicate, slice_index_or, unwrap_or}
+use Rattle.std.specs.Prelude.{replicate, slice_index_or, unwrap_or}
 use Rattle.std.proofs.lemmas.Bool.{cases_eq}
 use Rattle.std.proofs.lemmas.Nat.{mod_below}
 use Rattle.std.proofs.lemmas.List.{length-append, length-map, length-set}
@@ -13,7 +13,7 @@ use Rattle.bd_outside.specs.Disk.{DiskState, closing_of}
 use Rattle.bd_outside.specs.Opening.{open_row}
 use Rattle.bd_outside.specs.declared.opening.Opening.{Opening}
 use Rattle.bd_opened.specs.Closing.{closing_all, name_in}
-use Rattle.bd_opened.specs.Covering.{begun_row, AreApart, AreDone, AreOpen, Begun, HasAdded, HaveGoneOn, IsAtHome, IsBegun, IsClosed, IsDone, IsIn, IsOneOf}
+use Rattle.bd_opened.specs.Covering.{begun_row, AreApart, AreDone, AreOpen, Begun, HaveGoneOn, IsAtHome, IsBegun, IsDone, IsIn, IsOneOf}
 use Rattle.bd_opened.specs.Held.{at_home, none_held, with_disk, Held}
 use Rattle.bd_opened.proofs.EachClosed.{all_closed, Covers, IsRight, IsToClose, KeepsFirst}
 use Rattle.bd_opened.proofs.Lists.{apart_more, at_before, at_first, at_last, at_second, begins, dev_self, flat, found, has_at, in_either, in_first, in_flat, in_map, in_second, is_below, map_at, none_some, of_flat, of_map, of_more, of_none, other_dev, set_else, set_here, some_same}
@@ -52,7 +52,7 @@ raised state n m held begun old new le o = record {
 }
 
 -- how many rows there are
-counted : (old new : List Opening) (begun : List Begun) → new ≡ old ++ map begun_row begun → length new ≡ length old + length begun
+pub counted : (old new : List Opening) (begun : List Begun) → new ≡ old ++ map begun_row begun → length new ≡ length old + length begun
 counted old new begun is = ap (λ (rs : List Opening). length rs) is ∙ length-append old (map begun_row begun) ∙ ap (λ (n : ℕ). length old + n) (length-map begun begun_row)
 
 -- ---- one more
@@ -212,6 +212,13 @@ module _ {D : Type 0} (state : D → DiskState) (n : ℕ) (held : Held D) (begun
     all = more_all;
   }
 
+-- each row since the old ones is that of a disk that was opened
+pub at_end : (begun : List Begun) (old new : List Opening) → new ≡ old ++ map begun_row begun → (k : ℕ) (row : Opening) → slice_get new (length old + k) ≡ Some row
+    → (b : Begun) × (slice_get begun k ≡ Some b) × (begun_row b ≡ row)
+at_end begun old new is k row at =
+    map_at begun_row begun k row
+    (sym (ap (λ (rs : List Opening). slice_get rs (length old + k)) is ∙ at_second old (map begun_row begun) k (length old + k) refl) ∙ at)
+
 -- ---- closed, after they went on
 
 module _ {D : Type 0} (state : D → DiskState) (Did : DevId → DiskState → DiskState → Type 0) (n : ℕ) (held : Held D) (begun : List Begun) (old new : List Opening) (after : List (List (DevId × D)))
@@ -219,11 +226,6 @@ module _ {D : Type 0} (state : D → DiskState) (Did : DevId → DiskState → D
   -- the row at this place, of the disk that was opened there, is done
   abbrev Good : ℕ → Opening → Type 0
   Good p row = (k : ℕ) → p ≡ length old + k → (b : Begun) → slice_get begun k ≡ Some b → IsDone Did b row
-
-  at_end : (k : ℕ) (row : Opening) → slice_get new (length old + k) ≡ Some row → (b : Begun) × (slice_get begun k ≡ Some b) × (begun_row b ≡ row)
-  at_end k row at =
-      map_at begun_row begun k row
-      (sym (ap (λ (rs : List Opening). slice_get rs (length old + k)) o.rows ∙ at_second old (map begun_row begun) k (length old + k) refl) ∙ at)
 
   -- a disk that went on, of the device of one that was opened
   record Kept (b : Begun) : Type 0 where
@@ -272,7 +274,7 @@ module _ {D : Type 0} (state : D → DiskState) (Did : DevId → DiskState → D
       is-p = omega (arith, low)
 
       there : (b : Begun) × (slice_get begun k ≡ Some b) × (begun_row b ≡ row)
-      there = at_end k row (subst (λ (m : ℕ). slice_get new m ≡ Some row) is-p at)
+      there = at_end begun old new o.rows k row (subst (λ (m : ℕ). slice_get new m ≡ Some row) is-p at)
 
       b : Begun
       b = there.0
@@ -321,7 +323,7 @@ module _ {D : Type 0} (state : D → DiskState) (Did : DevId → DiskState → D
 
       row-is : begun_row is.begins ≡ row
       row-is =
-          let e = at_end is.number row (subst (λ (m : ℕ). slice_get new m ≡ Some row) is-p at) in
+          let e = at_end begun old new o.rows is.number row (subst (λ (m : ℕ). slice_get new m ≡ Some row) is-p at) in
           ap begun_row (some_same (sym is.there ∙ e.1)) ∙ e.2
 
       good : row.closing ≡ None → Good p (record row { closing = Some (closing_of (state r.1)) })
@@ -356,30 +358,3 @@ module _ {D : Type 0} (state : D → DiskState) (Did : DevId → DiskState → D
           go : Good (length old + k) row ⊎ IsToClose state held.names (length old) Good (length old + k) row [] → IsDone Did b row
           go (inl good) = good k refl b at-b
           go (inr left) = absurd left.2
-
--- ---- closed as they were opened
-
-module _ {D : Type 0} (state : D → DiskState) (n : ℕ) (held : Held D) (begun : List Begun) (old new : List Opening) (o : AreOpen state n held begun old new) where
-  abbrev IsSame : DevId → DiskState → DiskState → Type 0
-  IsSame dev a b = b ≡ a
-
-  gone_nowhere : HaveGoneOn state IsSame begun held.threads held.threads
-  gone_nowhere = record {
-    len = refl;
-    devices = λ t a b at at'. ap (λ (rows : List (DevId × D)). map (λ (r : DevId × D). r.0) rows) (some_same (sym at' ∙ at));
-    did = λ k is a b x y at-k at at' here there. ap state (some_same (sym there ∙ ap (disk_of is.dev) (some_same (sym at' ∙ at)) ∙ here));
-    place = λ dev a b same. ap (λ (d : DiskState). d.place) same;
-  }
-
-  -- **each row that was added is closed**
-  pub closed_again : (final : List Opening) × (closing_all state held.names held.threads (Some new) ≡ Some final) × HasAdded IsClosed old final
-  closed_again = (end.0, end.1, record { added = end.2.added; are = end.2.are; each = each })
-    where
-      end : (final : List Opening) × (closing_all state held.names held.threads (Some new) ≡ Some final) × AreDone IsSame begun old final
-      end = closed_so state IsSame n held begun old new held.threads o gone_nowhere
-
-      each : (k : ℕ) (row : Opening) → slice_get end.2.added k ≡ Some row → IsClosed k row
-      each k row at =
-          let b = has_at begun k (subst (λ (m : ℕ). k < m) end.2.many (is_below end.2.added k row at)) in
-          let is = end.2.each k b.0 row b.1 at in
-          ap (λ (r : Opening). is_some r.closing) is.is

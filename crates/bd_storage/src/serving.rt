@@ -1,5 +1,6 @@
 //! Disks serve the pieces that wait for them.
-ghost use Rattle.std.specs.Prelude.{◌<◌, vec_len, IfOk, OnOk};
+ghost use Rattle.std.specs.Prelude.{◌≡◌, ◌<◌, vec_len, IfOk, OnOk};
+ghost use Rattle.bd_disks.specs.Rows.{places};
 ghost use Rattle.bd_storage.specs.Served.{WentWithDisks};
 ghost use Rattle.bd_storage.specs.Serving.{moment, NoService, NoServiceOn, Serves, ServesIf, Still};
 ghost use Rattle.bd_thread.specs.Requests.{KeepsTickets};
@@ -16,7 +17,7 @@ use bd_thread::{Links, Thread};
 const BATCH: u32 = 8;
 
 // The disk of a device serves the piece that is next there: true. False, and nothing changes, where none is,
-// or it doesn't lie inside the disk.
+// or it doesn't lie inside the disk. The same disks are there after it, also out of memory.
 fn serve_one<D: Disk>(
     thread: &mut Thread<'_>,
     links: &mut Links,
@@ -30,6 +31,7 @@ fn serve_one<D: Disk>(
     ensures alone { OnOk result (AsksNothing links.old links.new) }
     ensures same { OnOk result (Still links.old links.new disks.old disks.new) }
     ensures serves { IfOk result (ServesIf D.state (moment disks.old thread.old links.old) (moment disks.new thread.new links.new)) }
+    ensures kept { places D.state disks.new ≡ places D.state disks.old }
 {
     let Some(piece) = thread.next_on_disk(dev) else {
         return Ok(false);
@@ -56,6 +58,7 @@ fn serve_some<D: Disk>(
     ensures alone { OnOk result (AsksNothing links.old links.new) }
     ensures same { OnOk result (Still links.old links.new disks.old disks.new) }
     ensures serves { OnOk result (Serves D.state (moment disks.old thread.old links.old) (moment disks.new thread.new links.new)) }
+    ensures kept { places D.state disks.new ≡ places D.state disks.old }
 {
     for _round in 0..BATCH {
         if !serve_one(thread, links, disks, dev)? {
@@ -77,6 +80,7 @@ pub(crate) fn serve_all<D: Disk>(
     ensures quiet { OnOk result (Idles (λ t _links. NoService D.state disks.old t) thread.old links.old thread.new links.new) }
     ensures alone { OnOk result (AsksNothing links.old links.new) }
     ensures serves { OnOk result (Serves D.state (moment disks.old thread.old links.old) (moment disks.new thread.new links.new)) }
+    ensures kept { places D.state disks.new ≡ places D.state disks.old }
 {
     for place in 0..disks.len() {
         let Some(dev) = disks.device_at(place) else {

@@ -1,5 +1,6 @@
 //! Turns of a thread, in which its disks serve first.
 ghost use Rattle.std.specs.Prelude.{◌≡◌, ◌<◌, ◌≤◌, vec_len, IfOk, OnOk};
+ghost use Rattle.bd_disks.specs.Rows.{places};
 ghost use Rattle.bd_registry.specs.State.{rows_of};
 ghost use Rattle.bd_storage.specs.Served.{WentAloneWithDisks, WentWithDisks};
 ghost use Rattle.bd_storage.specs.Serving.{moment, RestsOnDisks, TurnsWith};
@@ -28,7 +29,7 @@ fn tell(before: usize, after: usize) -> Turned
 }
 
 /// A turn (`Thread::turn`) in which first each disk serves pieces of its device, at most 8. `Quiet` only where
-/// nothing could be done, by a disk either.
+/// nothing could be done, by a disk either. The same disks are there after it, also out of memory.
 pub fn turn_with_disks<D: Disk>(
     thread: &mut Thread<'_>,
     links: &mut Links,
@@ -42,6 +43,7 @@ pub fn turn_with_disks<D: Disk>(
     ensures quiet { IfOk result (Quiets thread.old links.old thread.new links.new) }
     ensures disks { IfOk result (RestsOnDisks D.state disks.old thread.old) }
     ensures serves { OnOk result (TurnsWith D.state (moment disks.old thread.old links.old) (moment disks.new thread.new links.new)) }
+    ensures kept { places D.state disks.new ≡ places D.state disks.old }
 {
     let before = links.entries.len();
     serve_all(thread, links, disks)?;
@@ -50,7 +52,8 @@ pub fn turn_with_disks<D: Disk>(
 }
 
 /// A turn that asks the registry for nothing (`Thread::work`), in which first each disk serves pieces of its
-/// device, at most 8. `Quiet` only where nothing could be done, by a disk either.
+/// device, at most 8. `Quiet` only where nothing could be done, by a disk either. The same disks are there after
+/// it, also out of memory.
 pub fn work_with_disks<D: Disk>(
     thread: &mut Thread<'_>,
     links: &mut Links,
@@ -64,6 +67,7 @@ pub fn work_with_disks<D: Disk>(
     ensures alone { OnOk result (WentAloneWithDisks D.state disks.old thread.old links.old disks.new thread.new links.new) }
     ensures disks { IfOk result (RestsOnDisks D.state disks.old thread.old) }
     ensures serves { OnOk result (TurnsWith D.state (moment disks.old thread.old links.old) (moment disks.new thread.new links.new)) }
+    ensures kept { places D.state disks.new ≡ places D.state disks.old }
 {
     let before = links.entries.len();
     serve_all(thread, links, disks)?;

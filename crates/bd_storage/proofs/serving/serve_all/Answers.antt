@@ -1,4 +1,4 @@
-use Rattle.std.proofs.Common.{arith, refl}
+use Rattle.std.proofs.Common.{◌∙◌, arith, refl}
 use Rattle.bd_storage.proofs.Turned.{with_none, with_then}
 use Rattle.bd_storage.proofs.Turns.{serves_all, serves_at, serves_more, serves_none, serves_there, still_then}
 use Rattle.bd_thread.proofs.Alone.{alone_none, alone_then}
@@ -13,6 +13,7 @@ loop-place-init g c = record {
   alone = alone_none _;
   same = λ few. refl;
   serves = serves_none _ _;
+  kept = refl;
 }
 
 pub loop-place-preserved : goal.loop-place-preserved
@@ -23,6 +24,7 @@ loop-place-preserved g c = record {
   alone = alone_then _ _ _ c.loop-place.invariant.alone c.in_ok-serve_some.ensures.alone;
   same = still_then g.D.Disk.state _ _ _ _ _ _ _ _ _ c.loop-place.invariant.over c.in_ok-serve_some.ensures.over c.loop-place.invariant.same c.in_ok-serve_some.ensures.same;
   serves = serves_more g.D.Disk.state _ _ _ c.loop-place.invariant.serves c.in_ok-serve_some.ensures.serves;
+  kept = c.serve_some.ensures.kept ∙ c.loop-place.invariant.kept;
 }
 
 pub returns-clause-quiet : goal.returns-clause-quiet

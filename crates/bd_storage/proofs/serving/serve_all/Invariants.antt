@@ -1,3 +1,5 @@
+use Rattle.std.proofs.Common.{◌≡◌}
+use Rattle.bd_disks.specs.Rows.{places}
 use Rattle.bd_storage.specs.Served.{WentWithDisks}
 use Rattle.bd_storage.specs.Serving.{moment, NoServiceBelow, Serves, Still}
 use Rattle.bd_thread.specs.Requests.{KeepsTickets}
@@ -13,4 +15,5 @@ invariant-loop-place g l = record {
   alone : AsksNothing l.initial.links l.links;
   same : Still l.initial.links l.links l.initial.disks l.disks;
   serves : Serves g.D.Disk.state (moment l.initial.disks l.initial.thread l.initial.links) (moment l.disks l.thread l.links);
+  kept : places g.D.Disk.state l.disks ≡ places g.D.Disk.state l.initial.disks;
 }

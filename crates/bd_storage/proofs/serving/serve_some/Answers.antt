@@ -1,4 +1,4 @@
-use Rattle.std.proofs.Common.{arith, refl}
+use Rattle.std.proofs.Common.{◌∙◌, arith, refl}
 use Rattle.bd_storage.proofs.Turned.{with_none, with_then}
 use Rattle.bd_storage.proofs.Turns.{serves_if, serves_more, serves_none, serves_then, still_then}
 use Rattle.bd_thread.proofs.Alone.{alone_none, alone_then}
@@ -13,6 +13,7 @@ loop-round-init g c = record {
   alone = alone_none _;
   same = λ few. refl;
   serves = serves_none _ _;
+  kept = refl;
 }
 
 pub loop-round-preserved : goal.loop-round-preserved
@@ -23,6 +24,7 @@ loop-round-preserved g c = record {
   alone = alone_then _ _ _ c.loop-round.invariant.alone c.in_ok-serve_one.ensures.alone;
   same = still_then g.D.Disk.state _ _ _ _ _ _ _ _ _ c.loop-round.invariant.over c.in_ok-serve_one.ensures.over c.loop-round.invariant.same c.in_ok-serve_one.ensures.same;
   serves = serves_more g.D.Disk.state _ _ _ c.loop-round.invariant.serves (serves_if g.D.Disk.state _ _ _ c.in_ok-serve_one.ensures.serves);
+  kept = c.serve_one.ensures.kept ∙ c.loop-round.invariant.kept;
 }
 
 pub returns-then-not-branch : goal.returns-then-not-branch
@@ -33,6 +35,7 @@ returns-then-not-branch g c = record {
   alone = alone_then _ _ _ c.loop-round.invariant.alone c.in_ok-serve_one.ensures.alone;
   same = still_then g.D.Disk.state _ _ _ _ _ _ _ _ _ c.loop-round.invariant.over c.in_ok-serve_one.ensures.over c.loop-round.invariant.same c.in_ok-serve_one.ensures.same;
   serves = serves_more g.D.Disk.state _ _ _ c.loop-round.invariant.serves (serves_if g.D.Disk.state _ _ _ c.in_ok-serve_one.ensures.serves);
+  kept = c.serve_one.ensures.kept ∙ c.loop-round.invariant.kept;
 }
 
 pub returns-after-loop-round : goal.returns-after-loop-round
@@ -43,4 +46,5 @@ returns-after-loop-round g c = record {
   alone = c.loop-round.invariant.alone;
   same = c.loop-round.invariant.same;
   serves = c.loop-round.invariant.serves;
+  kept = c.loop-round.invariant.kept;
 }
