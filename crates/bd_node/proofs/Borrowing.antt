@@ -15,7 +15,7 @@ use Rattle.bd_wires.specs.declared.wires.Wires.{Wires}
 use Rattle.bd_node.specs.declared.seat.Seat.{Seat}
 use Rattle.bd_node.specs.declared.worker.Worker.{Worker}
 use Rattle.bd_outside.specs.Disk.{DiskState}
-use Rattle.bd_node.specs.Seats.{Continues, GoesAlone, GoesWith, IsLent, IsLentTo, IsSeat, IsSitting, IsWorking, Sits, WentAlone, WentWith}
+use Rattle.bd_node.specs.Seats.{Continues, GoesAlone, GoesWith, IsLent, IsLentTo, IsSeat, IsSitting, Past, IsWorking, Sits, WentAlone, WentWith}
 use Rattle.bd_node.proofs.Disks.{done_further}
 
 -- ---- without the registry
@@ -28,12 +28,12 @@ pub alone : {D : Type 0} → (state : D → DiskState) (w : Wires) (s : Seat D) 
 alone {D} state w s worker disks g = record {
   flag = g.0;
   halted = refl;
-  sits = λ setup t p opened h. on setup t p h.course opened h.seat;
+  sits = λ setup t p past opened h. on setup t p h.course past opened h.seat;
 }
   where
-    on : (setup : Setup) (t : ℕ) (p : Phase) (c : Course) (opened : List (DevId × D)) → IsSeat state setup t p c w opened s → Sits state setup t p w opened (with_worker s worker disks)
-    on setup t p c opened q =
-        let went : WentAlone state setup t p c s.disks disks worker = g.1 setup t p c q.worker in
+    on : (setup : Setup) (t : ℕ) (p : Phase) (c : Course) (past : Past) (opened : List (DevId × D)) → IsSeat state setup t p c past w opened s → Sits state setup t p past w opened (with_worker s worker disks)
+    on setup t p c past opened q =
+        let went : WentAlone state setup t p c past s.disks disks worker = g.1 setup t p c past q.worker in
         record {
           course = went.course;
           seat = record {
@@ -51,14 +51,14 @@ alone {D} state w s worker disks g = record {
 
 -- who sits works
 pub works : {D : Type 0} {state : D → DiskState} → (w : Wires) (s : Seat D) → IsSitting state w s → IsWorking s.worker
-works {state = state} w s h = record { setup = h.setup; t = h.t; p = h.p; c = h.sits.course; contents = contents_of state s.disks; at = h.sits.seat.worker }
+works {state = state} w s h = record { setup = h.setup; t = h.t; p = h.p; c = h.sits.course; past = h.past; contents = contents_of state s.disks; at = h.sits.seat.worker }
 
 -- ---- with it
 
 -- what the slot gave was lent as the worker wants it
-pub lent_is : {D : Type 0} {state : D → DiskState} → (setup : Setup) (t : ℕ) (p : Phase) (c : Course) (w : Wires) (opened : List (DevId × D)) (s : Seat D) (lent : Registered) (pass : Holder)
-    → IsSeat state setup t p c w opened s → IsTakenBy s.passes.slot lent.journal (start_of lent.setup) pass → IsLent setup t c s.seen lent
-lent_is setup t p c w opened s lent pass q took = record {
+pub lent_is : {D : Type 0} {state : D → DiskState} → (setup : Setup) (t : ℕ) (p : Phase) (c : Course) (past : Past) (w : Wires) (opened : List (DevId × D)) (s : Seat D) (lent : Registered) (pass : Holder)
+    → IsSeat state setup t p c past w opened s → IsTakenBy s.passes.slot lent.journal (start_of lent.setup) pass → IsLent setup t c s.seen lent
+lent_is setup t p c past w opened s lent pass q took = record {
   start = took.3 ∙ q.start;
   begins = subst (λ (es : List Entry). StartsWith lent.journal es) q.seen took.1;
   own = ap (λ (n : ℕ). rows_of n lent.journal) (sym q.linked.thread) ∙ took.2 ∙ q.wrote;
@@ -71,9 +71,10 @@ lent_to {state = state} w s lent pass h took = record {
   t = h.t;
   p = h.p;
   c = h.sits.course;
+  past = h.past;
   contents = contents_of state s.disks;
   at = h.sits.seat.worker;
-  lent_is = lent_is h.setup h.t h.p h.sits.course w h.opened s lent pass h.sits.seat took;
+  lent_is = lent_is h.setup h.t h.p h.sits.course h.past w h.opened s lent pass h.sits.seat took;
 }
 
 -- what comes after the first rows
@@ -96,10 +97,10 @@ module _ {D : Type 0} (state : D → DiskState) (w : Wires) (s : Seat D) (worker
   abbrev new : Seat D
   new = record s { worker = worker; passes = record s.passes { slot = given }; seen = length lent'.journal; disks = disks }
 
-  on : (setup : Setup) (t : ℕ) (p : Phase) (c : Course) (opened : List (DevId × D)) → IsSeat state setup t p c w opened s → Sits state setup t p w opened new
-  on setup t p c opened q =
-      let lends : IsLent setup t c s.seen lent = lent_is setup t p c w opened s lent pass q took in
-      let went : WentWith state setup t p c s.disks disks lent worker lent' = g.1 setup t p c q.worker lends in
+  on : (setup : Setup) (t : ℕ) (p : Phase) (c : Course) (past : Past) (opened : List (DevId × D)) → IsSeat state setup t p c past w opened s → Sits state setup t p past w opened new
+  on setup t p c past opened q =
+      let lends : IsLent setup t c s.seen lent = lent_is setup t p c past w opened s lent pass q took in
+      let went : WentWith state setup t p c past s.disks disks lent worker lent' = g.1 setup t p c past q.worker lends in
       let added : List Entry = went.adds.0 in
       let journal : lent'.journal ≡ lent.journal ++ added = went.adds.1 in
       let taken-is : pass ≡ after_take s.passes.slot lent.journal = took.0 in
@@ -136,12 +137,12 @@ module _ {D : Type 0} (state : D → DiskState) (w : Wires) (s : Seat D) (worker
       }
 
   pub borrowed_continues : Continues state w s new
-  borrowed_continues = record { flag = g.0; halted = refl; sits = λ setup t p opened h. on setup t p h.course opened h.seat }
+  borrowed_continues = record { flag = g.0; halted = refl; sits = λ setup t p past opened h. on setup t p h.course past opened h.seat }
 
   -- the registry goes back into its slot as the slot wants it
   module _ (h : IsSitting state w s) where
-    went_with : WentWith state h.setup h.t h.p h.sits.course s.disks disks lent worker lent'
-    went_with = g.1 h.setup h.t h.p h.sits.course h.sits.seat.worker (lent_is h.setup h.t h.p h.sits.course w h.opened s lent pass h.sits.seat took)
+    went_with : WentWith state h.setup h.t h.p h.sits.course h.past s.disks disks lent worker lent'
+    went_with = g.1 h.setup h.t h.p h.sits.course h.past h.sits.seat.worker (lent_is h.setup h.t h.p h.sits.course h.past w h.opened s lent pass h.sits.seat took)
 
     pub gives_start : start_of lent'.setup ≡ pass.start
     gives_start = went_with.start ∙ took.3 ∙ sym (ap (λ (x : Holder). x.start) took.0)

@@ -1,5 +1,5 @@
 -- The seats of a reactor from turn to turn: each sits, unless it has to halt.
-use Rattle.std.proofs.Common.{◌≡◌, ℕ, ◌<◌, List, length, set, Some, ◌⊎◌, inl, inr, sym, ◌∙◌, subst}
+use Rattle.std.proofs.Common.{◌≡◌, ℕ, ◌<◌, List, length, set, Some, ◌⊎◌, inl, inr, refl, sym, ◌∙◌, subst}
 use Rattle.std.specs.List.{All, slice_get}
 use Rattle.std.specs.Prelude.{slice_index_or}
 use Rattle.std.proofs.lemmas.Bool.{cases_eq}
@@ -13,13 +13,13 @@ use Rattle.bd_node.proofs.Seats.{continues_still, continues_then, sitting_then}
 
 module _ {D : Type 0} (state : D → DiskState) (w : Wires) where
   went_still : (s : Seat D) → WentOn state w s s
-  went_still s goes = continues_still state w s
+  went_still s = record { kept = refl; on = λ goes. continues_still state w s }
 
   went_then : (a b c : Seat D) → WentOn state w a b → WentOn state w b c → WentOn state w a c
-  went_then a b c first second goes = continues_then w a b c (first (sym (second goes).halted ∙ goes)) (second goes)
+  went_then a b c first second = record { kept = second.kept ∙ first.kept; on = λ goes. continues_then w a b c (first.on (sym (second.on goes).halted ∙ goes)) (second.on goes) }
 
   still_sits : (a b : Seat D) → SitsOrHalts state w a → WentOn state w a b → SitsOrHalts state w b
-  still_sits a b sits on goes = sitting_then w a b (sits (sym (on goes).halted ∙ goes)) (on goes)
+  still_sits a b sits went goes = sitting_then w a b (sits (sym (went.on goes).halted ∙ goes)) (went.on goes)
 
   pub all_still : (xs : List (Seat D)) → AllWentOn state w xs xs
   all_still xs i d lt = went_still (slice_index_or xs i d)

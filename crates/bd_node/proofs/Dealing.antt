@@ -14,7 +14,7 @@ use Rattle.bd_wires.specs.declared.wires.Wires.{Wires}
 use Rattle.bd_node.specs.declared.seat.Seat.{Seat}
 use Rattle.bd_outside.specs.Disk.{DiskState}
 use Rattle.bd_node.specs.Disks.{disks_at}
-use Rattle.bd_node.specs.Seats.{AllWentOn, Continues, number_in}
+use Rattle.bd_node.specs.Seats.{AllWentOn, Continues, Past, number_in}
 use Rattle.bd_node.specs.Whole.{seat_goes, AreSeated, IsIn}
 use Rattle.bd_node.proofs.Places.{all_at}
 use Rattle.bd_node.proofs.Rounds.{no_halt}
@@ -142,13 +142,13 @@ module _ {X : Type 0} (n : X → ℕ) where
 -- ---- seats
 
 module _ {D : Type 0} {state : D → DiskState} (w : Wires) (old dealt turned new : List (Seat D)) (as-dealt : IsPermutation old dealt) (len : length turned ≡ length dealt) (on : AllWentOn state w dealt turned) (gathered : IsPermutation turned new)
-    (sorted : IsNonDecreasingBy number_in new) (go : list_all seat_goes new ≡ true) (setup : Setup) (starts : List (List (DevId × D))) (shut : Bool) (phases : ℕ → Phase) (a : AreSeated state setup w starts old shut phases) where
+    (sorted : IsNonDecreasingBy number_in new) (go : list_all seat_goes new ≡ true) (setup : Setup) (starts : List (List (DevId × D))) (pasts : ℕ → Past) (shut : Bool) (phases : ℕ → Phase) (a : AreSeated state setup w starts pasts old shut phases) where
   -- a thread sits as that which it says it is
   abbrev IsOwn : Seat D → Type 0
-  IsOwn s = IsIn state setup w starts shut phases s.worker.me s
+  IsOwn s = IsIn state setup w starts pasts shut phases s.worker.me s
 
-  own_at : (i : ℕ) (s : Seat D) → IsIn state setup w starts shut phases i s → IsOwn s
-  own_at i s h = subst (λ (k : ℕ). IsIn state setup w starts shut phases k s) (sym h.sits.seat.worker.me) h
+  own_at : (i : ℕ) (s : Seat D) → IsIn state setup w starts pasts shut phases i s → IsOwn s
+  own_at i s h = subst (λ (k : ℕ). IsIn state setup w starts pasts shut phases k s) (sym h.sits.seat.worker.me) h
 
   all_own : All IsOwn dealt
   all_own = All-permutation IsOwn old dealt as-dealt (λ i d lt. own_at i (slice_index_or old i d) (a.each i (slice_index_or old i d) (slice_get-get_or old i d lt)))
@@ -157,13 +157,13 @@ module _ {D : Type 0} {state : D → DiskState} (w : Wires) (old dealt turned ne
   all_go = All-permutation (λ s. s.halted ≡ None) new turned (IsPermutation-sym turned new gathered) (λ i d lt. no_halt (slice_index_or new i d).halted (all_at seat_goes new i (slice_index_or new i d) go (slice_get-get_or new i d lt)))
 
   -- a turn leaves it so
-  went : (i : ℕ) (d : Seat D) → i < length dealt → IsIn state setup w starts shut phases (slice_index_or dealt i d).worker.me (slice_index_or turned i d)
+  went : (i : ℕ) (d : Seat D) → i < length dealt → IsIn state setup w starts pasts shut phases (slice_index_or dealt i d).worker.me (slice_index_or turned i d)
   went i d lt =
       let goes : (slice_index_or turned i d).halted ≡ None = all_go i d (subst (λ (n : ℕ). i < n) (sym len) lt) in
       let own : IsOwn (slice_index_or dealt i d) = all_own i d lt in
-      let c : Continues state w (slice_index_or dealt i d) (slice_index_or turned i d) = on i d lt goes in
+      let c : Continues state w (slice_index_or dealt i d) (slice_index_or turned i d) = (on i d lt).on goes in
       let me = (slice_index_or dealt i d).worker.me in
-      record { sits = c.sits setup me (phases me) (disks_at starts me) own.sits; flag = c.flag ∙ own.flag; goes = goes }
+      record { sits = c.sits setup me (phases me) (pasts me) (disks_at starts me) own.sits; flag = c.flag ∙ own.flag; goes = goes }
 
   turned_own : All IsOwn turned
   turned_own i d lt =
@@ -192,7 +192,7 @@ module _ {D : Type 0} {state : D → DiskState} (w : Wires) (old dealt turned ne
       let f : count_below number_in v new ≡ count_below number_in v old = as_many v in
       omega arith
 
-  pub still_seated : AreSeated state setup w starts new shut phases
+  pub still_seated : AreSeated state setup w starts pasts new shut phases
   still_seated = record {
     some = a.some;
     len = same_length ∙ a.len;
@@ -201,5 +201,5 @@ module _ {D : Type 0} {state : D → DiskState} (w : Wires) (old dealt turned ne
         let is : slice_index_or new i s ≡ s = get_or_from_slice_get new i s s h in
         let own : IsOwn s = subst IsOwn is (new_own i s lt) in
         let me : s.worker.me ≡ i = ap number_in (sym is) ∙ numbered_by_count number_in new sorted counts i s lt in
-        subst (λ (k : ℕ). IsIn state setup w starts shut phases k s) me own;
+        subst (λ (k : ℕ). IsIn state setup w starts pasts shut phases k s) me own;
   }

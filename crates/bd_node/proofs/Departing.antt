@@ -24,7 +24,7 @@ use Rattle.bd_wires.specs.declared.wires.Wires.{Wires}
 use Rattle.bd_wires.specs.Wires.{put_by, put_into}
 use Rattle.bd_node.specs.declared.seat.Seat.{Seat}
 use Rattle.bd_outside.specs.Disk.{DiskState}
-use Rattle.bd_node.specs.Seats.{seen_over, Continues, IsAt, IsSeat}
+use Rattle.bd_node.specs.Seats.{seen_over, Continues, IsAt, IsSeat, Past}
 
 -- the seat with what went out
 abbrev with_sent : {D : Type 0} → Seat D → Links → Passes → Seat D
@@ -143,10 +143,10 @@ module _ {D : Type 0} (state : D → DiskState) (w : Wires) (s : Seat D) (links 
         ap put_by (slice_get_past passes.sends.items r (subst (λ (k : ℕ). k ≤ r) (sym new-len) le))
         ∙ ap (λ (o : Option Sender). put_by o ++ []) (sym (slice_get_past s.passes.sends.items r (subst (λ (k : ℕ). k ≤ r) (sym same-len) le)))
 
-  seat : (setup : Setup) (t : ℕ) (p : Phase) (c : Course) (opened : List (DevId × D)) → IsSeat state setup t p c w opened s → IsSeat state setup t p (sent_more c posts) w opened new
-  seat setup t p c opened q =
+  seat : (setup : Setup) (t : ℕ) (p : Phase) (c : Course) (past : Past) (opened : List (DevId × D)) → IsSeat state setup t p c past w opened s → IsSeat state setup t p (sent_more c posts) past w opened new
+  seat setup t p c past opened q =
       let contents : DevId → Content = contents_of state s.disks in
-      let a : IsAt setup t p c contents s.worker = q.worker in
+      let a : IsAt setup t p c past contents s.worker = q.worker in
       let same-me : s.worker.me ≡ t = a.me in
       let n-is : n ≡ setup.threads = (let e : n ≡ vec_len s.worker.links.queues = search rules in e) ∙ a.queues in
       let sends-are : length s.passes.sends.items ≡ n = (let e : length s.passes.sends.items ≡ vec_len s.passes.sends = search rules in e) ∙ q.linked.sends ∙ sym n-is in
@@ -172,6 +172,8 @@ module _ {D : Type 0} (state : D → DiskState) (w : Wires) (s : Seat D) (links 
           log_thread = a.log_thread;
           log_entries = a.log_entries;
           log_last = a.log_last;
+          later = a.later;
+          met = a.met;
           once = a.once;
           replica = ap (λ (x : Links). x.registry.state) links-is ∙ a.replica;
           course = λ lowest. subst (λ (x : Links). IsCourse setup t p (sent_more c posts) (told_local setup contents (local s.worker.thread x))) (sym links-is) (course lowest);
@@ -181,8 +183,8 @@ module _ {D : Type 0} (state : D → DiskState) (w : Wires) (s : Seat D) (links 
           takes = λ d. ap (λ (x : Passes). x.take.ring) passes-is ∙ q.linked.takes d;
           senders = ap (λ (x : Passes). x.take.senders) passes-is ∙ q.linked.senders;
           sends = sends-len ∙ q.linked.sends;
-          sends_to = sends_to setup t p c opened q keeps;
-          numbers = numbers setup t p c opened q keeps;
+          sends_to = sends_to setup t p c past opened q keeps;
+          numbers = numbers setup t p c past opened q keeps;
           slot = ap (λ (x : Passes). x.slot.slot) passes-is ∙ q.linked.slot;
           thread = ap (λ (x : Passes). x.slot.thread) passes-is ∙ q.linked.thread;
           passes = λ e. ap (λ (x : Passes). x.slot.passes) passes-is ∙ q.linked.passes e;
@@ -203,19 +205,19 @@ module _ {D : Type 0} (state : D → DiskState) (w : Wires) (s : Seat D) (links 
       default (x ∷ xs) zero d lt = refl
       default (x ∷ xs) (suc k) d lt = default xs k d (omega arith)
 
-      sends_to : (setup : Setup) (t : ℕ) (p : Phase) (c : Course) (opened : List (DevId × D)) (q : IsSeat state setup t p c w opened s)
+      sends_to : (setup : Setup) (t : ℕ) (p : Phase) (c : Course) (past : Past) (opened : List (DevId × D)) (q : IsSeat state setup t p c past w opened s)
           → ((k : ℕ) → k < setup.threads → ((new-send k).ring ≡ (old-send k).ring) × ((new-send k).number ≡ (old-send k).number))
           → AreSendsTo w.rings.items passes.sends.items
-      sends_to setup t p c opened q keeps k d e lt =
+      sends_to setup t p c past opened q keeps k d e lt =
           let rings : length w.rings.items ≡ setup.threads = (let e : length w.rings.items ≡ vec_len w.rings = search rules in e) ∙ q.linked.rings in
           let within : k < setup.threads = subst (λ (m : ℕ). k < m) rings lt in
           let count : length passes.sends.items ≡ setup.threads = (let e : length passes.sends.items ≡ vec_len passes.sends = search rules in e) ∙ sends-len ∙ q.linked.sends in
           ap (λ (x : Sender). x.ring) (default passes.sends.items k e (subst (λ (m : ℕ). k < m) (sym count) within)) ∙ (keeps k within).0 ∙ q.linked.sends_to k d nobody lt
 
-      numbers : (setup : Setup) (t : ℕ) (p : Phase) (c : Course) (opened : List (DevId × D)) (q : IsSeat state setup t p c w opened s)
+      numbers : (setup : Setup) (t : ℕ) (p : Phase) (c : Course) (past : Past) (opened : List (DevId × D)) (q : IsSeat state setup t p c past w opened s)
           → ((k : ℕ) → k < setup.threads → ((new-send k).ring ≡ (old-send k).ring) × ((new-send k).number ≡ (old-send k).number))
           → (k : ℕ) (d : Sender) → k < setup.threads → (slice_index_or passes.sends.items k d).number ≡ t
-      numbers setup t p c opened q keeps k d lt =
+      numbers setup t p c past opened q keeps k d lt =
           let count : length passes.sends.items ≡ setup.threads = (let e : length passes.sends.items ≡ vec_len passes.sends = search rules in e) ∙ sends-len ∙ q.linked.sends in
           ap (λ (x : Sender). x.number) (default passes.sends.items k d (subst (λ (m : ℕ). k < m) (sym count) lt)) ∙ (keeps k lt).1 ∙ q.linked.numbers k nobody lt
 
@@ -223,5 +225,5 @@ module _ {D : Type 0} (state : D → DiskState) (w : Wires) (s : Seat D) (links 
   departed_continues = record {
     flag = ap (λ (x : Links). x.shut) links-is;
     halted = refl;
-    sits = λ setup t p opened h. record { course = sent_more h.course posts; seat = seat setup t p h.course opened h.seat };
+    sits = λ setup t p past opened h. record { course = sent_more h.course posts; seat = seat setup t p h.course past opened h.seat };
   }

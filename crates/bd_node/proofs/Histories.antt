@@ -9,7 +9,6 @@ use Rattle.bd_base.specs.declared.act.Entry.{Entry}
 use Rattle.bd_base.specs.declared.id.DevId.{DevId}
 use Rattle.bd_base.specs.declared.setup.Setup.{Setup}
 use Rattle.bd_apart.specs.Course.{Phase}
-use Rattle.bd_log.specs.Log.{log_part, Written}
 use Rattle.bd_log.specs.Merge.{IsMerge, IsOrdered}
 use Rattle.bd_machine.specs.declared.state.Base.{Base}
 use Rattle.bd_machine.specs.declared.state.Content.{Content}
@@ -34,7 +33,7 @@ use Rattle.bd_node.specs.declared.node.Node.{Node}
 use Rattle.bd_node.specs.declared.node.NodeState.TheVariants.{Busy, Done, Idle}
 use Rattle.bd_node.specs.declared.seat.Seat.{Seat}
 use Rattle.bd_node.specs.Disks.{disks_at, disks_of, pieces_of, told_of, SaysOfDisks}
-use Rattle.bd_node.specs.Whole.{are_all_taken, is_at_rest, is_idle, is_over, log_in, seat_has_destructed, seat_rests, setup_in, state_of, ArePhases, AreSeated, AreShut, IsNodeOf, KeepsDisks}
+use Rattle.bd_node.specs.Whole.{are_all_taken, is_at_rest, is_idle, is_over, log_with, logs_of, past_of, seat_has_destructed, seat_rests, setup_in, state_of, ArePhases, AreSeated, AreShut, IsNodeOf, KeepsDisks}
 use Rattle.bd_node.proofs.Resting.{local_of}
 use Rattle.bd_node.proofs.Settling.{courses_of, done_bases, done_complete, done_served, end_is, ends_of, map_at, map_from, passes_of, seat_is, seat_of}
 
@@ -63,16 +62,16 @@ found_tells setup contents dev aio (b ∷ bs) = go (same_dev b.dev dev) refl (fo
 
 -- ---- the end
 
--- what the merge of its threads' logs says of a node that is done: these were the disks of its threads at their opening, and those are they now
+-- what the merge of all that its threads did says of a node that is done: these were the disks of its threads at their opening, and those are they now
 pub record Settles {D : Type 0} (state : D → DiskState) (setup : Setup) (starts now : List (List (DevId × D))) (merged : List Entry) : Type 0 where
   pub complete : IsCompleteRun setup (told_of state setup starts) merged
   pub says : SaysOfDisks state setup merged starts now
 
-module _ {D : Type 0} (state : D → DiskState) (setup : Setup) (w : Wires) (starts : List (List (DevId × D))) (seats : List (Seat D)) (phases : ℕ → Phase) (a : AreSeated state setup w starts seats true phases)
+module _ {D : Type 0} (state : D → DiskState) (setup : Setup) (w : Wires) (starts : List (List (DevId × D))) (met : ℕ) (trace : List Entry) (seats : List (Seat D)) (phases : ℕ → Phase) (a : AreSeated state setup w starts (past_of met trace) seats true phases)
     (sh : AreShut setup (told_of state setup starts) phases) (lowest : AreBasesLowest setup) (many : length starts ≡ setup.threads)
     (rest : list_all seat_rests seats ≡ true) (taken : are_all_taken seats ≡ true) (gone : list_all seat_has_destructed seats ≡ true) (d : wires.AreDelivered (map passes_of seats))
     (r : Registered) (h : wires.HasJournalOf (map passes_of seats) r) (ordered : IsOrdered r.journal) (replay : (x : Setup) → HasRowsOf r x → IsReplayFromStart x r.journal)
-    (merged : List Entry) (m : IsMerge (map log_part (map log_in seats)) merged) where
+    (merged : List Entry) (m : IsMerge (map (log_with trace) seats) merged) where
   abbrev told : Told
   told = told_of state setup starts
 
@@ -83,10 +82,10 @@ module _ {D : Type 0} (state : D → DiskState) (setup : Setup) (w : Wires) (sta
       let s : Seat D = from.0 in
       let lt : t < setup.threads = subst (λ (n : ℕ). t < n) a.len (slice_get_within seats t s from.1) in
       let opened : disks_at starts t ≡ x = get_or_from_slice_get starts t x [] before in
-      let q = seat_is state setup told w starts seats phases a sh lowest t s from.1 in
-      let c = courses_of state setup told w starts seats phases a sh lowest t in
+      let q = seat_is state setup told w starts met trace seats phases a sh lowest t s from.1 in
+      let c = courses_of state setup told w starts met trace seats phases a sh lowest t in
       done_same state setup c.served (pieces_of state setup merged starts t) x y
-      (λ dev. sym (done_served state setup told w starts seats phases a sh lowest rest taken gone d r h ordered replay merged m t dev lt))
+      (λ dev. sym (done_served state setup told w starts met trace seats phases a sh lowest rest taken gone d r h ordered replay merged m t dev lt))
       (subst (λ (ds : List (DevId × D)). AreDoneBy state setup c.served ds y) opened
       (subst (λ (ds : List (DevId × D)). AreDoneBy state setup c.served (disks_at starts t) ds) from.2 q.done))
 
@@ -95,19 +94,19 @@ module _ {D : Type 0} (state : D → DiskState) (setup : Setup) (w : Wires) (sta
       → IfSome (find (is_base dev) (part_of (state_after setup told merged) (home setup dev)).bases) (λ base. base.content ≡ contents_of state (disks_at (disks_of seats) (home setup dev)) dev)
   holds dev aio =
       let at : ℕ = home setup dev in
-      let u = seat_of state setup told w starts seats phases a sh lowest at (mod_below (base_of setup dev).0 setup.threads a.some) in
+      let u = seat_of state setup told w starts met trace seats phases a sh lowest at (mod_below (base_of setup dev).0 setup.threads a.some) in
       let own : disks_at (disks_of seats) at ≡ u.0.disks = get_or_from_slice_get (disks_of seats) at u.0.disks [] (map_at (λ (s : Seat D). s.disks) seats at u.0 u.1) in
-      let seen : find (is_base dev) (part_of (state_after setup told merged) at).bases ≡ base_here (ends_of state setup told w starts seats phases a sh lowest at).view dev =
-      done_bases state setup told w starts seats phases a sh lowest rest taken gone d r h ordered replay merged m dev in
+      let seen : find (is_base dev) (part_of (state_after setup told merged) at).bases ≡ base_here (ends_of state setup told w starts met trace seats phases a sh lowest at).view dev =
+      done_bases state setup told w starts met trace seats phases a sh lowest rest taken gone d r h ordered replay merged m dev in
       subst (λ (o : Option Base). IfSome o (λ base. base.content ≡ contents_of state (disks_at (disks_of seats) at) dev)) (sym seen)
-      (subst (λ (l : Local). IfSome (base_here l.view dev) (λ base. base.content ≡ contents_of state (disks_at (disks_of seats) at) dev)) (sym (end_is state setup told w starts seats phases a sh lowest at u.0 u.1))
+      (subst (λ (l : Local). IfSome (base_here l.view dev) (λ base. base.content ≡ contents_of state (disks_at (disks_of seats) at) dev)) (sym (end_is state setup told w starts met trace seats phases a sh lowest at u.0 u.1))
       (subst (λ (ds : List (DevId × D)). IfSome (base_here (local_of state setup u.0).view dev) (λ base. base.content ≡ contents_of state ds dev)) (sym own)
       (found_tells setup (contents_of state u.0.disks) dev aio u.0.worker.thread.part.bases)))
 
   -- **a node that is done has a complete run, which says what its disks did**
   done_settles : Settles state setup starts (disks_of seats) merged
   done_settles = record {
-    complete = done_complete state setup told w starts seats phases a sh lowest rest taken gone d r h ordered replay merged m;
+    complete = done_complete state setup told w starts met trace seats phases a sh lowest rest taken gone d r h ordered replay merged m;
     says = record { len = length-map seats (λ (s : Seat D). s.disks) ∙ a.len ∙ sym many; each = each; holds = holds };
   }
 
@@ -119,12 +118,12 @@ done_parts true false idle h = cc
 done_parts false over true h = cc
 done_parts false over false h = cc
 
--- where it is done, the merge of its logs says so
+-- where it is done, the merge of all that its threads did says so
 pub node_settles : {D : Type 0} → (state : D → DiskState) (starts : List (List (DevId × D))) (n : Node D) → IsNodeOf state starts n → AreBasesLowest (setup_in n) → state_of n ≡ Done
-    → (logs : List Written) (passes : List Passes) → logs ≡ map log_in n.seats.items → passes ≡ map passes_of n.seats.items
+    → (passes : List Passes) → passes ≡ map passes_of n.seats.items
     → wires.AreDelivered passes → (r : Registered) → wires.HasJournalOf passes r → IsOrdered r.journal → ((x : Setup) → HasRowsOf r x → IsReplayFromStart x r.journal)
-    → (merged : List Entry) → IsMerge (map log_part logs) merged → Settles state (setup_in n) starts (disks_of n.seats.items) merged
-node_settles {D} state starts n h lowest done logs passes logs-is passes-is d r j ordered replay merged m =
+    → (merged : List Entry) → IsMerge (logs_of n) merged → Settles state (setup_in n) starts (disks_of n.seats.items) merged
+node_settles {D} state starts n h lowest done passes passes-is d r j ordered replay merged m =
     go n.shut (done_parts n.shut (is_over n) (is_idle n) done).0 h.seated h.phases_are
   where
     over : (is_at_rest n ≡ true) × (list_all seat_has_destructed n.seats.items ≡ true)
@@ -133,10 +132,9 @@ node_settles {D} state starts n h lowest done logs passes logs-is passes-is d r 
     rest : (list_all seat_rests n.seats.items ≡ true) × (are_all_taken n.seats.items ≡ true)
     rest = and_parts (list_all seat_rests n.seats.items) (are_all_taken n.seats.items) over.0
 
-    go : (b : Bool) → b ≡ true → AreSeated state (setup_in n) n.wires starts n.seats.items b h.phases → ArePhases (setup_in n) (told_of state (setup_in n) starts) b h.phases
+    go : (b : Bool) → b ≡ true → AreSeated state (setup_in n) n.wires starts (past_of h.met n.trace.items) n.seats.items b h.phases → ArePhases (setup_in n) (told_of state (setup_in n) starts) b h.phases
         → Settles state (setup_in n) starts (disks_of n.seats.items) merged
     go true e seated phased =
-        done_settles state (setup_in n) n.wires starts n.seats.items h.phases seated phased lowest h.many rest.0 rest.1 over.1
-        (subst (λ (qs : List Passes). wires.AreDelivered qs) passes-is d) r (subst (λ (qs : List Passes). wires.HasJournalOf qs r) passes-is j) ordered replay merged
-        (subst (λ (ls : List Written). IsMerge (map log_part ls) merged) logs-is m)
+        done_settles state (setup_in n) n.wires starts h.met n.trace.items n.seats.items h.phases seated phased lowest h.many rest.0 rest.1 over.1
+        (subst (λ (qs : List Passes). wires.AreDelivered qs) passes-is d) r (subst (λ (qs : List Passes). wires.HasJournalOf qs r) passes-is j) ordered replay merged m
     go false e seated phased = cc

@@ -1,4 +1,5 @@
 pub mod Places
+pub mod Kept
 pub mod Lowest
 pub mod Over
 pub mod Opened
@@ -20,3 +21,4 @@ pub mod Starts
 pub mod Shut
 pub mod Marks
 pub mod Advancing
+pub mod Gathered

@@ -25,9 +25,9 @@ use Rattle.bd_node.specs.declared.node.Node.{Node}
 use Rattle.bd_node.specs.declared.node.NodeState.TheVariants.{Idle, Done, Busy}
 use Rattle.bd_node.specs.declared.seat.Seat.{Seat}
 use Rattle.bd_node.specs.Disks.{disks_at, told_of}
-use Rattle.bd_node.specs.Seats.{entries_in, IsSeat, Sits}
+use Rattle.bd_node.specs.Seats.{entries_in, IsSeat, Past, Sits}
 use Rattle.bd_node.specs.Shutting.{shutdown_by, AreToLearn, IsShutAt, LearnsShut, Shuts}
-use Rattle.bd_node.specs.Whole.{are_all_taken, is_at_rest, is_idle, is_over, seat_is_blocked, seat_rests, state_of, ArePhases, AreSeated, AreShut, IsIn, IsNode, IsNodeOf}
+use Rattle.bd_node.specs.Whole.{are_all_taken, is_at_rest, is_idle, is_over, past_of, seat_is_blocked, seat_rests, state_of, ArePhases, AreSeated, AreShut, IsIn, IsNode, IsNodeOf}
 use Rattle.bd_node.proofs.Places.{has_at, is_below, set_else, set_here}
 use Rattle.bd_node.proofs.Resting.{all_rest, all_taken, are_blocked, local_of, local_or, none_injected, views_of}
 
@@ -76,15 +76,15 @@ idle_is n h =
     record { running = p.0; rest = r.0; taken = r.1; blocked = q.1 }
 
 -- before a Shutdown all are in their first phase
-pub first_seated : {D : Type 0} → (state : D → DiskState) (setup : Setup) (told : Told) (w : Wires) (starts : List (List (DevId × D))) (seats : List (Seat D)) (shut : Bool) (phases : ℕ → Phase)
-    → shut ≡ false → ArePhases setup told shut phases → AreSeated state setup w starts seats shut phases
-    → AreSeated state setup w starts seats false (first_phase setup told)
-first_seated state setup told w starts seats shut phases running ps a = record {
+pub first_seated : {D : Type 0} → (state : D → DiskState) (setup : Setup) (told : Told) (w : Wires) (starts : List (List (DevId × D))) (pasts : ℕ → Past) (seats : List (Seat D)) (shut : Bool) (phases : ℕ → Phase)
+    → shut ≡ false → ArePhases setup told shut phases → AreSeated state setup w starts pasts seats shut phases
+    → AreSeated state setup w starts pasts seats false (first_phase setup told)
+first_seated state setup told w starts pasts seats shut phases running ps a = record {
   some = a.some;
   len = a.len;
   each = λ i s h.
-      let k : IsIn state setup w starts shut phases i s = a.each i s h in
-      record { sits = subst (λ (p : Phase). Sits state setup i p w (disks_at starts i) s) (first i) k.sits; flag = k.flag ∙ running; goes = k.goes };
+      let k : IsIn state setup w starts pasts shut phases i s = a.each i s h in
+      record { sits = subst (λ (p : Phase). Sits state setup i p (pasts i) w (disks_at starts i) s) (first i) k.sits; flag = k.flag ∙ running; goes = k.goes };
 }
   where
     first : (t : ℕ) → phases t ≡ first_phase setup told t
@@ -92,7 +92,7 @@ first_seated state setup told w starts seats shut phases running ps a = record {
 
 -- ---- the marks
 
-module _ {D : Type 0} (state : D → DiskState) (setup : Setup) (told : Told) (w : Wires) (starts : List (List (DevId × D))) (seats : List (Seat D)) (a : AreSeated state setup w starts seats false (first_phase setup told)) where
+module _ {D : Type 0} (state : D → DiskState) (setup : Setup) (told : Told) (w : Wires) (starts : List (List (DevId × D))) (pasts : ℕ → Past) (seats : List (Seat D)) (a : AreSeated state setup w starts pasts seats false (first_phase setup told)) where
   -- the rows of each thread so far
   abbrev firsts : ℕ → List Row
   firsts i = choose (slice_get seats i) (λ s h. (a.each i s h).sits.course.rows) []
@@ -118,7 +118,7 @@ module _ {D : Type 0} (state : D → DiskState) (setup : Setup) (told : Told) (w
     early_at : AreBasesLowest setup → (t : ℕ) (s : Seat D) (h : slice_get seats t ≡ Some s) → AllByRecursion (λ r. r.entry.stamp < stamp) (a.each t s h).sits.course.rows
     early_at lowest t s h =
         let c : Course = (a.each t s h).sits.course in
-        let q : IsSeat state setup t (first_phase setup told t) c w (disks_at starts t) s = (a.each t s h).sits.seat in
+        let q : IsSeat state setup t (first_phase setup told t) c (pasts t) w (disks_at starts t) s = (a.each t s h).sits.seat in
         let later : c.last < stamp = subst (λ (n : ℕ). n < stamp) q.worker.log_last (below t s h) in
         all_map (λ (r : Row). r.entry.stamp ≤ c.last) (λ (r : Row). r.entry.stamp < stamp) c.rows (λ r k. omega arith) (q.worker.course lowest).within
 
@@ -126,7 +126,7 @@ module _ {D : Type 0} (state : D → DiskState) (setup : Setup) (told : Told) (w
     accepted_at : AreBasesLowest setup → (t : ℕ) (s : Seat D) (h : slice_get seats t ≡ Some s) → Accepts setup false t (view_at_start setup told t) (a.each t s h).sits.course.rows (local_of state setup s).view
     accepted_at lowest t s h =
         let c : Course = (a.each t s h).sits.course in
-        let q : IsSeat state setup t (first_phase setup told t) c w (disks_at starts t) s = (a.each t s h).sits.seat in
+        let q : IsSeat state setup t (first_phase setup told t) c (pasts t) w (disks_at starts t) s = (a.each t s h).sits.seat in
         subst (λ (b : Bool). Accepts setup b t (view_at_start setup told t) c.rows (local_of state setup s).view) (a.each t s h).flag (q.worker.course lowest).accepts
 
     marked : AreBasesLowest setup → 0 < stamp → list_all seat_rests seats ≡ true → are_all_taken seats ≡ true → list_all seat_is_blocked seats ≡ true → AreMarked setup told stamp firsts marks
@@ -134,10 +134,10 @@ module _ {D : Type 0} (state : D → DiskState) (setup : Setup) (told : Told) (w
       positive = positive;
       accepted = λ t lt. let u = seated t lt in of_marks t (λ rows v. Accepts setup false t (view_at_start setup told t) rows v) (accepted_at lowest t) u.0 u.1;
       early = λ t lt. let u = seated t lt in of_marks t (λ rows v. AllByRecursion (λ r. r.entry.stamp < stamp) rows) (early_at lowest t) u.0 u.1;
-      rested = all_rest state setup w starts seats false (first_phase setup told) a rest;
-      untaken = none_injected state setup w starts seats false (first_phase setup told) a rest 0 a.some;
-      all_taken = all_taken state setup w starts seats false (first_phase setup told) a taken;
-      blocked = are_blocked state setup w starts seats false (first_phase setup told) a blocked;
+      rested = all_rest state setup w starts pasts seats false (first_phase setup told) a rest;
+      untaken = none_injected state setup w starts pasts seats false (first_phase setup told) a rest 0 a.some;
+      all_taken = all_taken state setup w starts pasts seats false (first_phase setup told) a taken;
+      blocked = are_blocked state setup w starts pasts seats false (first_phase setup told) a blocked;
     }
 
     -- none of a thread that doesn't exist
@@ -158,7 +158,7 @@ module _ {D : Type 0} (state : D → DiskState) (setup : Setup) (told : Told) (w
     seat_is_after : AreBasesLowest setup → (i : ℕ) (s : Seat D) (h : slice_get seats i ≡ Some s) → after_seat i s h ≡ after_rows i (a.each i s h).sits.course.rows (marks i)
     seat_is_after lowest i s h =
         let c : Course = (a.each i s h).sits.course in
-        let q : IsSeat state setup i (first_phase setup told i) c w (disks_at starts i) s = (a.each i s h).sits.seat in
+        let q : IsSeat state setup i (first_phase setup told i) c (pasts i) w (disks_at starts i) s = (a.each i s h).sits.seat in
         let served : c.served ≡ (λ dev. served_on setup false i dev (view_at_start setup told i) c.rows) =
         fun_ext (λ dev. (q.worker.course lowest).served dev ∙ ap (λ (b : Bool). served_on setup b i dev (view_at_start setup told i) c.rows) (a.each i s h).flag) in
         let sees : (local_of state setup s).view ≡ marks i = sym (ap (λ (o : Option (Seat D)). (local_or state setup i o).view) h) in
@@ -171,64 +171,65 @@ module _ {D : Type 0} (state : D → DiskState) (setup : Setup) (told : Told) (w
 
     -- each thread sits in that phase
     seated_after : (news : List (Seat D)) → length news ≡ length seats → ((i : ℕ) (s s' : Seat D) → slice_get seats i ≡ Some s → slice_get news i ≡ Some s' → Shuts state w stamp s s')
-        → AreSeated state setup w starts news true seconds
+        → AreSeated state setup w starts pasts news true seconds
     seated_after news len shuts = record { some = a.some; len = len ∙ a.len; each = each }
       where
-        each : (i : ℕ) (s' : Seat D) → slice_get news i ≡ Some s' → IsIn state setup w starts true seconds i s'
+        each : (i : ℕ) (s' : Seat D) → slice_get news i ≡ Some s' → IsIn state setup w starts pasts true seconds i s'
         each i s' h' =
             let u = has_at seats i (subst (λ (n : ℕ). i < n) len (is_below news i s' h')) in
             let shut : Shuts state w stamp u.0 s' = shuts i u.0 s' u.1 h' in
             record {
-              sits = chosen_is (λ (p : Phase). Sits state setup i p w (disks_at starts i) s') (slice_get seats i) (after_seat i) (after_rows i [] (marks i)) sat u.0 u.1;
+              sits = chosen_is (λ (p : Phase). Sits state setup i p (pasts i) w (disks_at starts i) s') (slice_get seats i) (after_seat i) (after_rows i [] (marks i)) sat u.0 u.1;
               flag = shut.flag;
               goes = shut.halted ∙ (a.each i u.0 u.1).goes;
             }
           where
-            sat : (s : Seat D) (h : slice_get seats i ≡ Some s) → Sits state setup i (after_seat i s h) w (disks_at starts i) s'
+            sat : (s : Seat D) (h : slice_get seats i ≡ Some s) → Sits state setup i (after_seat i s h) (pasts i) w (disks_at starts i) s'
             sat s h =
                 let c : Course = (a.each i s h).sits.course in
-                let is : IsShutAt state setup i (first_phase setup told i) c stamp w (disks_at starts i) s s' = (shuts i s s' h h').sits setup i (first_phase setup told i) c (disks_at starts i) (a.each i s h).sits.seat in
+                let is : IsShutAt state setup i (first_phase setup told i) c (pasts i) stamp w (disks_at starts i) s s' = (shuts i s s' h h').sits setup i (first_phase setup told i) c (pasts i) (disks_at starts i) (a.each i s h).sits.seat in
                 record { course = is.course; seat = is.seat }
 
 -- ---- the node after it
 
 -- all sit in the phases after a Shutdown
-pub record AreAllShut {D : Type 0} (state : D → DiskState) (setup : Setup) (w : Wires) (starts : List (List (DevId × D))) (news : List (Seat D)) : Type 0 where
+pub record AreAllShut {D : Type 0} (state : D → DiskState) (setup : Setup) (w : Wires) (starts : List (List (DevId × D))) (pasts : ℕ → Past) (news : List (Seat D)) : Type 0 where
   pub phases : ℕ → Phase
-  pub seated : AreSeated state setup w starts news true phases
+  pub seated : AreSeated state setup w starts pasts news true phases
   pub phases_are : AreShut setup (told_of state setup starts) phases
 
-pub all_shut : {D : Type 0} → (state : D → DiskState) (starts : List (List (DevId × D))) (n : Node D) (stamp : ℕ) (news : List (Seat D)) → IsNodeOf state starts n → IsIdle n → 0 < stamp → length news ≡ length n.seats.items
+pub all_shut : {D : Type 0} → (state : D → DiskState) (starts : List (List (DevId × D))) (n : Node D) (stamp : ℕ) (news : List (Seat D)) → (is : IsNodeOf state starts n) → IsIdle n → 0 < stamp → length news ≡ length n.seats.items
     → ((i : ℕ) (s s' : Seat D) → slice_get n.seats.items i ≡ Some s → slice_get news i ≡ Some s' → Shuts state n.wires stamp s s')
-    → AreAllShut state n.setup.now n.wires starts news
+    → AreAllShut state n.setup.now n.wires starts (past_of is.met n.trace.items) news
 all_shut {D} state starts n stamp news is idle positive len shuts =
     let setup : Setup = n.setup.now in
     let told : Told = told_of state setup starts in
     let w : Wires = n.wires in
+    let pasts : ℕ → Past = past_of is.met n.trace.items in
     let seats : List (Seat D) = n.seats.items in
-    let a : AreSeated state setup w starts seats false (first_phase setup told) = first_seated state setup told w starts seats n.shut is.phases idle.running is.phases_are is.seated in
+    let a : AreSeated state setup w starts pasts seats false (first_phase setup told) = first_seated state setup told w starts pasts seats n.shut is.phases idle.running is.phases_are is.seated in
     let below : (i : ℕ) (s : Seat D) → slice_get seats i ≡ Some s → s.worker.log.last < stamp = λ i s h.
     (let u = has_at news i (subst (λ (k : ℕ). i < k) (sym len) (is_below seats i s h)) in (shuts i s u.0 h u.1).later) in
     record {
-      phases = seconds state setup told w starts seats a stamp below;
-      seated = seated_after state setup told w starts seats a stamp below news len shuts;
+      phases = seconds state setup told w starts pasts seats a stamp below;
+      seated = seated_after state setup told w starts pasts seats a stamp below news len shuts;
       phases_are = record {
         stamp = stamp;
-        firsts = firsts state setup told w starts seats a;
-        marks = marks state setup told w starts seats a;
-        none_first = none_first state setup told w starts seats a stamp below;
-        marked = λ lowest. marked state setup told w starts seats a stamp below lowest positive idle.rest idle.taken idle.blocked;
-        phases_are = λ lowest. seconds_are state setup told w starts seats a stamp below lowest;
+        firsts = firsts state setup told w starts pasts seats a;
+        marks = marks state setup told w starts pasts seats a;
+        none_first = none_first state setup told w starts pasts seats a stamp below;
+        marked = λ lowest. marked state setup told w starts pasts seats a stamp below lowest positive idle.rest idle.taken idle.blocked;
+        phases_are = λ lowest. seconds_are state setup told w starts pasts seats a stamp below lowest;
       };
     }
 
 -- ---- thread 0 first, and then the others
 
 -- after thread 0 the others are as before
-pub others_learn : {D : Type 0} → (state : D → DiskState) (setup : Setup) (w : Wires) (starts : List (List (DevId × D))) (seats : List (Seat D)) (shut : Bool) (phases : ℕ → Phase) (first : Seat D) (above stamp : ℕ)
-    → AreSeated state setup w starts seats shut phases
+pub others_learn : {D : Type 0} → (state : D → DiskState) (setup : Setup) (w : Wires) (starts : List (List (DevId × D))) (pasts : ℕ → Past) (seats : List (Seat D)) (shut : Bool) (phases : ℕ → Phase) (first : Seat D) (above stamp : ℕ)
+    → AreSeated state setup w starts pasts seats shut phases
     → All (λ s. s.worker.log.last ≤ above) seats → above < stamp → AreToLearn stamp (set seats 0 first)
-others_learn {D} state setup w starts seats shut phases first above stamp a within later i s lt h =
+others_learn {D} state setup w starts pasts seats shut phases first above stamp a within later i s lt h =
     let before : slice_get seats i ≡ Some s = sym (set_else seats 0 i first (λ e. omega arith)) ∙ h in
     let me : s.worker.me ≡ i = (a.each i s before).sits.seat.worker.me in
     let ne : s.worker.me ≢ 0 = λ e. (omega arith) in
@@ -266,10 +267,10 @@ first_at n a is h = slice_get_read n.seats.items (length n.seats.items) 0 a refl
 
 -- an idle node after all of it
 pub node_shuts : {D : Type 0} → (state : D → DiskState) (starts : List (List (DevId × D))) (n : Node D) (above stamp : ℕ) (first first' : Seat D) (shut news : List (Seat D))
-    → IsNodeOf state starts n → state_of n ≡ Idle → slice_get n.seats.items 0 ≡ Some first → above < stamp
+    → (is : IsNodeOf state starts n) → state_of n ≡ Idle → slice_get n.seats.items 0 ≡ Some first → above < stamp
     → Shuts state n.wires stamp first first' → shut ≡ set n.seats.items 0 first' → length news ≡ length shut → slice_get news 0 ≡ slice_get shut 0
     → ((i : ℕ) (s s' : Seat D) → 0 < i → slice_get shut i ≡ Some s → slice_get news i ≡ Some s' → LearnsShut stamp s s')
-    → AreAllShut state n.setup.now n.wires starts news
+    → AreAllShut state n.setup.now n.wires starts (past_of is.met n.trace.items) news
 node_shuts {D} state starts n above stamp first first' shut news is idle at later shuts shut-is len same others =
     all_shut state starts n stamp news is (idle_is n idle) (omega arith) (len ∙ ap (λ (ss : List (Seat D)). length ss) shut-is ∙ length-set n.seats.items 0 first')
     (each_shuts state n.wires stamp n.seats.items news first first' at shuts (same ∙ ap (λ (ss : List (Seat D)). slice_get ss 0) shut-is)

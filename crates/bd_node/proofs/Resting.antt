@@ -32,7 +32,7 @@ use Rattle.bd_thread.specs.Resting.{has_destructed_all, is_settled, rests}
 use Rattle.bd_thread.specs.Seen.{number_of, setup_of, view_of}
 use Rattle.bd_wires.specs.declared.wires.Wires.{Wires}
 use Rattle.bd_node.specs.declared.seat.Seat.{Seat}
-use Rattle.bd_node.specs.Seats.{seen_over}
+use Rattle.bd_node.specs.Seats.{seen_over, Past}
 use Rattle.bd_outside.specs.Disk.{DiskState}
 use Rattle.bd_storage.specs.Contents.{contents_of}
 use Rattle.bd_node.specs.Whole.{are_all_taken, has_taken, seat_has_destructed, seat_is_blocked, seat_rests, AreSeated}
@@ -157,7 +157,7 @@ is_gone_at x k = not (home x.setup.now (dev_of k) == x.me) || list_any (same_dev
 
 -- ---- the seats of a node
 
-module _ {D : Type 0} (state : D → DiskState) (setup : Setup) (w : Wires) (starts : List (List (DevId × D))) (seats : List (Seat D)) (shut : Bool) (phases : ℕ → Phase) (a : AreSeated state setup w starts seats shut phases) where
+module _ {D : Type 0} (state : D → DiskState) (setup : Setup) (w : Wires) (starts : List (List (DevId × D))) (pasts : ℕ → Past) (seats : List (Seat D)) (shut : Bool) (phases : ℕ → Phase) (a : AreSeated state setup w starts pasts seats shut phases) where
   abbrev seen : ℕ → View
   seen = views_of state setup seats
 

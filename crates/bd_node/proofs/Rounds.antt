@@ -13,7 +13,7 @@ use Rattle.bd_wires.specs.declared.wires.Wires.{Wires}
 use Rattle.bd_node.specs.declared.seat.Seat.{Seat}
 use Rattle.bd_outside.specs.Disk.{DiskState}
 use Rattle.bd_node.specs.Disks.{disks_at}
-use Rattle.bd_node.specs.Seats.{Continues, IsSitting}
+use Rattle.bd_node.specs.Seats.{Continues, IsSitting, Past}
 use Rattle.bd_node.specs.Whole.{AreSeated, IsIn}
 use Rattle.bd_node.proofs.Places.{set_else, set_here}
 
@@ -21,29 +21,33 @@ pub no_halt : (o : Option SeatNo) → is_none o ≡ true → o ≡ None
 no_halt None h = refl
 no_halt (Some x) h = cc
 
-module _ {D : Type 0} {state : D → DiskState} (setup : Setup) (w : Wires) (starts : List (List (DevId × D))) (seats : List (Seat D)) (shut : Bool) (phases : ℕ → Phase) (a : AreSeated state setup w starts seats shut phases) where
+-- its log is the same thread's
+pub log_thread_stays : {D : Type 0} {state : D → DiskState} → (w : Wires) (a b : Seat D) → IsSitting state w a → Continues state w a b → b.worker.log.thread ≡ a.worker.log.thread
+log_thread_stays w a b old on = (on.sits old.setup old.t old.p old.past old.opened old.sits).seat.worker.log_thread ∙ sym old.sits.seat.worker.log_thread
+
+module _ {D : Type 0} {state : D → DiskState} (setup : Setup) (w : Wires) (starts : List (List (DevId × D))) (pasts : ℕ → Past) (seats : List (Seat D)) (shut : Bool) (phases : ℕ → Phase) (a : AreSeated state setup w starts pasts seats shut phases) where
   -- each seat sits
   pub all_sit : All (IsSitting state w) seats
-  all_sit k d lt = record { setup = setup; t = k; p = phases k; opened = disks_at starts k; sits = (a.each k (slice_index_or seats k d) (slice_get-get_or seats k d lt)).sits }
+  all_sit k d lt = record { setup = setup; t = k; p = phases k; past = pasts k; opened = disks_at starts k; sits = (a.each k (slice_index_or seats k d) (slice_get-get_or seats k d lt)).sits }
 
   pub one_sits : (i : ℕ) (s : Seat D) → slice_get seats i ≡ Some s → IsSitting state w s
-  one_sits i s at = record { setup = setup; t = i; p = phases i; opened = disks_at starts i; sits = (a.each i s at).sits }
+  one_sits i s at = record { setup = setup; t = i; p = phases i; past = pasts i; opened = disks_at starts i; sits = (a.each i s at).sits }
 
-  went : (i : ℕ) (s s' : Seat D) → slice_get seats i ≡ Some s → Continues state w s s' → s'.halted ≡ None → IsIn state setup w starts shut phases i s'
-  went i s s' at on goes = record { sits = on.sits setup i (phases i) (disks_at starts i) (a.each i s at).sits; flag = on.flag ∙ (a.each i s at).flag; goes = goes }
+  went : (i : ℕ) (s s' : Seat D) → slice_get seats i ≡ Some s → Continues state w s s' → s'.halted ≡ None → IsIn state setup w starts pasts shut phases i s'
+  went i s s' at on goes = record { sits = on.sits setup i (phases i) (pasts i) (disks_at starts i) (a.each i s at).sits; flag = on.flag ∙ (a.each i s at).flag; goes = goes }
 
   -- one seat had a turn
-  pub one_turned : (i : ℕ) (s s' : Seat D) → slice_get seats i ≡ Some s → Continues state w s s' → AreSeated state setup w starts (set seats i s') shut phases
+  pub one_turned : (i : ℕ) (s s' : Seat D) → slice_get seats i ≡ Some s → Continues state w s s' → AreSeated state setup w starts pasts (set seats i s') shut phases
   one_turned i s s' at on = record { some = a.some; len = length-set seats i s' ∙ a.len; each = each }
     where
-      here : IsIn state setup w starts shut phases i s'
+      here : IsIn state setup w starts pasts shut phases i s'
       here = went i s s' at on (on.halted ∙ (a.each i s at).goes)
 
-      each : (j : ℕ) (x : Seat D) → slice_get (set seats i s') j ≡ Some x → IsIn state setup w starts shut phases j x
+      each : (j : ℕ) (x : Seat D) → slice_get (set seats i s') j ≡ Some x → IsIn state setup w starts pasts shut phases j x
       each j x h = go (cases_eq i j)
         where
-          go : (i ≡ j) ⊎ (i ≡ j → ⊥) → IsIn state setup w starts shut phases j x
+          go : (i ≡ j) ⊎ (i ≡ j → ⊥) → IsIn state setup w starts pasts shut phases j x
           go (inl same) =
               let e : s' ≡ x = same_Some s' x (sym (set_here seats i s' (slice_get_within seats i s at)) ∙ ap (slice_get (set seats i s')) same ∙ h) in
-              subst (λ (k : ℕ). IsIn state setup w starts shut phases k x) same (subst (λ (y : Seat D). IsIn state setup w starts shut phases i y) e here)
+              subst (λ (k : ℕ). IsIn state setup w starts pasts shut phases k x) same (subst (λ (y : Seat D). IsIn state setup w starts pasts shut phases i y) e here)
           go (inr ne) = a.each j x (sym (set_else seats i j s' ne) ∙ h)

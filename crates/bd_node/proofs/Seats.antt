@@ -1,6 +1,7 @@
 -- A seat goes on: posts come and go, and its worker works, without the registry and with it.
-use Rattle.std.proofs.Common.{◌≡◌, ℕ, ◌<◌, ◌≤◌, List, [], ◌∷◌, ◌++◌, map, vec_len, refl, sym, ◌∙◌, ap, subst}
+use Rattle.std.proofs.Common.{◌≡◌, ℕ, ◌<◌, ◌≤◌, List, [], ◌∷◌, ◌++◌, map, vec_len, refl, sym, ◌∙◌, ap, subst, arith}
 use Rattle.std.specs.List.{AllByRecursion}
+use Rattle.bd_base.specs.declared.act.Entry.{Entry}
 use Rattle.bd_base.specs.declared.id.DevId.{DevId}
 use Rattle.bd_base.specs.declared.setup.Setup.{Setup}
 use Rattle.bd_machine.specs.declared.state.Content.{Content}
@@ -22,23 +23,23 @@ use Rattle.bd_told.specs.Told.{told_local, AreBasesLowest}
 use Rattle.bd_wires.specs.declared.wires.Wires.{Wires}
 use Rattle.bd_node.specs.declared.seat.Seat.{Seat}
 use Rattle.bd_outside.specs.Disk.{DiskState}
-use Rattle.bd_node.specs.Seats.{seen_over, Continues, IsAt, IsSeat, IsSitting}
+use Rattle.bd_node.specs.Seats.{seen_over, Continues, IsAt, IsSeat, IsSitting, Past}
 
 -- ---- one after the other
 
 pub continues_still : {D : Type 0} → (state : D → DiskState) (w : Wires) (s : Seat D) → Continues state w s s
-continues_still state w s = record { flag = refl; halted = refl; sits = λ setup t p opened h. h }
+continues_still state w s = record { flag = refl; halted = refl; sits = λ setup t p past opened h. h }
 
 pub continues_then : {D : Type 0} {state : D → DiskState} → (w : Wires) (a b c : Seat D) → Continues state w a b → Continues state w b c → Continues state w a c
 continues_then {state = state} w a b c f g = record {
   flag = g.flag ∙ f.flag;
   halted = g.halted ∙ f.halted;
-  sits = λ setup t p opened h. g.sits setup t p opened (f.sits setup t p opened h);
+  sits = λ setup t p past opened h. g.sits setup t p past opened (f.sits setup t p past opened h);
 }
 
 -- who sat there sits there still
 pub sitting_then : {D : Type 0} {state : D → DiskState} → (w : Wires) (a b : Seat D) → IsSitting state w a → Continues state w a b → IsSitting state w b
-sitting_then w a b s f = record { setup = s.setup; t = s.t; p = s.p; opened = s.opened; sits = f.sits s.setup s.t s.p s.opened s.sits }
+sitting_then w a b s f = record { setup = s.setup; t = s.t; p = s.p; past = s.past; opened = s.opened; sits = f.sits s.setup s.t s.p s.past s.opened s.sits }
 
 -- ---- posts come
 
@@ -63,14 +64,15 @@ module _ {D : Type 0} (state : D → DiskState) (w : Wires) (s : Seat D) (take :
   abbrev posts : List Post
   posts = f.posts
 
-  seat : (setup : Setup) (t : ℕ) (p : Phase) (c : Course) (opened : List (DevId × D)) → IsSeat state setup t p c w opened s → IsSeat state setup t p (arrived_more c posts log.last) w opened new
-  seat setup t p c opened q =
+  seat : (setup : Setup) (t : ℕ) (p : Phase) (c : Course) (past : Past) (opened : List (DevId × D)) → IsSeat state setup t p c past w opened s → IsSeat state setup t p (arrived_more c posts log.last) past w opened new
+  seat setup t p c past opened q =
       let contents : DevId → Content = contents_of state s.disks in
-      let a : IsAt setup t p c contents s.worker = q.worker in
+      let a : IsAt setup t p c past contents s.worker = q.worker in
       let same : s.worker.me ≡ t = a.me in
       let senders : s.passes.take.senders ≡ setup.threads = q.linked.senders in
       let later : c.last ≤ log.last = subst (λ (n : ℕ). n ≤ log.last) a.log_last f.later in
       let l : Local = seen_over setup contents s.worker in
+      let entries-are : log.entries ≡ s.worker.log.entries = ap (λ (x : Written). x.entries) f.log_is in
       let course : AreBasesLowest setup → IsCourse setup t p (arrived_more c posts log.last) (with_queues l (with_arrived t (map message_of posts) l.shared.queues)) =
       λ lowest. arrivals_are_met setup t p c l posts log.last later (stamps_of s.passes.take.senders log.last posts f.met)
       (subst (λ (n : ℕ). AllByRecursion (λ m. m.message.sender < n) posts) senders (senders_of s.passes.take.senders log.last posts f.met)) (a.course lowest) in
@@ -85,8 +87,10 @@ module _ {D : Type 0} (state : D → DiskState) (w : Wires) (s : Seat D) (take :
           rows = ap (λ (x : Links). x.registry.setup) links-is ∙ a.rows;
           empty = ap (λ (x : Links). x.entries) links-is ∙ a.empty;
           log_thread = ap (λ (x : Written). x.thread) f.log_is ∙ a.log_thread;
-          log_entries = ap (λ (x : Written). x.entries) f.log_is ∙ a.log_entries;
+          log_entries = ap (λ (es : List Entry). past.entries ++ es) entries-are ∙ a.log_entries;
           log_last = refl;
+          later = subst (λ (es : List Entry). AllByRecursion (λ x. past.met < x.stamp) es) (sym entries-are) a.later;
+          met = (let n : s.worker.log.last ≤ log.last = f.later in let m : past.met ≤ s.worker.log.last = a.met in omega (arith, n, m));
           once = a.once;
           replica = ap (λ (x : Links). x.registry.state) links-is ∙ a.replica;
           course = λ lowest.
@@ -118,5 +122,5 @@ module _ {D : Type 0} (state : D → DiskState) (w : Wires) (s : Seat D) (take :
   received_continues = record {
     flag = ap (λ (x : Links). x.shut) links-is;
     halted = refl;
-    sits = λ setup t p opened h. record { course = arrived_more h.course posts log.last; seat = seat setup t p h.course opened h.seat };
+    sits = λ setup t p past opened h. record { course = arrived_more h.course posts log.last; seat = seat setup t p h.course past opened h.seat };
   }

@@ -1,5 +1,5 @@
 -- The seats of a node that is done, taken apart: the merge of their logs is a complete run, which says what each thread served.
-use Rattle.std.proofs.Common.{◌≡◌, ℕ, ◌<◌, ◌≤◌, Bool, true, false, cond, nat_lt, List, [], ◌++◌, length, map, find, get_or, Option, Some, None, refl, sym, ◌∙◌, ap, ap₂, subst, ltb-true, vec_len, arith}
+use Rattle.std.proofs.Common.{◌≡◌, ℕ, ◌<◌, ◌≤◌, Bool, true, false, cond, nat_lt, List, [], ◌++◌, length, map, find, get_or, Option, Some, None, refl, sym, ◌∙◌, ap, subst, ltb-true, vec_len, arith}
 use Rattle.std.specs.List.{list_all, slice_get}
 use Rattle.std.specs.Option.{option_map}
 use Rattle.std.proofs.lemmas.Bool.{lt-ltb}
@@ -8,8 +8,7 @@ use Rattle.std.proofs.lemmas.Option.{get_or_from_slice_get, same_Some, slice_get
 use Rattle.bd_base.specs.declared.act.Entry.{Entry}
 use Rattle.bd_base.specs.declared.id.DevId.{DevId}
 use Rattle.bd_base.specs.declared.setup.Setup.{Setup}
-use Rattle.bd_log.specs.Log.{log_part, Written}
-use Rattle.bd_log.specs.Merge.{AreOfDifferentThreads, IsMerge, IsOrdered, Part}
+use Rattle.bd_log.specs.Merge.{entries_of, AreOfDifferentThreads, IsMerge, IsOrdered, Part}
 use Rattle.bd_machine.specs.BlockMap.{home}
 use Rattle.bd_machine.specs.Content.{Told}
 use Rattle.bd_machine.specs.Homes.{base_here, is_base}
@@ -38,9 +37,9 @@ use Rattle.bd_wires.specs.declared.wires.Wires.{Wires}
 use Rattle.bd_wires.specs.Wires as wires
 use Rattle.bd_node.specs.declared.seat.Seat.{Seat}
 use Rattle.bd_node.specs.Disks.{disks_at}
-use Rattle.bd_node.specs.Seats.{IsSeat}
+use Rattle.bd_node.specs.Seats.{IsSeat, Past}
 use Rattle.bd_node.specs.declared.node.Node.{Node}
-use Rattle.bd_node.specs.Whole.{are_all_taken, log_in, seat_has_destructed, seat_rests, setup_in, AreSeated, AreShut, IsNode}
+use Rattle.bd_node.specs.Whole.{are_all_taken, log_with, past_of, seat_has_destructed, seat_rests, setup_in, AreSeated, AreShut, IsNode}
 use Rattle.bd_node.proofs.Resting.{are_destructed, are_spent, local_or, locals_of, seat_at}
 
 abbrev pub passes_of : {D : Type 0} → Seat D → Passes
@@ -63,13 +62,13 @@ map_from {X} {Y} f xs i y e = go (slice_get xs i) refl
 
 -- ---- seats, linked
 
-module _ {D : Type 0} (state : D → DiskState) (setup : Setup) (w : Wires) (starts : List (List (DevId × D))) (seats : List (Seat D)) (shut : Bool) (phases : ℕ → Phase) (a : AreSeated state setup w starts seats shut phases) where
+module _ {D : Type 0} (state : D → DiskState) (setup : Setup) (w : Wires) (starts : List (List (DevId × D))) (pasts : ℕ → Past) (seats : List (Seat D)) (shut : Bool) (phases : ℕ → Phase) (a : AreSeated state setup w starts pasts seats shut phases) where
   -- the passes of all seats are for these wires
   pub passes_linked : wires.AreLinked setup.threads w (map passes_of seats)
   passes_linked = ((a.each 0 first.0 first.1).sits.seat.linked.rings, each)
     where
       first : (s : Seat D) × (slice_get seats 0 ≡ Some s)
-      first = seat_at state setup w starts seats shut phases a 0 a.some
+      first = seat_at state setup w starts pasts seats shut phases a 0 a.some
 
       each : (t : ℕ) (q : Passes) → slice_get (map passes_of seats) t ≡ Some q → wires.IsLinked setup.threads w t q
       each t q e =
@@ -80,30 +79,31 @@ module _ {D : Type 0} (state : D → DiskState) (setup : Setup) (w : Wires) (sta
   pub passes_many : length (map passes_of seats) ≡ setup.threads
   passes_many = length-map seats passes_of ∙ a.len
 
-  -- ---- their logs
+  -- ---- what each of them gives as a part of what happened
 
-  pub log_threads : (t : ℕ) (d : Part) → t < setup.threads → (get_or (map log_part (map log_in seats)) t d).thread ≡ t
-  log_threads t d lt =
-      let u = seat_at state setup w starts seats shut phases a t lt in
-      let at : slice_get (map log_part (map log_in seats)) t ≡ Some (log_part (log_in u.0)) = map_at log_part (map log_in seats) t (log_in u.0) (map_at log_in seats t u.0 u.1) in
-      ap (λ (p : Part). p.thread) (get_or_from_slice_get (map log_part (map log_in seats)) t (log_part (log_in u.0)) d at)
-      ∙ (a.each t u.0 u.1).sits.seat.worker.log_thread
+  module _ (part : Seat D → Part) (own : (s : Seat D) → (part s).thread ≡ s.worker.log.thread) where
+    pub part_thread : (t : ℕ) (d : Part) → t < setup.threads → (get_or (map part seats) t d).thread ≡ t
+    part_thread t d lt =
+        let u = seat_at state setup w starts pasts seats shut phases a t lt in
+        ap (λ (p : Part). p.thread) (get_or_from_slice_get (map part seats) t (part u.0) d (map_at part seats t u.0 u.1))
+        ∙ own u.0
+        ∙ (a.each t u.0 u.1).sits.seat.worker.log_thread
 
-  parts_many : length (map log_part (map log_in seats)) ≡ setup.threads
-  parts_many = length-map (map log_in seats) log_part ∙ length-map seats log_in ∙ a.len
+    pub parts_many : length (map part seats) ≡ setup.threads
+    parts_many = length-map seats part ∙ a.len
 
-  -- no two logs are of one thread
-  pub logs_apart : AreOfDifferentThreads (map log_part (map log_in seats))
-  logs_apart i j d low lt same =
-      let many : length (map log_part (map log_in seats)) ≡ setup.threads = parts_many in
-      let j-low : j < setup.threads = subst (λ (n : ℕ). j < n) many lt in
-      let i-low : i < setup.threads = omega arith in
-      let e : i ≡ j = sym (log_threads i d i-low) ∙ same ∙ log_threads j d j-low in
-      omega arith
+    -- no two are of one thread
+    pub parts_apart : AreOfDifferentThreads (map part seats)
+    parts_apart i j d low lt same =
+        let many : length (map part seats) ≡ setup.threads = parts_many in
+        let j-low : j < setup.threads = subst (λ (n : ℕ). j < n) many lt in
+        let i-low : i < setup.threads = omega arith in
+        let e : i ≡ j = sym (part_thread i d i-low) ∙ same ∙ part_thread j d j-low in
+        omega arith
 
 -- ---- a node that is done
 
-module _ {D : Type 0} (state : D → DiskState) (setup : Setup) (told : Told) (w : Wires) (starts : List (List (DevId × D))) (seats : List (Seat D)) (phases : ℕ → Phase) (a : AreSeated state setup w starts seats true phases)
+module _ {D : Type 0} (state : D → DiskState) (setup : Setup) (told : Told) (w : Wires) (starts : List (List (DevId × D))) (met : ℕ) (trace : List Entry) (seats : List (Seat D)) (phases : ℕ → Phase) (a : AreSeated state setup w starts (past_of met trace) seats true phases)
     (sh : AreShut setup told phases) (lowest : AreBasesLowest setup) where
   abbrev course_or : (t : ℕ) (o : Option (Seat D)) → slice_get seats t ≡ o → Course
   course_or t None e = new_course
@@ -114,15 +114,15 @@ module _ {D : Type 0} (state : D → DiskState) (setup : Setup) (told : Told) (w
   courses_of t = course_or t (slice_get seats t) refl
 
   -- which its seat is on
-  pub seat_is : (t : ℕ) (s : Seat D) → slice_get seats t ≡ Some s → IsSeat state setup t (phases t) (courses_of t) w (disks_at starts t) s
+  pub seat_is : (t : ℕ) (s : Seat D) → slice_get seats t ≡ Some s → IsSeat state setup t (phases t) (courses_of t) (past_of met trace t) w (disks_at starts t) s
   seat_is t s e = go (slice_get seats t) refl e
     where
-      go : (o : Option (Seat D)) (q : slice_get seats t ≡ o) → o ≡ Some s → IsSeat state setup t (phases t) (course_or t o q) w (disks_at starts t) s
+      go : (o : Option (Seat D)) (q : slice_get seats t ≡ o) → o ≡ Some s → IsSeat state setup t (phases t) (course_or t o q) (past_of met trace t) w (disks_at starts t) s
       go None q f = absurd (none f)
         where
           none : None ≡ Some s → ⊥
           none h = cc
-      go (Some x) q f = subst (λ (y : Seat D). IsSeat state setup t (phases t) (a.each t x q).sits.course w (disks_at starts t) y) (same_Some x s f) (a.each t x q).sits.seat
+      go (Some x) q f = subst (λ (y : Seat D). IsSeat state setup t (phases t) (a.each t x q).sits.course (past_of met trace t) w (disks_at starts t) y) (same_Some x s f) (a.each t x q).sits.seat
 
   abbrev rows_at : ℕ → List Row
   rows_at t = all_rows (phases t) (courses_of t)
@@ -146,7 +146,7 @@ module _ {D : Type 0} (state : D → DiskState) (setup : Setup) (told : Told) (w
   ends_of = locals_of state setup seats
 
   pub seat_of : (t : ℕ) → t < setup.threads → (s : Seat D) × (slice_get seats t ≡ Some s)
-  seat_of t lt = seat_at state setup w starts seats true phases a t lt
+  seat_of t lt = seat_at state setup w starts (past_of met trace) seats true phases a t lt
 
   -- which is what its seat has
   pub end_is : (t : ℕ) (s : Seat D) → slice_get seats t ≡ Some s → ends_of t ≡ local_or state setup t (Some s)
@@ -176,8 +176,8 @@ module _ {D : Type 0} (state : D → DiskState) (setup : Setup) (told : Told) (w
     logs_are = λ t lt. logs_are t lt ∙ ap (λ (p : Phase). all_rows p (courses_of t)) (sh.phases_are lowest t);
     none_else = none_else;
     none_first = sh.none_first;
-    spent = are_spent state setup w starts seats true phases a rest taken;
-    destructed = are_destructed state setup w starts seats true phases a gone;
+    spent = are_spent state setup w starts (past_of met trace) seats true phases a rest taken;
+    destructed = are_destructed state setup w starts (past_of met trace) seats true phases a gone;
   }
 
   -- ---- the rings
@@ -212,7 +212,7 @@ module _ {D : Type 0} (state : D → DiskState) (setup : Setup) (told : Told) (w
         ∙ (seat_is t u.0 u.1).wrote
         ∙ ((seat_is t u.0 u.1).worker.course lowest).wrote
         ∙ ap (λ (rows : List Row). events (entries rows)) (sym (logs_are t lt));
-    others = λ t le. h.others t (subst (λ (n : ℕ). n ≤ t) (sym (passes_many state setup w starts seats true phases a)) le);
+    others = λ t le. h.others t (subst (λ (n : ℕ). n ≤ t) (sym (passes_many state setup w starts (past_of met trace) seats true phases a)) le);
     seen = λ t lt.
         let u = seat_of t lt in
         subst (λ (js : List Entry). StartsWith r.journal js) (seat_is t u.0 u.1).seen (h.seen t (passes_of u.0) (map_at passes_of seats t u.0 u.1));
@@ -220,22 +220,26 @@ module _ {D : Type 0} (state : D → DiskState) (setup : Setup) (told : Told) (w
 
   -- ---- the merge
 
-  parts_are : ArePartsOf setup.threads logs_of (map log_part (map log_in seats))
+  own : (s : Seat D) → (log_with trace s).thread ≡ s.worker.log.thread
+  own s = refl
+
+  parts_are : ArePartsOf setup.threads logs_of (map (log_with trace) seats)
   parts_are = record {
-    len = parts_many state setup w starts seats true phases a;
+    len = parts_many state setup w starts (past_of met trace) seats true phases a (log_with trace) own;
     each = λ t d lt.
         let u = seat_of t lt in
-        get_or_from_slice_get (map log_part (map log_in seats)) t (log_part (log_in u.0)) d (map_at log_part (map log_in seats) t (log_in u.0) (map_at log_in seats t u.0 u.1))
-        ∙ ap₂ (λ (n : ℕ) (es : List Entry). record { thread = n; entries = es }) (seat_is t u.0 u.1).worker.log_thread
-        ((seat_is t u.0 u.1).worker.log_entries ∙ ap entries (sym (logs_are t lt)));
+        let q : IsSeat state setup t (phases t) (courses_of t) (past_of met trace t) w (disks_at starts t) u.0 = seat_is t u.0 u.1 in
+        get_or_from_slice_get (map (log_with trace) seats) t (log_with trace u.0) d (map_at (log_with trace) seats t u.0 u.1)
+        ∙ ap (λ (n : ℕ). let p : Part = record { thread = n; entries = entries_of n trace ++ u.0.worker.log.entries } in p) q.worker.log_thread
+        ∙ ap (λ (es : List Entry). let p : Part = record { thread = t; entries = es } in p) (q.worker.log_entries ∙ ap entries (sym (logs_are t lt)));
     none_else = none_else;
   }
 
   module _ (rest : list_all seat_rests seats ≡ true) (taken : are_all_taken seats ≡ true) (gone : list_all seat_has_destructed seats ≡ true) (d : wires.AreDelivered (map passes_of seats))
       (r : Registered) (h : wires.HasJournalOf (map passes_of seats) r) (ordered : IsOrdered r.journal) (replay : (x : Setup) → HasRowsOf r x → IsReplayFromStart x r.journal)
-      (merged : List Entry) (m : IsMerge (map log_part (map log_in seats)) merged) where
+      (merged : List Entry) (m : IsMerge (map (log_with trace) seats) merged) where
     merge_is : IsMergeOf logs_of merged
-    merge_is = merge_of_parts setup.threads logs_of (map log_part (map log_in seats)) merged parts_are m
+    merge_is = merge_of_parts setup.threads logs_of (map (log_with trace) seats) merged parts_are m
 
     -- **a node that is done has a complete run**
     pub done_complete : IsCompleteRun setup told merged
@@ -262,10 +266,5 @@ pub passes_fit : {D : Type 0} {state : D → DiskState} → (n : Node D) → IsN
 passes_fit {state = state} n h k passes many e =
     subst (λ (m : ℕ). wires.AreLinked m n.wires passes) (sym many)
     (subst (λ (qs : List Passes). wires.AreLinked (length qs) n.wires qs) (sym e)
-    (subst (λ (m : ℕ). wires.AreLinked m n.wires (map passes_of n.seats.items)) (sym (passes_many state (setup_in n) n.wires h.starts n.seats.items n.shut h.node.phases h.node.seated))
-    (passes_linked state (setup_in n) n.wires h.starts n.seats.items n.shut h.node.phases h.node.seated)))
-
--- the logs of all seats may be merged
-pub logs_fit : {D : Type 0} {state : D → DiskState} → (n : Node D) → IsNode state n → (logs : List Written) → logs ≡ map log_in n.seats.items → AreOfDifferentThreads (map log_part logs)
-logs_fit {state = state} n h logs e =
-    subst (λ (ls : List Written). AreOfDifferentThreads (map log_part ls)) (sym e) (logs_apart state (setup_in n) n.wires h.starts n.seats.items n.shut h.node.phases h.node.seated)
+    (subst (λ (m : ℕ). wires.AreLinked m n.wires (map passes_of n.seats.items)) (sym (passes_many state (setup_in n) n.wires h.starts (past_of h.node.met n.trace.items) n.seats.items n.shut h.node.phases h.node.seated))
+    (passes_linked state (setup_in n) n.wires h.starts (past_of h.node.met n.trace.items) n.seats.items n.shut h.node.phases h.node.seated)))

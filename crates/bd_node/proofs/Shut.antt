@@ -1,7 +1,7 @@
 -- How a worker and its seat are shut down: thread 0 puts the Shutdown into its log and into the registry's journal, and the others learn of it.
 use Rattle.std.proofs.Common.{◌≡◌, ◌≢◌, ℕ, ◌+◌, ◌<◌, ◌≤◌, Bool, true, false, cond, ◌==◌, List, [], ◌∷◌, ◌++◌, drop, length, set, Some, None, refl, sym}
-use Rattle.std.proofs.Common.{◌∙◌, ap, ap₂, subst, append-nil, eq-eqb, ltb-false, ltb-true, nat_lt, ne_eqb, arith}
-use Rattle.std.specs.List.{slice_get}
+use Rattle.std.proofs.Common.{◌∙◌, ap, ap₂, subst, append-nil, append_assoc, eq-eqb, ltb-false, ltb-true, nat_lt, ne_eqb, arith}
+use Rattle.std.specs.List.{slice_get, AllByRecursion}
 use Rattle.std.specs.Prelude.{max}
 use Rattle.std.proofs.Math.Seq.{drop-append_seam}
 use Rattle.std.proofs.lemmas.List.{map-append}
@@ -17,6 +17,7 @@ use Rattle.bd_machine.specs.View.{View}
 use Rattle.bd_turns.specs.Local.{Local}
 use Rattle.bd_log.specs.Log.{entry_of as entry_at, Written}
 use Rattle.bd_log.specs.Merge.{entries_of}
+use Rattle.bd_log.proofs.Order.{all_append}
 use Rattle.bd_merged.specs.Rows.{Row, entries, entry_of}
 use Rattle.bd_merged.specs.Journals.{registry_by}
 use Rattle.bd_merged.specs.Laws.{shutdown_of}
@@ -40,7 +41,7 @@ use Rattle.bd_turns.specs.declared.queue.Post.{Post}
 use Rattle.bd_wires.specs.declared.wires.Wires.{Wires}
 use Rattle.bd_node.specs.declared.seat.Seat.{Seat}
 use Rattle.bd_node.specs.declared.worker.Worker.{Worker}
-use Rattle.bd_node.specs.Seats.{seen_over, IsAt, IsLent, IsSeat}
+use Rattle.bd_node.specs.Seats.{seen_over, IsAt, IsLent, IsSeat, Past}
 use Rattle.bd_node.specs.Shutting.{IsShutAt, LearnsShut, Shuts, ShutsWith, ShutWith}
 use Rattle.bd_node.proofs.Borrowing.{lent_is, own_rows}
 use Rattle.bd_node.proofs.Places.{is_below, set_else, set_here}
@@ -53,14 +54,14 @@ sees_own : (setup : Setup) (t : ℕ) (contents : DevId → Content) (w : Worker)
 sees_own setup t contents w same = subst (λ (n : ℕ). SeesOwn n (seen_over setup contents w)) same (record { handles = refl; channels = refl })
 
 -- what it sees is as before
-caught_up_view : (setup : Setup) (t : ℕ) (p : Phase) (c : Course) (contents : DevId → Content) (w : Worker) (seen : ℕ) (lent r : Registered)
+caught_up_view : (setup : Setup) (t : ℕ) (p : Phase) (c : Course) (past : Past) (contents : DevId → Content) (w : Worker) (seen : ℕ) (lent r : Registered)
     → AreBasesLowest setup
-    → IsAt setup t p c contents w
+    → IsAt setup t p c past contents w
     → IsLent setup t c seen lent
     → lent.state ≡ registry_by setup (registry_at_start setup) lent.journal
     → r.state ≡ lent.state
     → (seen_over setup contents (with_replica w r)).view ≡ (seen_over setup contents w).view
-caught_up_view setup t p c contents w seen lent r lowest a lends left state-is =
+caught_up_view setup t p c past contents w seen lent r lowest a lends left state-is =
     let rest : List Entry = lends.begins.0 in
     let is : lent.journal ≡ c.seen ++ rest = lends.begins.1 in
     let l : Local = seen_over setup contents w in
@@ -124,20 +125,20 @@ logged log one two after a b stamp first second stamp-is entries-are last-is thr
       second = omega arith;
     }
 
-pub shut_with : (setup : Setup) (p : Phase) (c : Course) (contents : DevId → Content) (w : Worker) (seen : ℕ) (lent : Registered) (r : Registered) (log : Written) (stamp : ℕ) (lent' : Registered)
+pub shut_with : (setup : Setup) (p : Phase) (c : Course) (past : Past) (contents : DevId → Content) (w : Worker) (seen : ℕ) (lent : Registered) (r : Registered) (log : Written) (stamp : ℕ) (lent' : Registered)
     → lent.state ≡ registry_by setup (registry_at_start setup) lent.journal
     → r.setup ≡ w.links.registry.setup
     → r.state ≡ lent.state
     → w.log.last < stamp
     → HasShutdown stamp w.log log
     → lent' ≡ shut_at lent stamp
-    → IsAt setup 0 p c contents w
+    → IsAt setup 0 p c past contents w
     → IsLent setup 0 c seen lent
-    → ShutWith setup p c contents stamp w lent (shut_by w r log) lent'
-shut_with setup p c contents w seen lent r log stamp lent' left setup-is state-is above logged shut-is a lends =
+    → ShutWith setup p c past contents stamp w lent (shut_by w r log) lent'
+shut_with setup p c past contents w seen lent r log stamp lent' left setup-is state-is above logged shut-is a lends =
     let c' : Course = record c { seen = lent.journal } in
     let l' : Local = seen_over setup contents (with_replica w r) in
-    let caught : IsAt setup 0 p c' contents (with_replica w r) = caught_up_at setup 0 p c contents w seen lent r a lends left setup-is state-is in
+    let caught : IsAt setup 0 p c' past contents (with_replica w r) = caught_up_at setup 0 p c past contents w seen lent r a lends left setup-is state-is in
     let later : c'.last < stamp = subst (λ (n : ℕ). n < stamp) a.log_last above in
     let begun : AreBasesLowest setup → IsCourse setup 0 (second_phase stamp 0 p c' l') (course_then stamp 0 c') (with_shutdown l') = λ lowest. shutdown_begins_a_phase setup 0 p c' l' stamp later (caught.course lowest) in
     let entry-is : record { stamp = stamp; thread = w.log.thread; act = acts.Shutdown } ≡ shutdown_at stamp =
@@ -154,15 +155,24 @@ shut_with setup p c contents w seen lent r log stamp lent' left setup-is state-i
         rows = setup-is ∙ a.rows;
         empty = a.empty;
         log_thread = logged.thread ∙ a.log_thread;
-        log_entries = logged.entries ∙ ap₂ (λ (xs : List Entry) (x : Entry). xs ++ x ∷ []) a.log_entries entry-is ∙ sym (entries_shut (all_rows p c) stamp 0);
+        log_entries =
+            ap (λ (xs : List Entry). past.entries ++ xs) logged.entries
+            ∙ sym (append_assoc past.entries w.log.entries (record { stamp = stamp; thread = w.log.thread; act = acts.Shutdown } ∷ []))
+            ∙ ap₂ (λ (xs : List Entry) (x : Entry). xs ++ x ∷ []) a.log_entries entry-is
+            ∙ sym (entries_shut (all_rows p c) stamp 0);
         log_last = logged.last;
+        later =
+            subst (λ (xs : List Entry). AllByRecursion (λ x. past.met < x.stamp) xs) (sym logged.entries)
+            (all_append (λ x. past.met < x.stamp) w.log.entries (record { stamp = stamp; thread = w.log.thread; act = acts.Shutdown } ∷ []) a.later
+            (let m : past.met ≤ w.log.last = a.met in omega (arith, m, above), tt));
+        met = (let m : past.met ≤ w.log.last = a.met in omega (arith, m, above, logged.last));
         once = a.once;
         replica =
             caught.replica
             ∙ sym (registry_on setup (registry_at_start setup) lent.journal (shutdown_at stamp ∷ []));
         course = λ lowest.
             subst (λ (v : View). IsCourse setup 0 (record { served = c.served; earlier = all_rows p c ++ shutdown_of stamp 0; from = v; since = stamp }) (course_then stamp 0 c') (with_shutdown l'))
-            (caught_up_view setup 0 p c contents w seen lent r lowest a lends left state-is) (begun lowest);
+            (caught_up_view setup 0 p c past contents w seen lent r lowest a lends left state-is) (begun lowest);
       };
       posts = record { taken = refl; sent = refl };
       served = refl;
@@ -188,11 +198,11 @@ module _ {D : Type 0} (state : D → DiskState) (w : Wires) (s : Seat D) (lent l
   slot_is = given ∙ ap (λ (h : Holder). after_give h lent'.journal) taken.0
 
   -- it sits in the phase after the Shutdown
-  shut_at_first : (setup : Setup) (p : Phase) (c : Course) (opened : List (DevId × D)) (stamp : ℕ) (worker : Worker) → IsSeat state setup 0 p c w opened s
-      → ShutWith setup p c (contents_of state s.disks) stamp s.worker lent worker lent'
-      → IsShutAt state setup 0 p c stamp w opened s (seat_by s worker slot (length lent'.journal))
-  shut_at_first setup p c opened stamp worker q shut =
-      let lends : IsLent setup 0 c s.seen lent = lent_is setup 0 p c w opened s lent pass q taken in
+  shut_at_first : (setup : Setup) (p : Phase) (c : Course) (past : Past) (opened : List (DevId × D)) (stamp : ℕ) (worker : Worker) → IsSeat state setup 0 p c past w opened s
+      → ShutWith setup p c past (contents_of state s.disks) stamp s.worker lent worker lent'
+      → IsShutAt state setup 0 p c past stamp w opened s (seat_by s worker slot (length lent'.journal))
+  shut_at_first setup p c past opened stamp worker q shut =
+      let lends : IsLent setup 0 c s.seen lent = lent_is setup 0 p c past w opened s lent pass q taken in
       let added : List Entry = shut.adds.0 in
       let is : lent'.journal ≡ lent.journal ++ added = shut.adds.1 in
       let rows : s.passes.slot.wrote ++ drop (length lent.journal) lent'.journal ≡ entries_of 0 lent'.journal =
@@ -236,16 +246,16 @@ module _ {D : Type 0} (state : D → DiskState) (w : Wires) (s : Seat D) (lent l
         shut.entries
         ∙ ap (λ (n : ℕ). let e : Entry = record { stamp = stamp; thread = n; act = acts.Shutdown } in s.worker.log.entries ++ e ∷ []) thread
         ∙ ap (λ b. s.worker.log.entries ++ cond b (shutdown_at stamp ∷ []) []) (sym (eq-eqb s.worker.me 0 first));
-    sits = λ setup t p c opened q.
+    sits = λ setup t p c past opened q.
         let zero_is : t ≡ 0 = sym q.worker.me ∙ first in
-        let q' : IsSeat state setup 0 p c w opened s = subst (λ (n : ℕ). IsSeat state setup n p c w opened s) zero_is q in
-        let lends : IsLent setup 0 c s.seen lent = lent_is setup 0 p c w opened s lent pass q' taken in
-        subst (λ (n : ℕ). IsShutAt state setup n p c stamp w opened s (seat_by s worker slot (length lent'.journal))) (sym zero_is)
-        (shut_at_first setup p c opened stamp worker q' (shut.at setup p c (contents_of state s.disks) q'.worker lends));
+        let q' : IsSeat state setup 0 p c past w opened s = subst (λ (n : ℕ). IsSeat state setup n p c past w opened s) zero_is q in
+        let lends : IsLent setup 0 c s.seen lent = lent_is setup 0 p c past w opened s lent pass q' taken in
+        subst (λ (n : ℕ). IsShutAt state setup n p c past stamp w opened s (seat_by s worker slot (length lent'.journal))) (sym zero_is)
+        (shut_at_first setup p c past opened stamp worker q' (shut.at setup p c past (contents_of state s.disks) q'.worker lends));
   }
 
   -- the registry goes back into its slot as the slot wants it
-  module _ (setup : Setup) (p : Phase) (c : Course) (opened : List (DevId × D)) (stamp : ℕ) (worker : Worker) (q : IsSeat state setup 0 p c w opened s) (shut : ShutWith setup p c (contents_of state s.disks) stamp s.worker lent worker lent') where
+  module _ (setup : Setup) (p : Phase) (c : Course) (past : Past) (opened : List (DevId × D)) (stamp : ℕ) (worker : Worker) (q : IsSeat state setup 0 p c past w opened s) (shut : ShutWith setup p c past (contents_of state s.disks) stamp s.worker lent worker lent') where
     pub gives_start : start_of lent'.setup ≡ pass.start
     gives_start = shut.start ∙ taken.3 ∙ sym (ap (λ (h : Holder). h.start) taken.0)
 
@@ -266,9 +276,9 @@ learns_shut stamp s other above state w = record {
   halted = refl;
   later = above;
   entries = sym (append-nil s.worker.log.entries) ∙ ap (λ b. s.worker.log.entries ++ cond b (shutdown_at stamp ∷ []) []) (sym (ne_eqb s.worker.me 0 other));
-  sits = λ setup t p c opened q.
+  sits = λ setup t p c past opened q.
       let contents : DevId → Content = contents_of state s.disks in
-      let a : IsAt setup t p c contents s.worker = q.worker in
+      let a : IsAt setup t p c past contents s.worker = q.worker in
       let l : Local = seen_over setup contents s.worker in
       let ne : t ≢ 0 = λ e. other (a.me ∙ e) in
       let later : c.last < stamp = subst (λ (n : ℕ). n < stamp) a.log_last above in
@@ -293,6 +303,8 @@ learns_shut stamp s other above state w = record {
                 ∙ ap (λ (xs : List Row). entries (all_rows p c) ++ entries xs) (sym (none_of_others stamp t ne))
                 ∙ sym (entries_shut (all_rows p c) stamp t);
             log_last = (let e : max s.worker.log.last stamp ≡ stamp = omega arith in e);
+            later = a.later;
+            met = (let m : past.met ≤ s.worker.log.last = a.met in omega (arith, m));
             once = a.once;
             replica = a.replica ∙ ap (λ (js : List Entry). registry_by setup (registry_at_start setup) js) same;
             course = λ lowest. shutdown_begins_a_phase setup t p c l stamp later (a.course lowest);

@@ -1,8 +1,9 @@
 -- Seats before any entry, and a node of them.
-use Rattle.std.proofs.Common.{◌≡◌, ℕ, zero, suc, ◌+◌, ◌<◌, List, [], ◌∷◌, ◌++◌, length, vec_len, drop, Some, None, ◌⊎◌, inl, inr, refl, sym, ◌∙◌, ap, subst, add-one, rules}
-use Rattle.std.specs.List.{slice_get}
+use Rattle.std.proofs.Common.{◌≡◌, ℕ, zero, suc, ◌+◌, ◌<◌, List, [], ◌∷◌, ◌++◌, length, vec_len, drop, Some, None, ◌⊎◌, inl, inr, refl, sym, ◌∙◌, ap, subst, add-one, arith, rules}
+use Rattle.std.specs.List.{slice_get, AllByRecursion}
+use Rattle.bd_base.specs.declared.act.Entry.{Entry}
 use Rattle.std.specs.Option.{option_map}
-use Rattle.std.specs.Prelude.{false}
+use Rattle.std.specs.Prelude.{Bool, false}
 use Rattle.std.proofs.lemmas.List.{length-replicate}
 use Rattle.std.proofs.lemmas.Option.{get_or_from_slice_get, same_Some, slice_get-map}
 use Rattle.bd_base.specs.declared.id.DevId.{DevId}
@@ -20,7 +21,7 @@ use Rattle.bd_told.proofs.Kept.{start_is_once}
 use Rattle.bd_turns.specs.Laws.{shared_at_start}
 use Rattle.bd_turns.specs.Local.{Local}
 use Rattle.bd_registry.specs.State.{Registered, start_of}
-use Rattle.bd_apart.specs.Course.{IsCourse}
+use Rattle.bd_apart.specs.Course.{IsCourse, Phase}
 use Rattle.bd_apart.specs.Steps.{first_phase, local_at_start, new_course}
 use Rattle.bd_apart.proofs.Arriving.{course_begins}
 use Rattle.bd_thread.specs.Seen.{local}
@@ -31,7 +32,9 @@ use Rattle.bd_wires.specs.Wires.{put_into, AreNew, IsLinked, IsUnused}
 use Rattle.bd_node.specs.declared.seat.Seat.{Seat}
 use Rattle.bd_node.specs.Seats.{IsSeat}
 use Rattle.bd_node.specs.Starting.{AreNewSeats, IsNewSeat}
-use Rattle.bd_node.specs.Whole.{AreSeated}
+use Rattle.bd_node.specs.Whole.{past_of, ArePhases, AreSeated, IsNodeOf, IsTrace}
+use Rattle.bd_node.specs.declared.node.Node.{Node}
+use Rattle.bd_report.specs.Counter.{HasCounted}
 use Rattle.bd_node.specs.Disks.{disks_at, disks_of, told_of}
 use Rattle.bd_node.proofs.Opened.{opened_view}
 use Rattle.bd_node.proofs.Places.{has_at, is_below}
@@ -89,7 +92,7 @@ new_more {D} setup passes seats n s q len a at new = record { each = λ i u r h 
 -- a new thread with new passes is at the start of its course, and its disks did nothing yet
 pub seat_begins : {D : Type 0} → (state : D → DiskState) (setup : Setup) (disks : List (List (DevId × D))) (w : Wires) (i : ℕ) (s : Seat D) (q : Passes) → i < setup.threads → IsNewSeat i setup q s
     → disks_at disks i ≡ s.disks → IsLinked setup.threads w i q → IsUnused (start_of setup) q
-    → IsSeat state setup i (first_phase setup (told_of state setup disks) i) new_course w (disks_at disks i) s
+    → IsSeat state setup i (first_phase setup (told_of state setup disks) i) new_course (past_of 0 [] i) w (disks_at disks i) s
 seat_begins {D} state setup disks w i s q within new own linked unused =
     let told : Told = told_of state setup disks in
     let contents : DevId → Content = contents_of state s.disks in
@@ -111,6 +114,8 @@ seat_begins {D} state setup disks w i s q within new own linked unused =
         log_thread = new.log_thread;
         log_entries = new.log_entries;
         log_last = new.log_last;
+        later = subst (λ (es : List Entry). AllByRecursion (λ x. 0 < x.stamp) es) (sym new.log_entries) tt;
+        met = omega arith;
         once = λ dev. subst (λ (l : Local). IsOnce dev l.view.part.bases) (sym begun) (start_is_once setup [] i dev);
         replica = ap (λ (l : Local). l.shared.registry) begun;
         course = λ lowest.
@@ -132,7 +137,7 @@ seat_begins {D} state setup disks w i s q within new own linked unused =
 
 pub seated_at_start : {D : Type 0} → (state : D → DiskState) (setup : Setup) (disks : List (List (DevId × D))) (w : Wires) (seats : List (Seat D)) (passes : List Passes) → 0 < setup.threads → length seats ≡ setup.threads
     → AreNew setup.threads (start_of setup) w passes → AreNewSeats setup passes seats → disks_of seats ≡ disks
-    → AreSeated state setup w disks seats false (first_phase setup (told_of state setup disks))
+    → AreSeated state setup w disks (past_of 0 []) seats false (first_phase setup (told_of state setup disks))
 seated_at_start {D} state setup disks w seats passes some len wires new disks-are = record {
   some = some;
   len = len;
@@ -148,3 +153,21 @@ seated_at_start {D} state setup disks w seats passes some len wires new disks-ar
         goes = is.goes;
       };
 }
+
+-- a node of such seats, with nothing in its trace
+pub node_begins : {D : Type 0} → (state : D → DiskState) (starts : List (List (DevId × D))) (n : Node D) → length starts ≡ n.setup.now.threads → n.trace.items ≡ [] → HasCounted n.setup.now [] n.counter → n.shut ≡ false
+    → AreSeated state n.setup.now n.wires starts (past_of 0 []) n.seats.items false (first_phase n.setup.now (told_of state n.setup.now starts)) → IsNodeOf state starts n
+node_begins {D} state starts n many none counts running seated =
+    let setup : Setup = n.setup.now in
+    let phases : ℕ → Phase = first_phase setup (told_of state setup starts) in
+    record {
+      many = many;
+      met = 0;
+      trace = subst (λ (es : List Entry). IsTrace setup 0 es) (sym none) (record { ordered = tt; known = tt; within = tt });
+      counted = subst (λ (es : List Entry). HasCounted setup es n.counter) (sym none) counts;
+      phases = phases;
+      seated =
+          subst (λ (es : List Entry). AreSeated state setup n.wires starts (past_of 0 es) n.seats.items n.shut phases) (sym none)
+          (subst (λ (b : Bool). AreSeated state setup n.wires starts (past_of 0 []) n.seats.items b phases) (sym running) seated);
+      phases_are = subst (λ (b : Bool). ArePhases setup (told_of state setup starts) b phases) (sym running) (λ t. refl);
+    }

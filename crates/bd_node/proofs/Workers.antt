@@ -15,6 +15,7 @@ use Rattle.bd_machine.specs.Start.{registry_at_start}
 use Rattle.bd_turns.specs.Local.{Local}
 use Rattle.bd_log.specs.Log.{Written}
 use Rattle.bd_log.specs.Merge.{entries_of}
+use Rattle.bd_log.proofs.Order.{all_append}
 use Rattle.bd_merged.specs.Rows.{entries, entry_of, Row}
 use Rattle.bd_merged.specs.Journals.{events, is_event, registry_by, registry_next}
 use Rattle.bd_outside.specs.Disk.{DiskState}
@@ -41,7 +42,7 @@ use Rattle.bd_told.proofs.Over.{over_is_told, over_keeps_bases}
 use Rattle.bd_told.proofs.Start.{memory_is_apart}
 use Rattle.bd_node.specs.declared.worker.Worker.{Worker}
 use Rattle.bd_node.specs.Disks.{AddsServed}
-use Rattle.bd_node.specs.Seats.{seen_over, GoesAlone, GoesWith, HasSamePosts, IsAt, IsLent, WentAlone, WentWith}
+use Rattle.bd_node.specs.Seats.{seen_over, GoesAlone, GoesWith, HasSamePosts, IsAt, IsLent, Past, WentAlone, WentWith}
 use Rattle.bd_node.proofs.Lowest.{lowest_or_not}
 use Rattle.bd_node.proofs.Over.{over_registry, over_shut, over_threads}
 
@@ -50,8 +51,8 @@ use Rattle.bd_node.proofs.Over.{over_registry, over_shut, over_threads}
 abbrev with_last : Worker → ℕ → Worker
 with_last w last = record w { log = record w.log { last = last } }
 
-pub met_at : (setup : Setup) (t : ℕ) (p : Phase) (c : Course) (contents : DevId → Content) (w : Worker) (last : ℕ) → c.last ≤ last → IsAt setup t p c contents w → IsAt setup t p (record c { last = last }) contents (with_last w last)
-met_at setup t p c contents w last le a = record {
+pub met_at : (setup : Setup) (t : ℕ) (p : Phase) (c : Course) (past : Past) (contents : DevId → Content) (w : Worker) (last : ℕ) → c.last ≤ last → IsAt setup t p c past contents w → IsAt setup t p (record c { last = last }) past contents (with_last w last)
+met_at setup t p c past contents w last le a = record {
   me = a.me;
   number = a.number;
   given = a.given;
@@ -63,6 +64,8 @@ met_at setup t p c contents w last le a = record {
   log_thread = a.log_thread;
   log_entries = a.log_entries;
   log_last = refl;
+  later = a.later;
+  met = (let m : past.met ≤ w.log.last = a.met in let n : w.log.last ≡ c.last = a.log_last in omega (arith, le, m, n));
   once = a.once;
   replica = a.replica;
   course = λ lowest. stamps_are_met setup t p c (seen_over setup contents w) last le (a.course lowest);
@@ -88,14 +91,14 @@ rest_of_others t seen rest journal is own = none_more (entries_of t seen) (entri
 abbrev pub with_replica : Worker → Registered → Worker
 with_replica w r = record w { links = record w.links { registry = r } }
 
-pub caught_up_at : (setup : Setup) (t : ℕ) (p : Phase) (c : Course) (contents : DevId → Content) (w : Worker) (seen : ℕ) (lent r : Registered)
-    → IsAt setup t p c contents w
+pub caught_up_at : (setup : Setup) (t : ℕ) (p : Phase) (c : Course) (past : Past) (contents : DevId → Content) (w : Worker) (seen : ℕ) (lent r : Registered)
+    → IsAt setup t p c past contents w
     → IsLent setup t c seen lent
     → lent.state ≡ registry_by setup (registry_at_start setup) lent.journal
     → r.setup ≡ w.links.registry.setup
     → r.state ≡ lent.state
-    → IsAt setup t p (record c { seen = lent.journal }) contents (with_replica w r)
-caught_up_at setup t p c contents w seen lent r a lends left setup-is state-is =
+    → IsAt setup t p (record c { seen = lent.journal }) past contents (with_replica w r)
+caught_up_at setup t p c past contents w seen lent r a lends left setup-is state-is =
     let rest : List Entry = lends.begins.0 in
     let is : lent.journal ≡ c.seen ++ rest = lends.begins.1 in
     let l : Local = seen_over setup contents w in
@@ -111,6 +114,8 @@ caught_up_at setup t p c contents w seen lent r a lends left setup-is state-is =
       log_thread = a.log_thread;
       log_entries = a.log_entries;
       log_last = a.log_last;
+      later = a.later;
+      met = a.met;
       once = a.once;
       replica = state-is ∙ left;
       course = λ lowest.
@@ -188,24 +193,29 @@ registry_restamped setup t last registry (e ∷ es) all =
     ap (λ (n : ℕ). registry_by setup (registry_next setup registry (record { stamp = last + 1; thread = n; act = e.act })) (restamped t (last + 1) (acts_of es))) (sym all.0)
     ∙ registry_restamped setup t (last + 1) (registry_next setup registry e) es all.1
 
+-- and all are after the last
+restamped_later : (met t last : ℕ) (acts : List Act) → met ≤ last → AllByRecursion (λ e. met < e.stamp) (restamped t last acts)
+restamped_later met t last [] le = tt
+restamped_later met t last (act ∷ acts) le = (omega (arith, le), restamped_later met t (last + 1) acts (omega (arith, le)))
+
 -- what a thread serves over what its disks hold
 abbrev pub serves : Setup → ℕ → (DevId → Content) → Worker → List Entry → DevId → List ServedPiece
 serves setup t contents w es dev = served_over setup t dev contents (local w.thread w.links) es
 
-pub record Acts (setup : Setup) (t : ℕ) (p : Phase) (c : Course) (contents : DevId → Content) (links : Links) (more : DevId → List ServedPiece) (w : Worker) : Type 0 where
+pub record Acts (setup : Setup) (t : ℕ) (p : Phase) (c : Course) (past : Past) (contents : DevId → Content) (links : Links) (more : DevId → List ServedPiece) (w : Worker) : Type 0 where
   pub course : Course
-  pub at : IsAt setup t p course contents w
+  pub at : IsAt setup t p course past contents w
   pub posts : HasSamePosts c course
   pub seen : course.seen ≡ c.seen ++ events (restamped t c.last (acts_of links.entries))
   pub served : (dev : DevId) → course.served dev ≡ c.served dev ++ more dev
 
-pub acted_at : (setup : Setup) (t : ℕ) (p : Phase) (c : Course) (before after : DevId → Content) (w : Worker) (thread : Thread) (links : Links) (log : Written)
-    → IsAt setup t p c before w
+pub acted_at : (setup : Setup) (t : ℕ) (p : Phase) (c : Course) (past : Past) (before after : DevId → Content) (w : Worker) (thread : Thread) (links : Links) (log : Written)
+    → IsAt setup t p c past before w
     → (acted : WentOver before after w.thread w.links thread links)
     → KeepsTickets thread
     → Appends w.log (restamped w.log.thread w.log.last (acts_of links.entries)) log
-    → Acts setup t p c after links (serves setup t before w acted.entries) (after_turn w thread links log)
-acted_at setup t p c before after w thread links log a acted tickets appends =
+    → Acts setup t p c past after links (serves setup t before w acted.entries) (after_turn w thread links log)
+acted_at setup t p c past before after w thread links log a acted tickets appends =
     let es : List Entry = acted.entries in
     let es-are : links.entries ≡ es = acted.added ∙ ap (λ (xs : List Entry). xs ++ es) a.empty in
     let setup-is : setup_of w.thread ≡ setup = a.given in
@@ -235,12 +245,19 @@ acted_at setup t p c before after w thread links log a acted tickets appends =
         empty = refl;
         log_thread = appends.thread ∙ a.log_thread;
         log_entries =
-            appends.entries ∙ ap₂ (λ (xs ys : List Entry). xs ++ ys) a.log_entries added-is
+            ap (λ (xs : List Entry). past.entries ++ xs) appends.entries
+            ∙ sym (append_assoc past.entries w.log.entries (restamped w.log.thread w.log.last (acts_of links.entries)))
+            ∙ ap₂ (λ (xs ys : List Entry). xs ++ ys) a.log_entries added-is
             ∙ ap (λ (xs : List Entry). xs ++ added) (map-append entry_of p.earlier c.rows)
             ∙ append_assoc (entries p.earlier) (entries c.rows) added
             ∙ ap (λ (xs : List Entry). entries p.earlier ++ xs) (sym on.longer.rows)
             ∙ sym (map-append entry_of p.earlier on.course.rows);
         log_last = last ∙ ap (λ (n : ℕ). n + length added) a.log_last ∙ sym on.longer.last;
+        later =
+            subst (λ (xs : List Entry). AllByRecursion (λ x. past.met < x.stamp) xs) (sym appends.entries)
+            (all_append (λ x. past.met < x.stamp) w.log.entries (restamped w.log.thread w.log.last (acts_of links.entries)) a.later
+            (restamped_later past.met w.log.thread w.log.last (acts_of links.entries) a.met));
+        met = (let m : past.met ≤ w.log.last = a.met in omega (arith, m, last));
         once = λ dev. subst (λ (n : ℕ). n ≤ 1) (sym (over_keeps_bases setup before t l es after l' over dev)) (a.once dev);
         replica =
             over_registry setup t before l es after l' over
@@ -293,16 +310,16 @@ pub goes_alone : {D : Type 0} (state : D → DiskState) (before after : List (De
     → GoesAlone state before after w (after_turn w thread links log)
 goes_alone {D} state before after w thread links log acted keeps appends = (
   over_shut w.thread.setup.now w.thread.me (contents_of state before) (local w.thread w.links) over.entries (contents_of state after) (local thread links) over.leads,
-  λ setup t p c a. on setup t p c a,
+  λ setup t p c past a. on setup t p c past a,
 )
   where
     over : WentOver (contents_of state before) (contents_of state after) w.thread w.links thread links
     over = acted.went.went
 
-    on : (setup : Setup) (t : ℕ) (p : Phase) (c : Course) → IsAt setup t p c (contents_of state before) w → WentAlone state setup t p c before after (after_turn w thread links log)
-    on setup t p c a =
-        let acts : Acts setup t p c (contents_of state after) links (serves setup t (contents_of state before) w over.entries) (after_turn w thread links log) =
-        acted_at setup t p c (contents_of state before) (contents_of state after) w thread links log a over (keeps a.tickets) appends.log_is in
+    on : (setup : Setup) (t : ℕ) (p : Phase) (c : Course) (past : Past) → IsAt setup t p c past (contents_of state before) w → WentAlone state setup t p c past before after (after_turn w thread links log)
+    on setup t p c past a =
+        let acts : Acts setup t p c past (contents_of state after) links (serves setup t (contents_of state before) w over.entries) (after_turn w thread links log) =
+        acted_at setup t p c past (contents_of state before) (contents_of state after) w thread links log a over (keeps a.tickets) appends.log_is in
         record {
           course = acts.course;
           at = acts.at;
@@ -316,8 +333,8 @@ goes_alone {D} state before after w thread links log acted keeps appends = (
         }
 
 -- a worker's turn may be taken: there is a queue for its thread
-pub has_queue : (setup : Setup) (t : ℕ) (p : Phase) (c : Course) (contents : DevId → Content) (w : Worker) → IsAt setup t p c contents w → number_of w.thread < vec_len w.links.queues
-has_queue setup t p c contents w a = subst (λ (n : ℕ). n < vec_len w.links.queues) (sym a.number) (subst (λ (n : ℕ). t < n) (sym a.queues) a.within)
+pub has_queue : (setup : Setup) (t : ℕ) (p : Phase) (c : Course) (past : Past) (contents : DevId → Content) (w : Worker) → IsAt setup t p c past contents w → number_of w.thread < vec_len w.links.queues
+has_queue setup t p c past contents w a = subst (λ (n : ℕ). n < vec_len w.links.queues) (sym a.number) (subst (λ (n : ℕ). t < n) (sym a.queues) a.within)
 
 -- what holds of each holds at each place
 all_of : (t : ℕ) (es : List Entry) → AllByRecursion (λ e. e.thread ≡ t) es → All (λ e. e.thread ≡ t) es
@@ -333,12 +350,12 @@ module _ {D : Type 0} (state : D → DiskState) (before after : List (DevId × D
   abbrev pub caught_up : Worker
   caught_up = with_replica (with_last w (max w.log.last lent.last)) r
 
-  pub caught_up_then : (setup : Setup) (t : ℕ) (p : Phase) (c : Course) → IsAt setup t p c (contents_of state before) w → IsLent setup t c seen lent
-      → IsAt setup t p (record c { seen = lent.journal; last = max w.log.last lent.last }) (contents_of state before) caught_up
-  caught_up_then setup t p c a lends =
+  pub caught_up_then : (setup : Setup) (t : ℕ) (p : Phase) (c : Course) (past : Past) → IsAt setup t p c past (contents_of state before) w → IsLent setup t c seen lent
+      → IsAt setup t p (record c { seen = lent.journal; last = max w.log.last lent.last }) past (contents_of state before) caught_up
+  caught_up_then setup t p c past a lends =
       let last : ℕ = max w.log.last lent.last in
       let later : c.last ≤ last = subst (λ (n : ℕ). n ≤ last) a.log_last (le-max_left w.log.last lent.last) in
-      caught_up_at setup t p (record c { last = last }) (contents_of state before) (with_last w last) seen lent r (met_at setup t p c (contents_of state before) w last later a)
+      caught_up_at setup t p (record c { last = last }) past (contents_of state before) (with_last w last) seen lent r (met_at setup t p c past (contents_of state before) w last later a)
       (record { start = lends.start; begins = lends.begins; own = lends.own; count = lends.count })
       (sym (leaves setup lends.start)) setup-is state-is
 
@@ -347,15 +364,15 @@ module _ {D : Type 0} (state : D → DiskState) (before after : List (DevId × D
       → GoesWith state before after seen w lent (after_turn caught_up thread links log) lent'
   goes_with acted keeps takes = (
     over_shut w.thread.setup.now w.thread.me (contents_of state before) (local w.thread caught_up.links) acted.went.entries (contents_of state after) (local thread links) acted.went.leads,
-    λ setup t p c a lends. on setup t p c a lends,
+    λ setup t p c past a lends. on setup t p c past a lends,
   )
     where
-      on : (setup : Setup) (t : ℕ) (p : Phase) (c : Course) → IsAt setup t p c (contents_of state before) w → IsLent setup t c seen lent
-          → WentWith state setup t p c before after lent (after_turn caught_up thread links log) lent'
-      on setup t p c a lends =
+      on : (setup : Setup) (t : ℕ) (p : Phase) (c : Course) (past : Past) → IsAt setup t p c past (contents_of state before) w → IsLent setup t c seen lent
+          → WentWith state setup t p c past before after lent (after_turn caught_up thread links log) lent'
+      on setup t p c past a lends =
           let c1 : Course = record c { seen = lent.journal; last = max w.log.last lent.last } in
-          let acts : Acts setup t p c1 (contents_of state after) links (serves setup t (contents_of state before) caught_up acted.went.entries) (after_turn caught_up thread links log) =
-          acted_at setup t p c1 (contents_of state before) (contents_of state after) caught_up thread links log (caught_up_then setup t p c a lends) acted.went (keeps a.tickets) takes.log_is in
+          let acts : Acts setup t p c1 past (contents_of state after) links (serves setup t (contents_of state before) caught_up acted.went.entries) (after_turn caught_up thread links log) =
+          acted_at setup t p c1 past (contents_of state before) (contents_of state after) caught_up thread links log (caught_up_then setup t p c past a lends) acted.went (keeps a.tickets) takes.log_is in
           let added : List Entry = events (restamped t c1.last (acts_of links.entries)) in
           let added-is : events (restamped caught_up.log.thread caught_up.log.last (acts_of links.entries)) ≡ added = ap (λ (n : ℕ). events (restamped n c1.last (acts_of links.entries))) a.log_thread in
           let journal : lent'.journal ≡ lent.journal ++ added = takes.journal ∙ ap (λ (es : List Entry). lent.journal ++ es) added-is in

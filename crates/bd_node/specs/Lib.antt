@@ -5,3 +5,4 @@ pub mod Whole
 pub mod Starting
 pub mod Shutting
 pub mod Waits
+pub mod Gathering

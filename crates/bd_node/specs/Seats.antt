@@ -1,8 +1,10 @@
 -- Seats: each thread of a node with what it has for itself and its passes, and when it is on its course.
-use Rattle.std.specs.Prelude.{◌≡◌, ℕ, ◌+◌, ◌<◌, Bool, true, false, List, [], length, vec_len, slice_index_or, Option, Some, None}
+use Rattle.std.specs.Prelude.{◌≡◌, ℕ, ◌+◌, ◌<◌, ◌≤◌, ◌++◌, Bool, true, false, List, [], length, vec_len, slice_index_or, Option, Some, None}
+use Rattle.std.specs.List.{AllByRecursion}
 use Rattle.bd_base.specs.declared.act.Entry.{Entry}
 use Rattle.bd_base.specs.declared.id.DevId.{DevId}
 use Rattle.bd_base.specs.declared.setup.Setup.{Setup}
+use Rattle.bd_disks.specs.Rows.{places}
 use Rattle.bd_log.specs.Merge.{entries_of}
 use Rattle.bd_machine.specs.declared.state.Content.{Content}
 use Rattle.bd_machine.specs.Start.{registry_at_start}
@@ -26,14 +28,21 @@ use Rattle.bd_node.specs.declared.seat.Seat.{Seat}
 use Rattle.bd_node.specs.declared.worker.Worker.{Worker}
 use Rattle.bd_node.specs.Disks.{AddsServed}
 
+-- ---- what was handed out
+
+-- what was handed out of a thread's log so far, and a stamp that all its later entries are above
+pub record Past : Type 0 where
+  pub entries : List Entry
+  pub met : ℕ
+
 -- ---- a worker
 
 -- what its thread sees and has for itself, where its disks hold this
 abbrev pub seen_over : Setup → (DevId → Content) → Worker → Local
 seen_over setup contents w = told_local setup contents (local w.thread w.links)
 
--- thread t of the setup, with its links and its log, is at this place of its course, where its disks hold this
-pub record IsAt (setup : Setup) (t : ℕ) (p : Phase) (c : Course) (contents : DevId → Content) (w : Worker) : Type 0 where
+-- thread t of the setup, with its links and its log, of which this was handed out, is at this place of its course, where its disks hold this
+pub record IsAt (setup : Setup) (t : ℕ) (p : Phase) (c : Course) (past : Past) (contents : DevId → Content) (w : Worker) : Type 0 where
   pub me : w.me ≡ t
   pub number : number_of w.thread ≡ t
   pub given : setup_of w.thread ≡ setup
@@ -44,8 +53,10 @@ pub record IsAt (setup : Setup) (t : ℕ) (p : Phase) (c : Course) (contents : D
   -- what a turn did is in the log alone
   pub empty : w.links.entries ≡ []
   pub log_thread : w.log.thread ≡ t
-  pub log_entries : w.log.entries ≡ entries (all_rows p c)
+  pub log_entries : past.entries ++ w.log.entries ≡ entries (all_rows p c)
   pub log_last : w.log.last ≡ c.last
+  pub later : AllByRecursion (λ x. past.met < x.stamp) w.log.entries
+  pub met : past.met ≤ w.log.last
   -- each device has one base at most, and the registry is what the journal leaves of which it saw the rows
   pub once : (dev : DevId) → IsOnce dev w.thread.part.bases
   pub replica : w.links.registry.state ≡ registry_by setup (registry_at_start setup) c.seen
@@ -58,8 +69,9 @@ pub record IsWorking (w : Worker) : Type 0 where
   pub t : ℕ
   pub p : Phase
   pub c : Course
+  pub past : Past
   pub contents : DevId → Content
-  pub at : IsAt setup t p c contents w
+  pub at : IsAt setup t p c past contents w
 
 -- the same messages came and went
 pub record HasSamePosts (c c' : Course) : Type 0 where
@@ -68,9 +80,9 @@ pub record HasSamePosts (c c' : Course) : Type 0 where
 
 -- without the registry: wherever it was on its course, it is further on it, and its disks, which were the first before and are the second after,
 -- did what the course says
-pub record WentAlone {D : Type 0} (state : D → DiskState) (setup : Setup) (t : ℕ) (p : Phase) (c : Course) (before after : List (DevId × D)) (new : Worker) : Type 0 where
+pub record WentAlone {D : Type 0} (state : D → DiskState) (setup : Setup) (t : ℕ) (p : Phase) (c : Course) (past : Past) (before after : List (DevId × D)) (new : Worker) : Type 0 where
   pub course : Course
-  pub at : IsAt setup t p course (contents_of state after) new
+  pub at : IsAt setup t p course past (contents_of state after) new
   pub posts : HasSamePosts c course
   pub seen : course.seen ≡ c.seen
   pub did : AddsServed state setup c course before after
@@ -78,7 +90,8 @@ pub record WentAlone {D : Type 0} (state : D → DiskState) (setup : Setup) (t :
 abbrev pub GoesAlone : {D : Type 0} → (D → DiskState) → List (DevId × D) → List (DevId × D) → Worker → Worker → Type 0
 GoesAlone state before after old new =
     (new.links.shut ≡ old.links.shut)
-    × ((setup : Setup) (t : ℕ) (p : Phase) (c : Course) → IsAt setup t p c (contents_of state before) old → WentAlone state setup t p c before after new)
+    × ((setup : Setup) (t : ℕ) (p : Phase) (c : Course) (past : Past) → IsAt setup t p c past (contents_of state before) old
+    → WentAlone state setup t p c past before after new)
 
 -- ---- what an answer tells
 
@@ -119,14 +132,15 @@ pub record IsLentTo (w : Worker) (seen : ℕ) (lent : Registered) : Type 0 where
   pub t : ℕ
   pub p : Phase
   pub c : Course
+  pub past : Past
   pub contents : DevId → Content
-  pub at : IsAt setup t p c contents w
+  pub at : IsAt setup t p c past contents w
   pub lent_is : IsLent setup t c seen lent
 
 -- it saw the registry's journal to its end, in which it put rows of its own alone, and its disks did what its course says
-pub record WentWith {D : Type 0} (state : D → DiskState) (setup : Setup) (t : ℕ) (p : Phase) (c : Course) (before after : List (DevId × D)) (lent : Registered) (new : Worker) (lent' : Registered) : Type 0 where
+pub record WentWith {D : Type 0} (state : D → DiskState) (setup : Setup) (t : ℕ) (p : Phase) (c : Course) (past : Past) (before after : List (DevId × D)) (lent : Registered) (new : Worker) (lent' : Registered) : Type 0 where
   pub course : Course
-  pub at : IsAt setup t p course (contents_of state after) new
+  pub at : IsAt setup t p course past (contents_of state after) new
   pub posts : HasSamePosts c course
   pub seen : course.seen ≡ lent'.journal
   pub adds : AddsOwn t lent.journal lent'.journal
@@ -136,8 +150,8 @@ pub record WentWith {D : Type 0} (state : D → DiskState) (setup : Setup) (t : 
 abbrev pub GoesWith : {D : Type 0} → (D → DiskState) → List (DevId × D) → List (DevId × D) → ℕ → Worker → Registered → Worker → Registered → Type 0
 GoesWith state before after seen old lent new lent' =
     (new.links.shut ≡ old.links.shut)
-    × ((setup : Setup) (t : ℕ) (p : Phase) (c : Course) → IsAt setup t p c (contents_of state before) old → IsLent setup t c seen lent
-    → WentWith state setup t p c before after lent new lent')
+    × ((setup : Setup) (t : ℕ) (p : Phase) (c : Course) (past : Past) → IsAt setup t p c past (contents_of state before) old → IsLent setup t c seen lent
+    → WentWith state setup t p c past before after lent new lent')
 
 -- ---- a seat
 
@@ -153,10 +167,10 @@ made_by s = made_in s.worker
 abbrev pub HasSameEntries : {D : Type 0} → Seat D → Seat D → Type 0
 HasSameEntries old new = entries_in new ≡ entries_in old
 
--- thread t of the setup sits with its passes for these wires, at this place of its course; these were its disks at their opening, and they did just the
--- pieces that the course says
-pub record IsSeat {D : Type 0} (state : D → DiskState) (setup : Setup) (t : ℕ) (p : Phase) (c : Course) (w : Wires) (opened : List (DevId × D)) (s : Seat D) : Type 0 where
-  pub worker : IsAt setup t p c (contents_of state s.disks) s.worker
+-- thread t of the setup sits with its passes for these wires, at this place of its course; this was handed out of its log; these were its disks at
+-- their opening, and they did just the pieces that the course says
+pub record IsSeat {D : Type 0} (state : D → DiskState) (setup : Setup) (t : ℕ) (p : Phase) (c : Course) (past : Past) (w : Wires) (opened : List (DevId × D)) (s : Seat D) : Type 0 where
+  pub worker : IsAt setup t p c past (contents_of state s.disks) s.worker
   pub linked : IsLinked setup.threads w t s.passes
   pub start : s.passes.slot.start ≡ start_of setup
   pub taken : s.passes.take.taken ≡ c.taken
@@ -167,39 +181,46 @@ pub record IsSeat {D : Type 0} (state : D → DiskState) (setup : Setup) (t : �
   pub done : AreDoneBy state setup c.served opened s.disks
 
 -- thread t of the setup sits, in this phase of its course
-pub record Sits {D : Type 0} (state : D → DiskState) (setup : Setup) (t : ℕ) (p : Phase) (w : Wires) (opened : List (DevId × D)) (s : Seat D) : Type 0 where
+pub record Sits {D : Type 0} (state : D → DiskState) (setup : Setup) (t : ℕ) (p : Phase) (past : Past) (w : Wires) (opened : List (DevId × D)) (s : Seat D) : Type 0 where
   pub course : Course
-  pub seat : IsSeat state setup t p course w opened s
+  pub seat : IsSeat state setup t p course past w opened s
 
 -- the number of the thread that it says it is
 abbrev pub number_in : {D : Type 0} → Seat D → ℕ
 number_in s = s.worker.me
 
--- some thread sits, in some phase, whatever its disks were at their opening
+-- some thread sits, in some phase, whatever was handed out of its log, and whatever its disks were at their opening
 pub record IsSitting {D : Type 0} (state : D → DiskState) (w : Wires) (s : Seat D) : Type 0 where
   pub setup : Setup
   pub t : ℕ
   pub p : Phase
+  pub past : Past
   pub opened : List (DevId × D)
-  pub sits : Sits state setup t p w opened s
+  pub sits : Sits state setup t p past w opened s
 
 -- it sits, unless it has to halt
 abbrev pub SitsOrHalts : {D : Type 0} → (D → DiskState) → Wires → Seat D → Type 0
 SitsOrHalts state w s = s.halted ≡ None → IsSitting state w s
 
--- whoever sat there, whatever its disks were at their opening, sits there still, further on its course
+-- whoever sat there, whatever was handed out and whatever its disks were at their opening, sits there still, further on its course
 pub record Continues {D : Type 0} (state : D → DiskState) (w : Wires) (old new : Seat D) : Type 0 where
   pub flag : new.worker.links.shut ≡ old.worker.links.shut
   pub halted : new.halted ≡ old.halted
-  pub sits : (setup : Setup) (t : ℕ) (p : Phase) (opened : List (DevId × D)) → Sits state setup t p w opened old → Sits state setup t p w opened new
+  pub sits : (setup : Setup) (t : ℕ) (p : Phase) (past : Past) (opened : List (DevId × D)) → Sits state setup t p past w opened old
+      → Sits state setup t p past w opened new
 
 -- whichever the wires
 abbrev pub KeepsOn : {D : Type 0} → (D → DiskState) → Seat D → Seat D → Type 0
 KeepsOn state old new = (w : Wires) → Continues state w old new
 
--- unless it has to halt
-abbrev pub WentOn : {D : Type 0} → (D → DiskState) → Wires → Seat D → Seat D → Type 0
-WentOn state w old new = new.halted ≡ None → Continues state w old new
+-- the same disks are there, whatever they hold
+abbrev pub HasSameDisks : {D : Type 0} → (D → DiskState) → Seat D → Seat D → Type 0
+HasSameDisks state old new = places state new.disks ≡ places state old.disks
+
+-- the same disks are there however it went, and it went on unless it has to halt
+pub record WentOn {D : Type 0} (state : D → DiskState) (w : Wires) (old new : Seat D) : Type 0 where
+  pub kept : HasSameDisks state old new
+  pub on : new.halted ≡ None → Continues state w old new
 
 abbrev pub AllWentOn : {D : Type 0} → (D → DiskState) → Wires → List (Seat D) → List (Seat D) → Type 0
 AllWentOn {D} state w old new = (i : ℕ) (d : Seat D) → i < length old → WentOn state w (slice_index_or old i d) (slice_index_or new i d)

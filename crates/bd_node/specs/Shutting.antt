@@ -16,14 +16,14 @@ use Rattle.bd_wires.specs.declared.wires.Wires.{Wires}
 use Rattle.bd_node.specs.declared.node.Node.{Node}
 use Rattle.bd_node.specs.declared.seat.Seat.{Seat}
 use Rattle.bd_node.specs.declared.worker.Worker.{Worker}
-use Rattle.bd_node.specs.Seats.{entries_in, seen_over, HasSamePosts, IsAt, IsLent, IsSeat}
+use Rattle.bd_node.specs.Seats.{entries_in, seen_over, HasSamePosts, IsAt, IsLent, IsSeat, Past}
 
 -- ---- a worker
 
 -- thread 0 has the Shutdown with this stamp in its log, and the registry in its journal, which the thread saw to its end
-pub record ShutWith (setup : Setup) (p : Phase) (c : Course) (contents : DevId → Content) (stamp : ℕ) (old : Worker) (lent : Registered) (new : Worker) (lent' : Registered) : Type 0 where
+pub record ShutWith (setup : Setup) (p : Phase) (c : Course) (past : Past) (contents : DevId → Content) (stamp : ℕ) (old : Worker) (lent : Registered) (new : Worker) (lent' : Registered) : Type 0 where
   pub course : Course
-  pub at : IsAt setup 0 (second_phase stamp 0 p c (seen_over setup contents old)) course contents new
+  pub at : IsAt setup 0 (second_phase stamp 0 p c (seen_over setup contents old)) course past contents new
   pub posts : HasSamePosts c course
   pub served : course.served ≡ c.served
   pub seen : course.seen ≡ lent'.journal
@@ -35,7 +35,8 @@ pub record ShutsWith (seen met : ℕ) (old : Worker) (lent : Registered) (stamp 
   pub above : met < stamp
   pub later : old.log.last < stamp
   pub entries : new.log.entries ≡ old.log.entries ++ record { stamp = stamp; thread = old.log.thread; act = acts.Shutdown } ∷ []
-  pub at : (setup : Setup) (p : Phase) (c : Course) (contents : DevId → Content) → IsAt setup 0 p c contents old → IsLent setup 0 c seen lent → ShutWith setup p c contents stamp old lent new lent'
+  pub at : (setup : Setup) (p : Phase) (c : Course) (past : Past) (contents : DevId → Content) → IsAt setup 0 p c past contents old → IsLent setup 0 c seen lent
+      → ShutWith setup p c past contents stamp old lent new lent'
 
 -- ---- a seat
 
@@ -44,16 +45,17 @@ abbrev pub shutdown_by : ℕ → ℕ → List Entry
 shutdown_by stamp t = cond (t == 0) (shutdown_at stamp ∷ []) []
 
 -- a Shutdown came with this stamp: whoever sat there, at some place of its course, sits there in the phase after it
-pub record IsShutAt {D : Type 0} (state : D → DiskState) (setup : Setup) (t : ℕ) (p : Phase) (c : Course) (stamp : ℕ) (w : Wires) (opened : List (DevId × D)) (old new : Seat D) : Type 0 where
+pub record IsShutAt {D : Type 0} (state : D → DiskState) (setup : Setup) (t : ℕ) (p : Phase) (c : Course) (past : Past) (stamp : ℕ) (w : Wires) (opened : List (DevId × D)) (old new : Seat D) : Type 0 where
   pub course : Course
-  pub seat : IsSeat state setup t (second_phase stamp t p c (seen_over setup (contents_of state old.disks) old.worker)) course w opened new
+  pub seat : IsSeat state setup t (second_phase stamp t p c (seen_over setup (contents_of state old.disks) old.worker)) course past w opened new
 
 pub record Shuts {D : Type 0} (state : D → DiskState) (w : Wires) (stamp : ℕ) (old new : Seat D) : Type 0 where
   pub flag : new.worker.links.shut ≡ true
   pub halted : new.halted ≡ old.halted
   pub later : old.worker.log.last < stamp
   pub entries : entries_in new ≡ entries_in old ++ shutdown_by stamp old.worker.me
-  pub sits : (setup : Setup) (t : ℕ) (p : Phase) (c : Course) (opened : List (DevId × D)) → IsSeat state setup t p c w opened old → IsShutAt state setup t p c stamp w opened old new
+  pub sits : (setup : Setup) (t : ℕ) (p : Phase) (c : Course) (past : Past) (opened : List (DevId × D)) → IsSeat state setup t p c past w opened old
+      → IsShutAt state setup t p c past stamp w opened old new
 
 -- so it is with any wires
 abbrev pub LearnsShut : {D : Type 0} → ℕ → Seat D → Seat D → Type 0
@@ -65,14 +67,19 @@ AreToLearn {D} stamp seats = (i : ℕ) (s : Seat D) → 0 < i → slice_get seat
 
 -- ---- a node
 
--- each thread's log is as before, but that of thread 0 has the Shutdown more
+-- each thread's log is as before, but that of thread 0 has the Shutdown more, and the trace is as before
 pub record AddsShutdown {D : Type 0} (old new : Node D) : Type 0 where
   pub stamp : ℕ
+  pub trace : new.trace.items ≡ old.trace.items
   pub each : (t : ℕ) (a b : Seat D) → slice_get old.seats.items t ≡ Some a → slice_get new.seats.items t ≡ Some b → entries_in b ≡ entries_in a ++ shutdown_by stamp t
 
--- its seats, its wires, its schedule, and whether the Shutdown came
+-- nothing happened in it: its seats, its wires, its schedule, its trace, its counter, its shelf, and whether the Shutdown came
 pub record IsUnchanged {D : Type 0} (old new : Node D) : Type 0 where
   pub seats : new.seats.items ≡ old.seats.items
   pub wires : new.wires ≡ old.wires
   pub schedule : new.schedule ≡ old.schedule
+  pub trace : new.trace.items ≡ old.trace.items
+  pub counter : new.counter ≡ old.counter
+  pub shelf : new.shelf.items ≡ old.shelf.items
+  pub setup : new.setup ≡ old.setup
   pub shut : new.shut ≡ old.shut

@@ -1,5 +1,5 @@
 //! Seats before any entry.
-ghost use Rattle.std.specs.Prelude.{◌≡◌, ◌<◌, ◌≤◌, ◌+◌, ◌∷◌, [], length, vec_len, IfOk, OnOk, OnErr};
+ghost use Rattle.std.specs.Prelude.{◌≡◌, ◌<◌, ◌≤◌, ◌+◌, ◌++◌, ◌∷◌, [], length, vec_len, IfOk, IsPermutation, OnOk, OnErr};
 ghost use Rattle.bd_node.specs.Disks.{disks_of};
 ghost use Rattle.bd_node.specs.Starting.{AreNewSeats, IsNewSeat};
 
@@ -15,6 +15,7 @@ use std::alloc::Global;
 /// Abandons the tickets of all seats. Their disks go on the shelf.
 pub(crate) fn abandon_all<'a, D>(seats: Vec<Seat<'a, D>>, shelf: &mut Shelf<D>)
     requires { vec_len seats + length shelf.old.items ≤ shelf.old.capacity }
+    ensures { IsPermutation (shelf.old.items ++ disks_of seats.entry.items) shelf.new.items }
 {
     let mut left = seats;
     while let Some(seat) = left.pop() {
@@ -83,6 +84,7 @@ pub(crate) fn seats_of<'a, D>(
     ensures disks { IfOk result (λ seats. disks_of seats.items ≡ shelf.old.items) }
     ensures none { IfOk result (λ _seats. shelf.new.items ≡ []) }
     ensures room { IfOk result (λ seats. vec_len seats + length shelf.new.items ≤ shelf.new.capacity) }
+    ensures kept { OnErr result (IsPermutation shelf.old.items shelf.new.items) }
 {
     let mut left = passes;
     let mut seats = Vec::new(alloc);

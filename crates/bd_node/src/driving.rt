@@ -1,5 +1,5 @@
 //! What a node does: its turns and rounds, its shutdown, and its end.
-ghost use Rattle.std.specs.Prelude.{◌≡◌, ◌<◌, ◌≤◌, ◌+◌, List, [], None, false, length, sum_by, vec_len, IfOk, MatchBool, OnOk};
+ghost use Rattle.std.specs.Prelude.{◌≡◌, ◌<◌, ◌≤◌, ◌+◌, List, [], None, false, length, sum_by, vec_len, IfErr, IfOk, IsPermutation, MatchBool, OnErr, OnOk};
 ghost use Rattle.std.specs.List.{list_all};
 ghost use Rattle.bd_apart.specs.Steps.{first_phase};
 ghost use Rattle.bd_log.specs.Merge.{IsMerge};
@@ -11,21 +11,24 @@ ghost use Rattle.bd_node.specs.Schedule.{advance, advance_by};
 ghost use Rattle.bd_node.specs.Seats.{has_moved, made_by, HasMoved, Tells};
 ghost use Rattle.bd_node.specs.Shutting.{AddsShutdown, IsUnchanged};
 ghost use Rattle.bd_node.specs.Waits.{TurnsQuietly};
-ghost use Rattle.bd_node.specs.Whole.{AreSeated, HasSameFlag, KeepsDisks, HasSameSetup, IsNode, IsNodeOf, are_all_taken, entries_made, halt_of, has_taken, is_spent, is_at_rest, is_idle, is_over, logs_of, seat_goes, seat_has_destructed, seat_has_stamps, seat_is_blocked, seat_rests, seed_of, setup_in, state_of};
+ghost use Rattle.bd_report.specs.Stats.{stats_of};
+ghost use Rattle.bd_node.specs.Whole.{disks_in, AreSeated, HasAllDisks, HasSameFlag, HasSameLogs, KeepsDisks, HasSameSetup, IsNode, IsNodeOf, are_all_taken, entries_left, entries_made, halt_of, has_taken, is_spent, is_at_rest, is_idle, is_over, logs_of, past_of, seat_goes, seat_has_destructed, seat_has_stamps, seat_is_blocked, seat_rests, seed_of, setup_in, state_of};
 
 use crate::building::{abandon_all, seats_of};
 use crate::crew::Watch;
-use crate::ending::{greatest, learn_all, take_all_apart};
-use crate::history::History;
+use crate::ending::{learn_all, take_all_apart};
+use crate::gathering::greatest;
+use crate::history::{History, Played};
 use crate::node::{Node, NodeState};
 use crate::schedule::Schedule;
 use crate::seat::Seat;
 use crate::sharing::{Deal, turn_all};
 use bd_base::{OutOfMemory, Rows, Setup};
 use bd_disks::Shelf;
-use bd_log::merge;
 use bd_outside::{Disk, Gate};
 use bd_registry::Registry;
+use bd_report::counter::Counter;
+use bd_report::stats::Stats;
 use bd_seat::SeatNo;
 use bd_thread::Turned;
 use bd_wires::{Wires, connect, disconnect};
@@ -129,12 +132,13 @@ fn seat_all<'a, R: Wait, D: Disk>(
     requires some { 0 < setup.now.threads }
     requires disks { length shelf.old.items ≡ setup.now.threads }
     requires room { setup.now.threads ≤ shelf.old.capacity }
-    ensures seated { IfOk result (λ made. AreSeated D.state setup.now made.0 shelf.old.items made.1.items false
+    ensures seated { IfOk result (λ made. AreSeated D.state setup.now made.0 shelf.old.items (past_of 0 []) made.1.items false
         (first_phase setup.now (told_of D.state setup.now shelf.old.items))) }
     ensures none { IfOk result (λ made. sum_by made_by made.1.items ≡ 0) }
     ensures disks { IfOk result (λ made. disks_of made.1.items ≡ shelf.old.items) }
     ensures empty { IfOk result (λ _made. shelf.new.items ≡ []) }
     ensures room { IfOk result (λ made. vec_len made.1 + length shelf.new.items ≤ shelf.new.capacity) }
+    ensures kept { OnErr result (IsPermutation shelf.old.items shelf.new.items) }
 {
     let registry = Registry::of(alloc, setup)?;
     let (wires, passes) = connect(rt, alloc, registry, setup.threads)?;
@@ -162,7 +166,11 @@ impl<'a, D: Disk> Node<'a, D> {
         ensures none { IfOk result (λ node. entries_made node ≡ 0) }
         ensures disks { IfOk result (λ node. disks_of node.seats.items ≡ disks.items) }
         ensures shelf { IfOk result (λ node. node.shelf.items ≡ []) }
+        ensures kept { IfErr result (λ no. IsPermutation disks.items no.1.items) }
     {
+        let Ok(counter) = Counter::new(alloc, setup) else {
+            return Err((OutOfMemory, disks));
+        };
         let mut shelf = disks;
         match seat_all(rt, alloc, setup, &mut shelf) {
             Ok((wires, seats)) => Ok(Node {
@@ -173,6 +181,8 @@ impl<'a, D: Disk> Node<'a, D> {
                 schedule: Schedule { state: seed },
                 shut: false,
                 rounds: 0,
+                trace: Vec::new(alloc),
+                counter,
                 shelf,
             }),
             Err(OutOfMemory) => Err((OutOfMemory, shelf)),
@@ -190,6 +200,7 @@ impl<'a, D: Disk> Node<'a, D> {
         ensures quiet { IfOk result (TurnsQuietly thread self.old self.new) }
         ensures none { (setup_in self.old).threads ≤ thread → OnOk result (self.new ≡ self.old) }
         ensures disks { OnOk result (KeepsDisks D.state self.old self.new) }
+        ensures kept { HasAllDisks D.state self.old self.new }
     {
         let place = thread as usize;
         if place >= self.seats.len() {
@@ -207,6 +218,7 @@ impl<'a, D: Disk> Node<'a, D> {
         ensures flag { OnOk result (HasSameFlag self.old self.new) }
         ensures schedule { OnOk result (seed_of self.new ≡ advance (seed_of self.old)) }
         ensures disks { OnOk result (KeepsDisks D.state self.old self.new) }
+        ensures kept { HasAllDisks D.state self.old self.new }
         ensures moved { IfOk result (HasMoved (entries_made self.old) (entries_made self.new)) }
     {
         let thread = self.schedule.next(self.setup.threads);
@@ -214,14 +226,15 @@ impl<'a, D: Disk> Node<'a, D> {
         Ok(has_moved(turned))
     }
 
-    /// 256 turns by the schedule, which goes on from call to call. True where some turn moved.
-    pub fn round_by<R: Wait>(&mut self, rt: &R) -> Result<bool, SeatNo>
+    // 256 turns by the schedule. True where some turn moved.
+    fn turn_by_schedule<R: Wait>(&mut self, rt: &R) -> Result<bool, SeatNo>
         requires { IsNode D.state self.old }
         ensures node { OnOk result (IsNode D.state self.new) }
         ensures setup { OnOk result (HasSameSetup self.old self.new) }
         ensures flag { OnOk result (HasSameFlag self.old self.new) }
         ensures schedule { OnOk result (seed_of self.new ≡ advance_by 256 (seed_of self.old)) }
         ensures disks { OnOk result (KeepsDisks D.state self.old self.new) }
+        ensures kept { HasAllDisks D.state self.old self.new }
         ensures moved { IfOk result (HasMoved (entries_made self.old) (entries_made self.new)) }
     {
         let mut moved = false;
@@ -231,16 +244,29 @@ impl<'a, D: Disk> Node<'a, D> {
         }
         Ok(moved)
     }
+
+    /// 256 turns by the schedule, which goes on from call to call, and then what they did is gathered. True where some
+    /// turn moved.
+    pub fn round_by<R: Wait>(&mut self, rt: &R) -> Result<bool, SeatNo>
+        requires { IsNode D.state self.old }
+        ensures node { OnOk result (IsNode D.state self.new) }
+        ensures setup { OnOk result (HasSameSetup self.old self.new) }
+        ensures flag { OnOk result (HasSameFlag self.old self.new) }
+        ensures schedule { OnOk result (seed_of self.new ≡ advance_by 256 (seed_of self.old)) }
+        ensures disks { OnOk result (KeepsDisks D.state self.old self.new) }
+        ensures moved { IfOk result (HasMoved (entries_made self.old) (entries_made self.new)) }
+        ensures gathered { OnOk result (entries_left self.new ≡ 0) }
+        ensures kept { HasAllDisks D.state self.old self.new }
+    {
+        let moved = self.turn_by_schedule(rt)?;
+        self.gather()?;
+        Ok(moved)
+    }
 }
 
 impl<'a, D: Disk + Send> Node<'a, D> {
-    /// A round: this number of reactors (from 1 on; else one) share the threads by turns, of N reactors number r
-    /// has those whose number is r modulo N. No reactor has more than (threads / reactors, rounded up): the last
-    /// may have fewer, and some none. Where there are more than one they run beside each other, if the system has
-    /// threads for them. A reactor goes over its threads, a turn each, and after each that moved one more for the
-    /// first, and passes the gate before each turn, until none of them moved in a pass while no other reactor was
-    /// at work, or until they moved in 256 passes.
-    pub fn round<R: Threads + Wait + Sync, G: Gate + Sync>(
+    // Each seat has its turns of a round, by so many reactors.
+    fn turn_in_round<R: Threads + Wait + Sync, G: Gate + Sync>(
         &mut self,
         rt: &R,
         reactors: u32,
@@ -252,6 +278,7 @@ impl<'a, D: Disk + Send> Node<'a, D> {
         ensures flag { OnOk result (HasSameFlag self.old self.new) }
         ensures schedule { OnOk result (seed_of self.new ≡ seed_of self.old) }
         ensures disks { OnOk result (KeepsDisks D.state self.old self.new) }
+        ensures kept { HasAllDisks D.state self.old self.new }
     {
         self.rounds = self.rounds.saturating_add(1);
         let deal = Deal::of(self.setup.threads, reactors);
@@ -269,6 +296,32 @@ impl<'a, D: Disk + Send> Node<'a, D> {
         } else {
             Err(halt_of(self.seats.as_slice()))
         }
+    }
+
+    /// A round: this number of reactors (from 1 on; else one) share the threads by turns, of N reactors number r
+    /// has those whose number is r modulo N. No reactor has more than (threads / reactors, rounded up): the last
+    /// may have fewer, and some none. Where there are more than one they run beside each other, if the system has
+    /// threads for them. A reactor goes over its threads, a turn each, and after each that moved one more for the
+    /// first, and passes the gate before each turn, until none of them moved in a pass while no other reactor was
+    /// at work, or until they moved in 256 passes. Then what they did is gathered.
+    pub fn round<R: Threads + Wait + Sync, G: Gate + Sync>(
+        &mut self,
+        rt: &R,
+        reactors: u32,
+        gate: &G,
+    ) -> Result<(), SeatNo>
+        requires { IsNode D.state self.old }
+        ensures node { OnOk result (IsNode D.state self.new) }
+        ensures setup { OnOk result (HasSameSetup self.old self.new) }
+        ensures flag { OnOk result (HasSameFlag self.old self.new) }
+        ensures schedule { OnOk result (seed_of self.new ≡ seed_of self.old) }
+        ensures disks { OnOk result (KeepsDisks D.state self.old self.new) }
+        ensures gathered { OnOk result (entries_left self.new ≡ 0) }
+        ensures kept { HasAllDisks D.state self.old self.new }
+    {
+        self.turn_in_round(rt, reactors, gate)?;
+        self.gather()?;
+        Ok(())
     }
 }
 
@@ -320,6 +373,7 @@ impl<'a, D: Disk> Node<'a, D> {
         ensures shut { IfOk result (λ shut. self.new.shut ≡ shut) }
         ensures logs { IfOk result (λ shut. MatchBool shut (AddsShutdown self.old self.new) (IsUnchanged self.old self.new)) }
         ensures disks { OnOk result (KeepsDisks D.state self.old self.new) }
+        ensures kept { HasAllDisks D.state self.old self.new }
     {
         let above = greatest(self.seats.as_slice());
         let first = &mut self.seats[0];
@@ -331,17 +385,54 @@ impl<'a, D: Disk> Node<'a, D> {
         Ok(true)
     }
 
-    /// The history of a run that is complete: the threads' logs, merged by stamp and thread. The disks are given
-    /// back, also where there was no memory for the history.
-    pub fn settle<R: Wait>(self, rt: &R) -> (Result<History, OutOfMemory>, Shelf<D>)
+    /// The history of a run that is complete, with its statistics: all that the threads did, merged by stamp and
+    /// thread. The disks are given back, also where there was no memory for the history.
+    pub fn settle<R: Wait>(self, rt: &R) -> (Result<Played, OutOfMemory>, Shelf<D>)
         requires node { IsNode D.state self }
         requires done { state_of self ≡ NodeState.Done }
-        ensures merged { IfOk result.0 (λ history. IsMerge (logs_of self.entry) history) }
+        ensures merged { IfOk result.0 (λ run. IsMerge (logs_of self.entry) run.history) }
+        ensures counted { IfOk result.0 (λ run. run.stats ≡ stats_of (setup_in self.entry) run.history) }
         ensures complete { (starts : List (List (DevId × D))) → IsNodeOf D.state starts self.entry → AreBasesLowest (setup_in self.entry)
-            → IfOk result.0 (λ history. IsCompleteRun (setup_in self.entry) (told_of D.state (setup_in self.entry) starts) history) }
+            → IfOk result.0 (λ run. IsCompleteRun (setup_in self.entry) (told_of D.state (setup_in self.entry) starts) run.history) }
         ensures disks { (starts : List (List (DevId × D))) → self.entry.shelf.items ≡ []
             → IsNodeOf D.state starts self.entry → AreBasesLowest (setup_in self.entry)
-            → IfOk result.0 (λ history. SaysOfDisks D.state (setup_in self.entry) history starts result.1.items) }
+            → IfOk result.0 (λ run. SaysOfDisks D.state (setup_in self.entry) run.history starts result.1.items) }
+        ensures kept { IsPermutation (disks_in self.entry) result.1.items }
+    {
+        let mut node = self;
+        match node.gather_and_count() {
+            Ok(stats) => node.end(rt, stats),
+            Err(OutOfMemory) => (Err(OutOfMemory), node.abandon()),
+        }
+    }
+
+    // What is still in the logs is gathered too; the statistics of all of it.
+    fn gather_and_count(&mut self) -> Result<Stats, OutOfMemory>
+        requires { IsNode D.state self.old }
+        ensures node { OnOk result (IsNode D.state self.new) }
+        ensures same { OnOk result (HasSameLogs self.old self.new) }
+        ensures disks { OnOk result (KeepsDisks D.state self.old self.new) }
+        ensures left { OnOk result (entries_left self.new ≡ 0) }
+        ensures stats { IfOk result (λ stats. stats ≡ stats_of (setup_in self.new) self.new.trace.items) }
+        ensures kept { disks_in self.new ≡ disks_in self.old }
+    {
+        self.gather()?;
+        self.counter.stats()
+    }
+
+    // The history of a complete run of which all is gathered, with these statistics.
+    fn end<R: Wait>(self, rt: &R, stats: Stats) -> (Result<Played, OutOfMemory>, Shelf<D>)
+        requires node { IsNode D.state self }
+        requires done { state_of self ≡ NodeState.Done }
+        requires left { entries_left self ≡ 0 }
+        ensures history { IfOk result.0 (λ run. run.history ≡ self.entry.trace.items) }
+        ensures stats { IfOk result.0 (λ run. run.stats ≡ stats) }
+        ensures complete { (starts : List (List (DevId × D))) → IsNodeOf D.state starts self.entry → AreBasesLowest (setup_in self.entry)
+            → IfOk result.0 (λ run. IsCompleteRun (setup_in self.entry) (told_of D.state (setup_in self.entry) starts) run.history) }
+        ensures disks { (starts : List (List (DevId × D))) → self.entry.shelf.items ≡ []
+            → IsNodeOf D.state starts self.entry → AreBasesLowest (setup_in self.entry)
+            → IfOk result.0 (λ run. SaysOfDisks D.state (setup_in self.entry) run.history starts result.1.items) }
+        ensures kept { IsPermutation (disks_in self.entry) result.1.items }
     {
         let Node {
             alloc,
@@ -351,25 +442,27 @@ impl<'a, D: Disk> Node<'a, D> {
             schedule: _,
             shut: _,
             rounds: _,
+            trace,
+            counter: _,
             shelf,
         } = self;
         let mut shelf = shelf;
-        let (logs, passes) = match take_all_apart(alloc, seats, &mut shelf) {
+        let passes = match take_all_apart(alloc, seats, &mut shelf) {
             Ok(taken) => taken,
             Err(OutOfMemory) => return (Err(OutOfMemory), shelf),
         };
         let registry = disconnect(rt, wires, passes);
         let _journal = registry.journal();
-        match merge(alloc, logs) {
-            Ok(merged) => (Ok(History::of(Rows::from_vec(merged))), shelf),
-            Err(OutOfMemory) => (Err(OutOfMemory), shelf),
-        }
+        let history = History::of(Rows::from_vec(trace));
+        (Ok(Played { history, stats }), shelf)
     }
 }
 
 impl<'a, D> Node<'a, D> {
-    /// Abandons every ticket, where the run halts, and gives the disks back.
-    pub fn abandon(self) -> Shelf<D> {
+    /// Abandons every ticket, where the run halts, and gives the disks back, in some order.
+    pub fn abandon(self) -> Shelf<D>
+        ensures { IsPermutation (disks_in self.entry) result.items }
+    {
         let Node {
             alloc: _,
             setup: _,
@@ -378,6 +471,8 @@ impl<'a, D> Node<'a, D> {
             schedule: _,
             shut: _,
             rounds: _,
+            trace: _,
+            counter: _,
             shelf,
         } = self;
         let mut shelf = shelf;

@@ -1,5 +1,5 @@
 //! How a node is shut down, and its seats taken apart at the end.
-ghost use Rattle.std.specs.Prelude.{◌≡◌, ◌≢◌, ◌≤◌, ◌<◌, ◌+◌, ◌++◌, ℕ, All, Some, length, map, vec_len, slice_get, IfOk, MatchOption};
+ghost use Rattle.std.specs.Prelude.{◌≡◌, ◌≢◌, ◌≤◌, ◌<◌, ◌+◌, ◌++◌, ℕ, All, Some, length, map, vec_len, slice_get, IfOk, IsPermutation, MatchOption};
 ghost use Rattle.bd_node.specs.Disks.{disks_of};
 ghost use Rattle.bd_node.specs.Seats.{Continues, IsLentTo, IsSitting};
 ghost use Rattle.bd_node.specs.Shutting.{AreToLearn, LearnsShut, Shuts, ShutsWith};
@@ -9,7 +9,6 @@ use crate::seat::Seat;
 use crate::worker::Worker;
 use bd_base::{Act, OutOfMemory};
 use bd_disks::Shelf;
-use bd_log::Log;
 use bd_outside::Disk;
 use bd_registry::Registry;
 use bd_seat::{SeatNo, catch_up};
@@ -17,17 +16,6 @@ use bd_wires::{Passes, Wires};
 use std::alloc::Global;
 use std::collections::VecDeque;
 use std::sync::Wait;
-
-/// A stamp that no log's last is above.
-pub(crate) fn greatest<'a, D>(seats: &[Seat<'a, D>]) -> u128
-    ensures { All (λ s. s.worker.log.last ≤ result) seats.now }
-{
-    let mut greatest = 0;
-    for seat in seats {
-        greatest = greatest.max(seat.worker.log.last());
-    }
-    greatest
-}
 
 impl<'a> Worker<'a> {
     // Thread 0 shuts down, with the stamp after this one and after all of its log and of the journal of the
@@ -66,6 +54,7 @@ impl<'a, D: Disk> Seat<'a, D> {
         requires sits { IsSitting D.state wires.now self.old }
         requires first { self.old.worker.me ≡ 0 }
         ensures shut { IfOk result (λ o. MatchOption o (self.new ≡ self.old) (λ stamp. (above < stamp) × Shuts D.state wires.now stamp self.old self.new)) }
+        ensures disks { self.new.disks ≡ self.old.disks }
     {
         let Some(mut lent) = wires.slot.try_take(rt, &mut self.passes.slot) else {
             return Ok(None);
@@ -82,7 +71,8 @@ impl<'a, D> Seat<'a, D> {
     pub fn learn_shut(&mut self, stamp: u128)
         requires other { self.old.worker.me ≢ 0 }
         requires later { self.old.worker.log.last < stamp }
-        ensures { LearnsShut stamp self.old self.new }
+        ensures shut { LearnsShut stamp self.old self.new }
+        ensures disks { self.new.disks ≡ self.old.disks }
     {
         self.worker.log.meet(stamp);
         self.worker.links.shut = true;
@@ -94,6 +84,7 @@ pub(crate) fn learn_all<'a, D>(seats: &mut [Seat<'a, D>], stamp: u128)
     requires { AreToLearn stamp seats.old }
     ensures len { length seats.new ≡ length seats.old }
     ensures first { slice_get seats.new 0 ≡ slice_get seats.old 0 }
+    ensures disks { disks_of seats.new ≡ disks_of seats.old }
     ensures others { (i : ℕ) (a b : _) → 0 < i → slice_get seats.old i ≡ Some a → slice_get seats.new i ≡ Some b → LearnsShut stamp a b }
 {
     for place in 1..seats.len() {
@@ -101,27 +92,26 @@ pub(crate) fn learn_all<'a, D>(seats: &mut [Seat<'a, D>], stamp: u128)
     }
 }
 
-/// The logs and the passes of all seats, in their order. Their disks go on the shelf, and their tickets are abandoned.
+/// The passes of all seats, in their order. Their disks go on the shelf, and their tickets are abandoned.
 pub(crate) fn take_all_apart<'a, D>(
     alloc: Global,
     seats: Vec<Seat<'a, D>>,
     shelf: &mut Shelf<D>,
-) -> Result<(Vec<Log>, Vec<Passes>), OutOfMemory>
+) -> Result<Vec<Passes>, OutOfMemory>
     requires { vec_len seats + length shelf.old.items ≤ shelf.old.capacity }
-    ensures logs { IfOk result (λ r. r.0.items ≡ map (λ s. s.worker.log) seats.entry.items) }
-    ensures passes { IfOk result (λ r. r.1.items ≡ map (λ s. s.passes) seats.entry.items) }
-    ensures disks { IfOk result (λ _r. shelf.new.items ≡ shelf.old.items ++ disks_of seats.entry.items) }
+    ensures passes { IfOk result (λ passes. passes.items ≡ map (λ s. s.passes) seats.entry.items) }
+    ensures disks { IfOk result (λ _passes. shelf.new.items ≡ shelf.old.items ++ disks_of seats.entry.items) }
+    ensures kept { IsPermutation (shelf.old.items ++ disks_of seats.entry.items) shelf.new.items }
 {
-    let mut logs = Vec::new(alloc);
     let mut passes = Vec::new(alloc);
     let mut left = VecDeque::from(seats);
     while let Some(seat) = left.pop_front() {
-        let (log, own) = seat.take_apart(shelf);
-        if logs.push(log).is_err() || passes.push(own).is_err() {
+        let own = seat.take_apart(shelf);
+        if passes.push(own).is_err() {
             abandon_all(left.into(), shelf);
             return Err(OutOfMemory);
         }
     }
     left.destroy_empty();
-    Ok((logs, passes))
+    Ok(passes)
 }

@@ -2,6 +2,7 @@
 ghost use Rattle.std.specs.Prelude.{◌≡◌, [], List};
 
 use bd_base::{Entry, Rows};
+use bd_report::stats::Stats;
 use std::alloc::Global;
 use std::marker::Model;
 
@@ -51,4 +52,11 @@ impl History {
     {
         self.entries
     }
+}
+
+/// What a run came to.
+#[derive(Debug, Drop)]
+pub struct Played {
+    pub history: History,
+    pub stats: Stats,
 }

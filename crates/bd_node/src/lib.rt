@@ -6,6 +6,7 @@ mod building;
 mod crew;
 mod driving;
 mod ending;
+mod gathering;
 mod history;
 mod node;
 mod run;
@@ -16,6 +17,6 @@ mod turning;
 mod worker;
 mod working;
 
-pub use history::History;
+pub use history::{History, Played};
 pub use node::{Node, NodeState};
 pub use run::{Drive, play};

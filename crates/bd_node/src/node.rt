@@ -3,8 +3,9 @@ ghost use Rattle.std.specs.Prelude.{◌≤◌, ◌+◌, length, vec_len};
 
 use crate::schedule::Schedule;
 use crate::seat::Seat;
-use bd_base::Setup;
+use bd_base::{Entry, Setup};
 use bd_disks::Shelf;
+use bd_report::counter::Counter;
 use bd_wires::Wires;
 use std::alloc::Global;
 
@@ -28,6 +29,10 @@ pub struct Node<'a, D> {
     pub(crate) schedule: Schedule,
     pub(crate) shut: bool,
     pub(crate) rounds: u64,
+    /// What was gathered of the threads' logs, by stamp and thread.
+    pub(crate) trace: Vec<Entry>,
+    /// It has counted the trace.
+    pub(crate) counter: Counter,
     /// Where the disks go at the end.
     pub(crate) shelf: Shelf<D>,
     ghost room: { vec_len seats + length shelf.items ≤ shelf.capacity },

@@ -1,13 +1,15 @@
 //! A whole run.
 ghost use Rattle.std.specs.Prelude.{◌≡◌, ◌<◌, ◌≤◌, [], true, length, IfOk, OnOk};
+ghost use Rattle.bd_disks.specs.Shelf.{AreAllThere};
 ghost use Rattle.bd_machine.specs.Run.{IsCompleteRun};
 ghost use Rattle.bd_node.specs.declared.node.NodeState.TheVariants as states;
 ghost use Rattle.bd_node.specs.Schedule.{seed_by};
 ghost use Rattle.bd_node.specs.Disks.{told_of, SaysOfDisks};
+ghost use Rattle.bd_report.specs.Stats.{stats_of};
 ghost use Rattle.bd_told.specs.Told.{AreBasesLowest};
-ghost use Rattle.bd_node.specs.Whole.{HasSameSetup, IsNode, KeepsDisks, state_of};
+ghost use Rattle.bd_node.specs.Whole.{HasAllDisks, HasSameSetup, IsNode, KeepsDisks, state_of};
 
-use crate::history::History;
+use crate::history::Played;
 use crate::node::{Node, NodeState};
 use bd_base::{OutOfMemory, Setup};
 use bd_disks::Shelf;
@@ -39,7 +41,7 @@ impl Drive {
 }
 
 // Rounds until every script is blocked and the node was shut, and then until it is done.
-#[tactic(auto, using(crate::proofs::Histories::keeps_disks_still, crate::proofs::Histories::keeps_disks_then))]
+#[tactic(auto, using(crate::proofs::Histories::keeps_disks_still, crate::proofs::Histories::keeps_disks_then, crate::proofs::Kept::node_still))]
 fn play_out<'a, R: Threads + Wait + Sync, G: Gate + Sync, D: Disk + Send>(
     rt: &R,
     node: &mut Node<'a, D>,
@@ -51,6 +53,7 @@ fn play_out<'a, R: Threads + Wait + Sync, G: Gate + Sync, D: Disk + Send>(
     ensures setup { OnOk result (HasSameSetup node.old node.new) }
     ensures disks { OnOk result (KeepsDisks D.state node.old node.new) }
     ensures done { OnOk result (state_of node.new ≡ states.Done) }
+    ensures kept { HasAllDisks D.state node.old node.new }
 {
     for _ in rt.forever() {
         match node.state() {
@@ -71,9 +74,10 @@ fn play_out<'a, R: Threads + Wait + Sync, G: Gate + Sync, D: Disk + Send>(
 
 /// Plays the setup's scripts to their end on as many threads as it has: however they are driven, what is
 /// returned is a complete run of the machine, over what the disks told when it was called, where the setup's
-/// base devices stand on nothing. It answers out of memory also where a number of a thread runs out, as after
-/// 2^62 requests or 2^128 stamps. The disks are those of each thread, in the order of the threads' numbers, and
-/// are given back however the run ends, in some order.
+/// base devices stand on nothing; beside it are its statistics. It answers out of memory also where a number of a
+/// thread runs out, as after 2^62 requests or 2^128 stamps. The disks are those of each thread, in the order of the
+/// threads' numbers, and are all given back however the run ends, those of a thread together, the threads in some
+/// order.
 pub fn play<R: Threads + Wait + Sync, G: Gate + Sync, D: Disk + Send>(
     rt: &R,
     alloc: Global,
@@ -81,12 +85,14 @@ pub fn play<R: Threads + Wait + Sync, G: Gate + Sync, D: Disk + Send>(
     disks: Shelf<D>,
     drive: Drive,
     gate: &G,
-) -> (Result<History, OutOfMemory>, Shelf<D>)
+) -> (Result<Played, OutOfMemory>, Shelf<D>)
     requires some { 0 < setup.now.threads }
     requires disks { length disks.items ≡ setup.now.threads }
     requires room { setup.now.threads ≤ disks.capacity }
-    ensures complete { AreBasesLowest setup.now → IfOk result.0 (λ history. IsCompleteRun setup.now (told_of D.state setup.now disks.items) history) }
-    ensures disks { AreBasesLowest setup.now → IfOk result.0 (λ history. SaysOfDisks D.state setup.now history disks.items result.1.items) }
+    ensures complete { AreBasesLowest setup.now → IfOk result.0 (λ run. IsCompleteRun setup.now (told_of D.state setup.now disks.items) run.history) }
+    ensures disks { AreBasesLowest setup.now → IfOk result.0 (λ run. SaysOfDisks D.state setup.now run.history disks.items result.1.items) }
+    ensures counted { IfOk result.0 (λ run. run.stats ≡ stats_of setup.now run.history) }
+    ensures kept { AreAllThere D.state disks.items result.1.items }
 {
     let mut node = match Node::build(rt, alloc, setup, disks, drive.seed()) {
         Ok(node) => node,

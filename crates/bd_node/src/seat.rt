@@ -3,7 +3,6 @@ ghost use Rattle.std.specs.Prelude.{◌≡◌, ◌≤◌, ◌<◌, ◌++◌, ◌
 
 use crate::worker::Worker;
 use bd_disks::{Disks, Shelf};
-use bd_log::Log;
 use bd_seat::SeatNo;
 use bd_wires::Passes;
 
@@ -20,12 +19,10 @@ pub(crate) struct Seat<'a, D> {
 }
 
 impl<'a, D> Seat<'a, D> {
-    /// Its log and its passes. Its disks go on the shelf, behind the others, its tickets are abandoned, and all else
-    /// is dropped.
-    pub fn take_apart(self, shelf: &mut Shelf<D>) -> (Log, Passes)
+    /// Its passes. Its disks go on the shelf, after the others, its tickets are abandoned, and all else is dropped.
+    pub fn take_apart(self, shelf: &mut Shelf<D>) -> Passes
         requires { length shelf.old.items < shelf.old.capacity }
-        ensures log { result.0 ≡ self.entry.worker.log }
-        ensures passes { result.1 ≡ self.entry.passes }
+        ensures passes { result ≡ self.entry.passes }
         ensures disks { shelf.new.items ≡ shelf.old.items ++ self.entry.disks ∷ [] }
         ensures capacity { shelf.old.capacity ≤ shelf.new.capacity }
     {
@@ -40,10 +37,10 @@ impl<'a, D> Seat<'a, D> {
             me: _,
             thread,
             links: _,
-            log,
+            log: _,
         } = worker;
         thread.abandon();
         shelf.put(disks);
-        (log, passes)
+        passes
     }
 }

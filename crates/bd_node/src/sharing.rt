@@ -1,6 +1,8 @@
 //! How reactors share the threads of a node.
 ghost use Rattle.std.specs.Prelude.{◌≡◌, ◌<◌, All, IsPermutation, length};
 ghost use Rattle.std.specs.List.Sorted.{IsNonDecreasingBy};
+ghost use Rattle.bd_disks.specs.Shelf.{AreAllThere};
+ghost use Rattle.bd_node.specs.Disks.{disks_of};
 ghost use Rattle.bd_node.specs.Seats.{AllWentOn, IsSitting, number_in};
 ghost use Rattle.bd_node.specs.Whole.{StaySeated};
 
@@ -102,6 +104,7 @@ pub(crate) fn turn_all<R: Threads + Wait + Sync, G: Gate + Sync, D: Disk + Send>
     requires sits { All (IsSitting D.state wires.now) seats.old }
     ensures len { length seats.new ≡ length seats.old }
     ensures seats { StaySeated D.state wires.now seats.old seats.new }
+    ensures kept { AreAllThere D.state (disks_of seats.old) (disks_of seats.new) }
 {
     deal_out(&deal, seats);
     turn_each(rt, alloc, wires, watch, deal.each as usize, seats);

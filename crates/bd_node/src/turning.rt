@@ -1,6 +1,6 @@
 //! A seat's turns.
-ghost use Rattle.std.specs.Prelude.{IfOk, OnOk};
-ghost use Rattle.bd_node.specs.Seats.{made_by, Continues, HasSameEntries, IsSitting, IsWorking, KeepsOn, SitsOrHalts, Tells, TellsIfAny, WentOn};
+ghost use Rattle.std.specs.Prelude.{◌≡◌, IfOk, OnOk};
+ghost use Rattle.bd_node.specs.Seats.{made_by, Continues, HasSameDisks, HasSameEntries, IsSitting, IsWorking, KeepsOn, SitsOrHalts, Tells, TellsIfAny, WentOn};
 ghost use Rattle.bd_node.specs.Waits.{Idles, IdlesAlone, IdlesIfLent, QuietTurns, Receives, Sends};
 
 use crate::seat::Seat;
@@ -18,6 +18,7 @@ impl<'a, D: Disk> Seat<'a, D> {
         ensures goes { OnOk result (Continues D.state wires.now self.old self.new) }
         ensures entries { OnOk result (HasSameEntries self.old self.new) }
         ensures came { OnOk result (Receives self.old self.new) }
+        ensures disks { self.new.disks ≡ self.old.disks }
     {
         let me = self.worker.me;
         let worker = &mut self.worker;
@@ -38,6 +39,7 @@ impl<'a, D: Disk> Seat<'a, D> {
         ensures goes { OnOk result (Continues D.state wires.now self.old self.new) }
         ensures entries { OnOk result (HasSameEntries self.old self.new) }
         ensures went { OnOk result (Sends self.old self.new) }
+        ensures disks { self.new.disks ≡ self.old.disks }
     {
         let me = self.worker.me;
         let worker = &mut self.worker;
@@ -63,6 +65,7 @@ impl<'a, D: Disk> Seat<'a, D> {
         ensures goes { OnOk result (Continues D.state wires.now self.old self.new) }
         ensures turned { IfOk result (TellsIfAny (made_by self.old) (made_by self.new)) }
         ensures quiet { IfOk result (IdlesIfLent self.old self.new) }
+        ensures kept { HasSameDisks D.state self.old self.new }
     {
         let Some(mut lent) = wires.slot.try_take(rt, &mut self.passes.slot) else {
             return Ok(None);
@@ -81,6 +84,7 @@ impl<'a, D: Disk> Seat<'a, D> {
         ensures goes { OnOk result (KeepsOn D.state self.old self.new) }
         ensures turned { IfOk result (Tells (made_by self.old) (made_by self.new)) }
         ensures quiet { IfOk result (IdlesAlone self.old.worker self.new.worker) }
+        ensures kept { HasSameDisks D.state self.old self.new }
     {
         self.worker.work(alloc, &mut self.disks)
     }
@@ -91,6 +95,7 @@ impl<'a, D: Disk> Seat<'a, D> {
         ensures goes { OnOk result (Continues D.state wires.now self.old self.new) }
         ensures turned { IfOk result (Tells (made_by self.old) (made_by self.new)) }
         ensures quiet { IfOk result (Idles self.old self.new) }
+        ensures kept { HasSameDisks D.state self.old self.new }
     {
         if !self.worker.wants_registry() {
             return self.work(alloc);
@@ -107,6 +112,7 @@ impl<'a, D: Disk> Seat<'a, D> {
         ensures goes { OnOk result (Continues D.state wires.now self.old self.new) }
         ensures turned { IfOk result (Tells (made_by self.old) (made_by self.new)) }
         ensures quiet { IfOk result (QuietTurns self.old self.new) }
+        ensures kept { HasSameDisks D.state self.old self.new }
     {
         self.receive(rt, wires)?;
         let turned = self.act(rt, alloc, wires)?;

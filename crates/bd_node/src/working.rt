@@ -1,5 +1,6 @@
 //! What a worker does in a turn.
 ghost use Rattle.std.specs.Prelude.{◌≡◌, [], IfOk, OnOk};
+ghost use Rattle.bd_disks.specs.Rows.{places};
 ghost use Rattle.bd_thread.specs.Work.{wants_registry};
 ghost use Rattle.bd_node.specs.Seats.{made_in, GoesAlone, GoesWith, IsLentTo, IsWorking, Tells};
 ghost use Rattle.bd_node.specs.Waits.{IdlesAlone, IdlesWith};
@@ -37,6 +38,7 @@ impl<'a> Worker<'a> {
         ensures goes { OnOk result (GoesAlone D.state disks.old disks.new self.old self.new) }
         ensures turned { IfOk result (Tells (made_in self.old) (made_in self.new)) }
         ensures quiet { IfOk result (IdlesAlone self.old self.new) }
+        ensures kept { places D.state disks.new ≡ places D.state disks.old }
     {
         let turned = work_with_disks(&mut self.thread, &mut self.links, disks)?;
         let entries = self.take_entries(alloc);
@@ -57,6 +59,7 @@ impl<'a> Worker<'a> {
         ensures goes { OnOk result (GoesWith D.state disks.old disks.new seen self.old lent.old self.new lent.new) }
         ensures turned { IfOk result (Tells (made_in self.old) (made_in self.new)) }
         ensures quiet { IfOk result (IdlesWith lent.old self.old self.new) }
+        ensures kept { places D.state disks.new ≡ places D.state disks.old }
     {
         self.log.meet(lent.last_stamp());
         let _rows = lent.journal();

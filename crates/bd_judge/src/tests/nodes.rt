@@ -7,7 +7,7 @@ ghost use Rattle.bd_outside.specs.Memory.{memory_state};
 use crate::tests::setups::{PLAIN, WRITE, WRITE_9, Word, count_of, long_setup, setup};
 use bd_base::{Act, Entry, Op, OutOfMemory, Setup, Shown, Status};
 use bd_disks::{Disks, Shelf};
-use bd_node::{Drive, History, Node, NodeState, play};
+use bd_node::{Drive, History, Node, NodeState, Played, play};
 use bd_outside::{Gate, MemDisk, OpenGate};
 use bd_seat::SeatNo;
 use bd_thread::Turned;
@@ -138,9 +138,10 @@ fn played<R: Threads + Wait + Sync, G: Gate + Sync>(
     requires { 0 < setup.now.threads }
 {
     let shelf = no_disks(alloc, setup.threads)?;
-    let (history, shelf) = play(rt, alloc, setup, shelf, drive, gate);
+    let (played, shelf) = play(rt, alloc, setup, shelf, drive, gate);
     drop_disks(shelf);
-    history
+    let Played { history, stats: _ } = played?;
+    Ok(history)
 }
 
 // ---- what they did
@@ -218,9 +219,10 @@ fn history_by<R: Wait>(
         drop_disks(node.abandon());
         return Ok(None);
     }
-    let (history, shelf) = node.settle(rt);
+    let (settled, shelf) = node.settle(rt);
     drop_disks(shelf);
-    Ok(Some(history?))
+    let Played { history, stats: _ } = settled?;
+    Ok(Some(history))
 }
 
 // Whether both are done, by this order.

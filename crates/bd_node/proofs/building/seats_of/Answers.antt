@@ -1,4 +1,4 @@
-use Rattle.std.proofs.Common.{◌≡◌, ◌<◌, ◌+◌, ◌-◌, ◌++◌, ℕ, List, ◌∷◌, [], Some, drop, length, vec_len, refl, subst, sym, ◌∙◌, ap, arith, length-drop, rules}
+use Rattle.std.proofs.Common.{◌≡◌, ◌<◌, ◌+◌, ◌-◌, ◌++◌, ℕ, List, ◌∷◌, [], Some, drop, length, vec_len, IsPermutation, refl, subst, sym, ◌∙◌, ap, arith, length-drop, rules}
 use Rattle.std.specs.List.{slice_get}
 use Rattle.std.proofs.lemmas.List.{length-append}
 use Rattle.std.proofs.lemmas.Option.{slice_get_read}
@@ -7,6 +7,9 @@ use Rattle.bd_node.specs.declared.seat.Seat.{Seat}
 use Rattle.bd_node.specs.Starting.{AreNewSeats}
 use Rattle.bd_node.specs.Disks.{disks_of}
 use Rattle.bd_node.proofs.Disks.{disks_more, no_more, no_more_disks}
+use Rattle.bd_base.specs.declared.id.DevId.{DevId}
+use Rattle.bd_disks.specs.Shelf.{Shelved}
+use Rattle.bd_node.proofs.Kept.{all_back, next_back}
 use Rattle.bd_node.proofs.Starts.{at_drop, drop_next, new_more}
 use Rattle.bd_node.proofs.building.seats_of.Goals as goal
 
@@ -42,3 +45,22 @@ returns-clause-disks g c =
 
 pub returns-clause-none : goal.returns-clause-none
 returns-clause-none g c = no_more c.loop-me.shelf.items (omega (arith, c.loop-me.invariant.many))
+
+pub returns-in-Err-clause-kept : goal.returns-in-Err-clause-kept
+returns-in-Err-clause-kept g c =
+    let seated = disks_of c.loop-me.seats.items in
+    let shelf = c.seat_of.new.shelf.items in
+    let same : shelf ≡ c.loop-me.shelf.items = ap (λ (s : Shelved g.row.D.Denot). s.items) c.in-Err.ensures.same in
+    all_back c.args.shelf.now.items seated shelf c.abandon_all.new.shelf.items (ap (λ (ds : List (List (DevId × g.row.D.Denot))). seated ++ ds) same ∙ c.loop-me.invariant.disks) c.abandon_all.ensures
+
+pub returns-in-Err-push-clause-kept : goal.returns-in-Err-push-clause-kept
+returns-in-Err-push-clause-kept g c =
+    let seated = disks_of c.push.new.self.items in
+    let shelf = c.loop-me.shelf.items in
+    let rest = c.seat_of.new.shelf.items in
+    let final = c.abandon_all-in-Err-push.new.shelf.items in
+    let own = c.in-Err-push.failed.value.disks in
+    let are : seated ++ shelf ≡ c.args.shelf.now.items = ap (λ (ss : List (Seat g.row.D.Denot)). disks_of ss ++ shelf) c.in-Err-push.ensures.items ∙ c.loop-me.invariant.disks in
+    let is : shelf ≡ own ∷ rest = c.in-Ok.ensures.disks ∙ ap (λ (s : Seat g.row.D.Denot). s.disks ∷ rest) (sym c.in-Err-push.ensures.value_returned) in
+    next_back c.args.shelf.now.items seated rest shelf final own are is
+    (subst (λ (ds : List (List (DevId × g.row.D.Denot))). IsPermutation (ds ++ seated) final) c.take_apart.ensures.disks c.abandon_all-in-Err-push.ensures)

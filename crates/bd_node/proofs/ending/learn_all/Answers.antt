@@ -1,5 +1,7 @@
 use Rattle.std.proofs.Common.{◌≢◌, ◌≤◌, ◌<◌, arith, length, slice_index_or, ◌∙◌}
 use Rattle.std.proofs.lemmas.Option.{slice_get-get_or}
+use Rattle.std.proofs.Math.Seq.{map-set_same}
+use Rattle.bd_node.specs.declared.seat.Seat.{Seat}
 use Rattle.bd_node.proofs.Places.{is_below, set_else}
 use Rattle.bd_node.proofs.Shut.{learnt_more}
 use Rattle.bd_node.proofs.ending.learn_all.Goals as goal
@@ -16,7 +18,8 @@ loop-place-preserved g c =
     record {
       first = set_else seats place 0 new ne ∙ i.first;
       later = λ k le. (let other : place ≢ k = λ e. omega arith in let before : place ≤ k = omega arith in set_else seats place k new other ∙ i.later k before);
-      learnt = learnt_more c.args.stamp c.args.seats.now seats place old new (slice_get-get_or seats place c.index-seats-place.result lt) i.later i.learnt c.learn_shut.ensures;
+      learnt = learnt_more c.args.stamp c.args.seats.now seats place old new (slice_get-get_or seats place c.index-seats-place.result lt) i.later i.learnt c.learn_shut.ensures.shut;
+      disks = map-set_same (λ (s : Seat g.row.D.Denot). s.disks) seats place new c.index-seats-place.result c.learn_shut.ensures.disks ∙ i.disks;
     }
 
 pub returns-clause-others : goal.returns-clause-others

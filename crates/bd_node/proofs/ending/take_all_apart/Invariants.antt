@@ -8,7 +8,6 @@ invariant-loop-seat g l =
     record {
       room : length l.left.items + length l.shelf.items ≤ l.shelf.capacity;
       disks : l.shelf.items ++ disks_of l.left.items ≡ l.initial.shelf.items ++ disks_of l.fn.seats.items;
-      logs : l.logs.items ++ map (λ s. s.worker.log) l.left.items ≡ map (λ s. s.worker.log) l.fn.seats.items;
       passes : l.passes.items ++ map (λ s. s.passes) l.left.items ≡ map (λ s. s.passes) l.fn.seats.items;
     }
 

@@ -13,4 +13,4 @@ returns-clause-moved g c =
 pub returns-clause-disks : goal.returns-clause-disks
 returns-clause-disks g c =
     let k = c.in_ok-turned.ensures.disks in
-    record { shelf = k.shelf; node = λ starts h. k.node starts (record { many = h.many; phases = h.phases; seated = h.seated; phases_are = h.phases_are }) }
+    record { shelf = k.shelf; node = λ starts h. k.node starts (record { many = h.many; met = h.met; trace = h.trace; counted = h.counted; phases = h.phases; seated = h.seated; phases_are = h.phases_are }) }

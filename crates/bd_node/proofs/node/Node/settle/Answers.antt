@@ -1,39 +1,58 @@
--- The passes may be ended, the logs may be merged, and the merge is a complete run, which says what the disks did.
-use Rattle.std.proofs.Common.{◌≡◌, List, ◌++◌, length, ap, vec_len, sym, ◌∙◌, subst, arith}
+-- What was still in the logs is gathered, and then the trace is the history of what all did.
+use Rattle.std.proofs.Common.{◌≡◌, List, IsPermutation, sym, ◌∙◌, ap, subst}
+use Rattle.std.proofs.lemmas.Result.{IfOk-weaker}
 use Rattle.bd_base.specs.declared.act.Entry.{Entry}
+use Rattle.bd_base.specs.declared.id.DevId.{DevId}
+use Rattle.bd_base.specs.declared.setup.Setup.{Setup}
+use Rattle.bd_log.specs.Merge.{IsMerge, Part}
 use Rattle.bd_machine.specs.Run.{IsCompleteRun}
-use Rattle.bd_node.specs.Disks.{disks_of, told_of, SaysOfDisks}
-use Rattle.bd_node.specs.Whole.{setup_in}
-use Rattle.bd_node.proofs.Histories.{node_settles}
-use Rattle.bd_node.proofs.Settling.{logs_fit, passes_fit}
+use Rattle.bd_report.specs.Stats.{stats_of}
+use Rattle.bd_told.specs.Told.{AreBasesLowest}
+use Rattle.bd_node.specs.Disks.{told_of, SaysOfDisks}
+use Rattle.bd_node.specs.Whole.{logs_of, setup_in}
+use Rattle.bd_node.proofs.Gathered.{trace_is_merge}
+use Rattle.bd_node.proofs.Telling.{both_if}
 use Rattle.bd_node.proofs.node.Node.settle.Goals as goal
 
-pub disconnect-registry-requires-clause-linked : goal.disconnect-registry-requires-clause-linked
-disconnect-registry-requires-clause-linked g c =
-    let many : vec_len c.in-Ok.taken.1 ≡ length c.in-Ok.taken.1.items = omega arith in
-    passes_fit c.args.self c.requires.node (vec_len c.in-Ok.taken.1) c.in-Ok.taken.1.items many c.in-Ok.ensures.passes
+pub end-requires-clause-done : goal.end-requires-clause-done
+end-requires-clause-done g c = c.in-Ok.ensures.same.state ∙ c.requires.done
 
-pub merge-requires : goal.merge-requires
-merge-requires g c = logs_fit c.args.self c.requires.node c.in-Ok.taken.0.items c.in-Ok.ensures.logs
+pub returns-in-Ok-clause-merged : goal.returns-in-Ok-clause-merged
+returns-in-Ok-clause-merged g c =
+    let n = c.gather_and_count.new.self in
+    IfOk-weaker c.end.result.0 _ _ (λ run is.
+    subst (λ (es : List Entry). IsMerge (logs_of c.args.self) es) (sym is)
+    (subst (λ (ps : List Part). IsMerge ps n.trace.items) c.in-Ok.ensures.same.logs
+    (trace_is_merge g.D.Disk.state c.in-Ok.ensures.node.starts n c.in-Ok.ensures.node.node c.in-Ok.ensures.left))) c.end.ensures.history
 
-pub returns-in-Ok-merge-clause-complete : goal.returns-in-Ok-merge-clause-complete
-returns-in-Ok-merge-clause-complete g c =
-    let n = c.args.self in
+pub returns-in-Ok-clause-counted : goal.returns-in-Ok-clause-counted
+returns-in-Ok-clause-counted g c =
+    let n = c.gather_and_count.new.self in
+    both_if c.end.result.0 _ _ _ (λ run history stats.
+    stats ∙ c.in-Ok.ensures.stats
+    ∙ ap (λ (s : Setup). stats_of s n.trace.items) (ap (λ s. s.now) c.in-Ok.ensures.same.setup)
+    ∙ ap (stats_of (setup_in c.args.self)) (sym history)) c.end.ensures.history c.end.ensures.stats
+
+pub returns-in-Ok-clause-complete : goal.returns-in-Ok-clause-complete
+returns-in-Ok-clause-complete g c =
     let state = g.D.Disk.state in
+    let setup-is : setup_in c.gather_and_count.new.self ≡ setup_in c.args.self = ap (λ s. s.now) c.in-Ok.ensures.same.setup in
     λ starts node lowest.
-    subst (λ (es : List Entry). IsCompleteRun (setup_in n) (told_of state (setup_in n) starts) es) (sym (c.of.ensures ∙ c.from_vec.ensures))
-    (node_settles state starts n node lowest c.requires.done c.in-Ok.taken.0.items c.in-Ok.taken.1.items c.in-Ok.ensures.logs c.in-Ok.ensures.passes
-    c.disconnect-registry.ensures.delivered c.disconnect-registry.result c.disconnect-registry.ensures.journal c.journal-journal.ensures.ordered c.journal-journal.ensures.replay
-    c.in-Ok-merge.merged.items c.in-Ok-merge.ensures).complete
+    IfOk-weaker c.end.result.0 _ _ (λ run is. subst (λ (s : Setup). IsCompleteRun s (told_of state s starts) run.history) setup-is is)
+    (c.end.ensures.complete starts (c.in-Ok.ensures.disks.node starts node) (subst (λ (s : Setup). AreBasesLowest s) (sym setup-is) lowest))
 
-pub returns-in-Ok-merge-clause-disks : goal.returns-in-Ok-merge-clause-disks
-returns-in-Ok-merge-clause-disks g c =
-    let n = c.args.self in
+pub returns-in-Ok-clause-disks : goal.returns-in-Ok-clause-disks
+returns-in-Ok-clause-disks g c =
     let state = g.D.Disk.state in
+    let setup-is : setup_in c.gather_and_count.new.self ≡ setup_in c.args.self = ap (λ s. s.now) c.in-Ok.ensures.same.setup in
     λ starts empty node lowest.
-    let shelf-is = c.in-Ok.ensures.disks ∙ ap (λ ds. ds ++ disks_of n.seats.items) empty in
-    subst (λ (es : List Entry). SaysOfDisks state (setup_in n) es starts c.take_all_apart.new.shelf.items) (sym (c.of.ensures ∙ c.from_vec.ensures))
-    (subst (λ ds. SaysOfDisks state (setup_in n) c.in-Ok-merge.merged.items starts ds) (sym shelf-is)
-    (node_settles state starts n node lowest c.requires.done c.in-Ok.taken.0.items c.in-Ok.taken.1.items c.in-Ok.ensures.logs c.in-Ok.ensures.passes
-    c.disconnect-registry.ensures.delivered c.disconnect-registry.result c.disconnect-registry.ensures.journal c.journal-journal.ensures.ordered c.journal-journal.ensures.replay
-    c.in-Ok-merge.merged.items c.in-Ok-merge.ensures).says)
+    IfOk-weaker c.end.result.0 _ _ (λ run is. subst (λ (s : Setup). SaysOfDisks state s run.history starts c.end.result.1.items) setup-is is)
+    (c.end.ensures.disks starts (c.in-Ok.ensures.disks.shelf ∙ empty) (c.in-Ok.ensures.disks.node starts node) (subst (λ (s : Setup). AreBasesLowest s) (sym setup-is) lowest))
+
+pub returns-in-Ok-clause-kept : goal.returns-in-Ok-clause-kept
+returns-in-Ok-clause-kept g c =
+    subst (λ (ds : List (List (DevId × g.row.D.Denot))). IsPermutation ds c.end.result.1.items) c.gather_and_count.ensures.kept c.end.ensures.kept
+
+pub returns-in-Err-clause-kept : goal.returns-in-Err-clause-kept
+returns-in-Err-clause-kept g c =
+    subst (λ (ds : List (List (DevId × g.row.D.Denot))). IsPermutation ds c.abandon.result.items) c.gather_and_count.ensures.kept c.abandon.ensures

@@ -1,12 +1,15 @@
-use Rattle.std.proofs.Common.{◌≡◌, ◌<◌, ◌≤◌, ℕ, true, All, List, Option, Some, length, length-set, refl, set, vec_len, subst, sym, ◌∙◌, ap, rules}
+use Rattle.std.proofs.Common.{◌≡◌, ◌<◌, ◌≤◌, ℕ, true, All, List, ◌++◌, Option, Some, length, length-set, refl, set, vec_len, subst, sym, ◌∙◌, ap, rules}
 use Rattle.std.specs.List.{slice_get}
 use Rattle.std.specs.Option.{MatchOption}
 use Rattle.std.specs.Vec.{with_item}
 use Rattle.std.proofs.lemmas.List.{set-get_or, with_items_is}
 use Rattle.bd_node.specs.declared.seat.Seat.{Seat}
-use Rattle.bd_node.specs.Disks.{disks_at}
+use Rattle.bd_disks.specs.Rows.{places}
+use Rattle.bd_disks.specs.Shelf.{places_of, AreAllThere}
+use Rattle.bd_node.specs.Disks.{disks_at, disks_of}
 use Rattle.bd_node.specs.Shutting.{AreToLearn, Shuts}
-use Rattle.bd_node.specs.Whole.{AreSeated}
+use Rattle.bd_node.specs.Whole.{disks_in, past_of, AreSeated}
+use Rattle.bd_node.proofs.Kept.{all_same, node_seats, seat_kept}
 use Rattle.bd_node.proofs.Marks.{each_adds, first_at, node_shuts, others_learn, AreAllShut}
 use Rattle.bd_node.proofs.node.Node.shut.Goals as goal
 
@@ -15,7 +18,7 @@ shut-requires-clause-sits g c =
     let o = c.args.self.now in
     let a = c.index_mut-first.result.now in
     let at = first_at o a c.requires.node c.index_mut-first.ensures.value in
-    record { setup = o.setup.now; t = 0; p = c.requires.node.node.phases 0; opened = disks_at c.requires.node.starts 0; sits = (c.requires.node.node.seated.each 0 a at).sits }
+    record { setup = o.setup.now; t = 0; p = c.requires.node.node.phases 0; past = past_of c.requires.node.node.met o.trace.items 0; opened = disks_at c.requires.node.starts 0; sits = (c.requires.node.node.seated.each 0 a at).sits }
 
 pub shut-requires-clause-first : goal.shut-requires-clause-first
 shut-requires-clause-first g c =
@@ -33,7 +36,7 @@ learn_all-requires g c =
     let shut = subst (λ (s : Option ℕ). MatchOption s (c.shut.new.self ≡ a) (λ k. (c.greatest-above.result < k) × Shuts g.D.Disk.state o.wires k a c.shut.new.self)) c.in-Some.is c.in_ok-stamp.ensures.shut in
     let within = subst (λ (ss : List (Seat g.row.D.Denot)). All (λ s. s.worker.log.last ≤ c.greatest-above.result) ss) c.as_slice.ensures.value c.greatest-above.ensures in
     subst (λ (ss : List (Seat g.row.D.Denot)). AreToLearn stamp ss) (sym c.as_mut_slice.ensures.value)
-    (others_learn g.D.Disk.state o.setup.now o.wires c.requires.node.starts o.seats.items o.shut n.phases c.shut.new.self c.greatest-above.result stamp n.seated within shut.0)
+    (others_learn g.D.Disk.state o.setup.now o.wires c.requires.node.starts (past_of n.met o.trace.items) o.seats.items o.shut n.phases c.shut.new.self c.greatest-above.result stamp n.seated within shut.0)
 
 pub returns-clause-node : goal.returns-clause-node
 returns-clause-node g c =
@@ -42,7 +45,7 @@ returns-clause-node g c =
     let news = c.learn_all.new.seats in
     let shut = subst (λ (s : Option ℕ). MatchOption s (c.shut.new.self ≡ a) (λ k. (c.greatest-above.result < k) × Shuts g.D.Disk.state o.wires k a c.shut.new.self)) c.in-Some.is c.in_ok-stamp.ensures.shut in
     let starts = c.requires.node.starts in
-    let all : AreAllShut g.D.Disk.state o.setup.now o.wires starts news =
+    let all : AreAllShut g.D.Disk.state o.setup.now o.wires starts (past_of c.requires.node.node.met o.trace.items) news =
     node_shuts g.D.Disk.state starts o c.greatest-above.result c.in-Some.stamp a c.shut.new.self c.as_mut_slice.result.now news c.requires.node.node c.requires.idle
     (first_at o a c.requires.node c.index_mut-first.ensures.value) shut.0 shut.1 c.as_mut_slice.ensures.value c.learn_all.ensures.len c.learn_all.ensures.first c.learn_all.ensures.others in
     let v = with_item o.seats 0 c.shut.new.self in
@@ -53,8 +56,11 @@ returns-clause-node g c =
       starts = starts;
       node = record {
         many = c.requires.node.node.many;
+        met = c.requires.node.node.met;
+        trace = c.requires.node.node.trace;
+        counted = c.requires.node.node.counted;
         phases = all.phases;
-        seated = subst (λ (ss : List (Seat g.row.D.Denot)). AreSeated g.D.Disk.state o.setup.now o.wires starts ss true all.phases) (sym (with_items_is v news len)) all.seated;
+        seated = subst (λ (ss : List (Seat g.row.D.Denot)). AreSeated g.D.Disk.state o.setup.now o.wires starts (past_of c.requires.node.node.met o.trace.items) ss true all.phases) (sym (with_items_is v news len)) all.seated;
         phases_are = all.phases_are;
       };
     }
@@ -71,6 +77,7 @@ returns-clause-logs g c =
     c.learn_all.ensures.len ∙ ap (λ (ss : List (Seat g.row.D.Denot)). length ss) c.as_mut_slice.ensures.value ∙ length-set o.seats.items 0 c.shut.new.self ∙ sym many in
     record {
       stamp = c.in-Some.stamp;
+      trace = refl;
       each = λ t s s' h k. each_adds g.D.Disk.state o c.in-Some.stamp a c.shut.new.self c.as_mut_slice.result.now news c.requires.node (first_at o a c.requires.node c.index_mut-first.ensures.value) shut.1
           c.as_mut_slice.ensures.value c.learn_all.ensures.first c.learn_all.ensures.others t s s' h (ap (λ (ss : List (Seat g.row.D.Denot)). slice_get ss t) (sym (with_items_is v news len)) ∙ k);
     }
@@ -85,6 +92,10 @@ returns-in_default-clause-logs g c =
       seats = ap (λ (s : Seat g.row.D.Denot). set o.seats.items 0 s) (same ∙ c.index_mut-first.ensures.value) ∙ set-get_or o.seats.items 0 a;
       wires = refl;
       schedule = refl;
+      trace = refl;
+      counter = refl;
+      shelf = refl;
+      setup = refl;
       shut = refl;
     }
 
@@ -103,13 +114,16 @@ returns-clause-disks g c =
     record {
       shelf = refl;
       node = λ starts h.
-          let all : AreAllShut state o.setup.now o.wires starts news =
+          let all : AreAllShut state o.setup.now o.wires starts (past_of h.met o.trace.items) news =
           node_shuts state starts o c.greatest-above.result c.in-Some.stamp a c.shut.new.self c.as_mut_slice.result.now news h c.requires.idle
           at shut.0 shut.1 c.as_mut_slice.ensures.value c.learn_all.ensures.len c.learn_all.ensures.first c.learn_all.ensures.others in
           record {
             many = h.many;
+            met = h.met;
+            trace = h.trace;
+            counted = h.counted;
             phases = all.phases;
-            seated = subst (λ (ss : List (Seat g.row.D.Denot)). AreSeated state o.setup.now o.wires starts ss true all.phases) (sym (with_items_is v news len)) all.seated;
+            seated = subst (λ (ss : List (Seat g.row.D.Denot)). AreSeated state o.setup.now o.wires starts (past_of h.met o.trace.items) ss true all.phases) (sym (with_items_is v news len)) all.seated;
             phases_are = all.phases_are;
           };
     }
@@ -126,8 +140,42 @@ returns-in_default-clause-disks g c =
       shelf = refl;
       node = λ starts h. record {
         many = h.many;
+        met = h.met;
+        trace = h.trace;
+        counted = h.counted;
         phases = h.phases;
-        seated = subst (λ (ss : List (Seat g.row.D.Denot)). AreSeated state o.setup.now o.wires starts ss o.shut h.phases) (sym seats-are) h.seated;
+        seated = subst (λ (ss : List (Seat g.row.D.Denot)). AreSeated state o.setup.now o.wires starts (past_of h.met o.trace.items) ss o.shut h.phases) (sym seats-are) h.seated;
         phases_are = h.phases_are;
       };
     }
+
+pub returns-clause-kept : goal.returns-clause-kept
+returns-clause-kept g c =
+    let o = c.args.self.now in
+    let state = g.D.Disk.state in
+    let a = c.index_mut-first.result.now in
+    let news = c.learn_all.new.seats in
+    let v = with_item o.seats 0 c.shut.new.self in
+    let many : vec_len o.seats ≡ length o.seats.items = search rules in
+    let len : length news ≡ vec_len o.seats =
+    c.learn_all.ensures.len ∙ ap (λ (ss : List (Seat g.row.D.Denot)). length ss) c.as_mut_slice.ensures.value ∙ length-set o.seats.items 0 c.shut.new.self ∙ sym many in
+    let disks-are : disks_of news ≡ disks_of (set o.seats.items 0 c.shut.new.self) = c.learn_all.ensures.disks ∙ ap (λ (ss : List (Seat g.row.D.Denot)). disks_of ss) c.as_mut_slice.ensures.value in
+    let same = ap (places_of state) disks-are ∙ seat_kept state o.seats.items 0 a c.shut.new.self (first_at o a c.requires.node c.index_mut-first.ensures.value) (ap (places state) c.shut.ensures.disks) in
+    subst (λ (ss : List (Seat g.row.D.Denot)). AreAllThere state (disks_in o) (o.shelf.items ++ disks_of ss)) (sym (with_items_is v news len))
+    (node_seats state o news (all_same state (disks_of o.seats.items) (disks_of news) same))
+
+pub returns-in_default-clause-kept : goal.returns-in_default-clause-kept
+returns-in_default-clause-kept g c =
+    let o = c.args.self.now in
+    let state = g.D.Disk.state in
+    let a = c.index_mut-first.result.now in
+    node_seats state o (set o.seats.items 0 c.shut.new.self)
+    (all_same state (disks_of o.seats.items) (disks_of (set o.seats.items 0 c.shut.new.self)) (seat_kept state o.seats.items 0 a c.shut.new.self (first_at o a c.requires.node c.index_mut-first.ensures.value) (ap (places state) c.shut.ensures.disks)))
+
+pub returns-in_err-stamp-clause-kept : goal.returns-in_err-stamp-clause-kept
+returns-in_err-stamp-clause-kept g c =
+    let o = c.args.self.now in
+    let state = g.D.Disk.state in
+    let a = c.index_mut-first.result.now in
+    node_seats state o (set o.seats.items 0 c.shut.new.self)
+    (all_same state (disks_of o.seats.items) (disks_of (set o.seats.items 0 c.shut.new.self)) (seat_kept state o.seats.items 0 a c.shut.new.self (first_at o a c.requires.node c.index_mut-first.ensures.value) (ap (places state) c.shut.ensures.disks)))

@@ -1,10 +1,13 @@
-use Rattle.std.proofs.Common.{◌≡◌, ◌<◌, ◌≤◌, ◌+◌, length, vec_len, Some, refl, ap, rules}
+use Rattle.std.proofs.Common.{◌≡◌, ◌<◌, ◌≤◌, ◌+◌, length, set, vec_len, Some, refl, ap, rules}
 use Rattle.std.specs.Coded.{le_prop}
 use Rattle.std.specs.List.{slice_get}
 use Rattle.std.proofs.lemmas.Option.{slice_get_read}
 use Rattle.std.proofs.lemmas.Result.{on_ok_weaker, IfOk-weaker}
-use Rattle.bd_node.proofs.Rounds.{one_sits, one_turned}
-use Rattle.bd_node.proofs.Telling.{tells_among}
+use Rattle.bd_node.specs.Disks.{disks_of}
+use Rattle.bd_node.specs.Whole.{past_of}
+use Rattle.bd_node.proofs.Kept.{all_same, node_seats, seat_kept}
+use Rattle.bd_node.proofs.Rounds.{log_thread_stays, one_sits, one_turned}
+use Rattle.bd_node.proofs.Telling.{both_ok, tells_among}
 use Rattle.bd_node.proofs.Waiting.{turns_at}
 use Rattle.bd_node.proofs.node.Node.turn_of.Goals as goal
 
@@ -14,7 +17,7 @@ turn-requires g c =
     let a = c.index_mut-seat.result.now in
     let lt : c.args.thread < length o.seats.items = search rules in
     let at : slice_get o.seats.items c.args.thread ≡ Some a = slice_get_read o.seats.items (length o.seats.items) c.args.thread a refl lt c.index_mut-seat.ensures.value in
-    one_sits o.setup.now o.wires c.requires.starts o.seats.items o.shut c.requires.node.phases c.requires.node.seated c.args.thread a at
+    one_sits o.setup.now o.wires c.requires.starts (past_of c.requires.node.met o.trace.items) o.seats.items o.shut c.requires.node.phases c.requires.node.seated c.args.thread a at
 
 pub returns-clause-node : goal.returns-clause-node
 returns-clause-node g c =
@@ -26,8 +29,11 @@ returns-clause-node g c =
       starts = c.requires.starts;
       node = record {
         many = c.requires.node.many;
+        met = c.requires.node.met;
+        trace = c.requires.node.trace;
+        counted = c.requires.node.counted;
         phases = c.requires.node.phases;
-        seated = one_turned o.setup.now o.wires c.requires.starts o.seats.items o.shut c.requires.node.phases c.requires.node.seated c.args.thread a c.turn.new.self at on;
+        seated = one_turned o.setup.now o.wires c.requires.starts (past_of c.requires.node.met o.trace.items) o.seats.items o.shut c.requires.node.phases c.requires.node.seated c.args.thread a c.turn.new.self at on;
         phases_are = c.requires.node.phases_are;
       };
     }) c.turn.ensures.goes
@@ -38,7 +44,8 @@ returns-clause-turned g c =
     let a = c.index_mut-seat.result.now in
     let lt : c.args.thread < length o.seats.items = search rules in
     let at : slice_get o.seats.items c.args.thread ≡ Some a = slice_get_read o.seats.items (length o.seats.items) c.args.thread a refl lt c.index_mut-seat.ensures.value in
-    IfOk-weaker c.turn.result _ _ (λ turned told. tells_among o.seats.items c.args.thread a c.turn.new.self turned at told) c.turn.ensures.turned
+    let old = one_sits o.setup.now o.wires c.requires.starts (past_of c.requires.node.met o.trace.items) o.seats.items o.shut c.requires.node.phases c.requires.node.seated c.args.thread a at in
+    both_ok c.turn.result _ _ _ (λ on turned told. tells_among o.trace.items o.seats.items c.args.thread a c.turn.new.self turned at (log_thread_stays o.wires a c.turn.new.self old on) told) c.turn.ensures.goes c.turn.ensures.turned
 
 pub returns-clause-quiet : goal.returns-clause-quiet
 returns-clause-quiet g c =
@@ -63,8 +70,21 @@ returns-clause-disks g c =
       shelf = refl;
       node = λ starts h. record {
         many = h.many;
+        met = h.met;
+        trace = h.trace;
+        counted = h.counted;
         phases = h.phases;
-        seated = one_turned o.setup.now o.wires starts o.seats.items o.shut h.phases h.seated c.args.thread a c.turn.new.self at on;
+        seated = one_turned o.setup.now o.wires starts (past_of h.met o.trace.items) o.seats.items o.shut h.phases h.seated c.args.thread a c.turn.new.self at on;
         phases_are = h.phases_are;
       };
     }) c.turn.ensures.goes
+
+pub returns-clause-kept : goal.returns-clause-kept
+returns-clause-kept g c =
+    let o = c.args.self.now in
+    let state = g.D.Disk.state in
+    let a = c.index_mut-seat.result.now in
+    let lt : c.args.thread < length o.seats.items = search rules in
+    let at : slice_get o.seats.items c.args.thread ≡ Some a = slice_get_read o.seats.items (length o.seats.items) c.args.thread a refl lt c.index_mut-seat.ensures.value in
+    node_seats state o (set o.seats.items c.args.thread c.turn.new.self)
+    (all_same state (disks_of o.seats.items) (disks_of (set o.seats.items c.args.thread c.turn.new.self)) (seat_kept state o.seats.items c.args.thread a c.turn.new.self at c.turn.ensures.kept))

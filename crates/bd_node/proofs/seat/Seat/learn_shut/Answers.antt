@@ -4,8 +4,8 @@ use Rattle.bd_node.specs.Shutting.{LearnsShut}
 use Rattle.bd_node.proofs.Shut.{learns_shut}
 use Rattle.bd_node.proofs.seat.Seat.learn_shut.Goals as goal
 
-pub returns : goal.returns
-returns g c =
+pub returns-clause-shut : goal.returns-clause-shut
+returns-clause-shut g c =
     let s = c.args.self.now in
     subst (λ (log : Written). LearnsShut c.args.stamp s (record s { worker = record s.worker { links = record s.worker.links { shut = true }; log = log } })) (sym c.meet.ensures)
     (learns_shut c.args.stamp s c.requires.other c.requires.later)

@@ -19,7 +19,7 @@ returns c =
       above = log.second;
       later = log.later;
       entries = log.has.entries;
-      at = λ setup p d contents a lends.
-          shut_with setup p d contents old c.args.seen lent c.catch_up.new.replica c.push.new.self stamp c.shut.new.self (sym (c.journal-journal.ensures.leaves setup lends.start))
+      at = λ setup p d past contents a lends.
+          shut_with setup p d past contents old c.args.seen lent c.catch_up.new.replica c.push.new.self stamp c.shut.new.self (sym (c.journal-journal.ensures.leaves setup lends.start))
           c.catch_up.ensures.setup c.in_ok-catch_up.ensures.state log.later log.has c.in_ok-shut.ensures.ok a lends;
     }

@@ -12,7 +12,7 @@ use Rattle.bd_node.proofs.Workers.{goes_alone, has_queue}
 use Rattle.bd_node.proofs.worker.Worker.work.Goals as goal
 
 pub work_with_disks-requires : goal.work_with_disks-requires
-work_with_disks-requires g c = has_queue c.requires.setup c.requires.t c.requires.p c.requires.c c.requires.contents c.args.self.now c.requires.at
+work_with_disks-requires g c = has_queue c.requires.setup c.requires.t c.requires.p c.requires.c c.requires.past c.requires.contents c.args.self.now c.requires.at
 
 pub append_all-requires : goal.append_all-requires
 append_all-requires g c =

@@ -36,7 +36,7 @@ catch_up-requires g c =
 
 pub turn_with_disks-requires : goal.turn_with_disks-requires
 turn_with_disks-requires g c = record {
-  me = has_queue c.requires.setup c.requires.t c.requires.p c.requires.c c.requires.contents c.args.self.now c.requires.at;
+  me = has_queue c.requires.setup c.requires.t c.requires.p c.requires.c c.requires.past c.requires.contents c.args.self.now c.requires.at;
   rows = c.in_ok-catch_up.ensures.setup ∙ c.requires.at.rows ∙ ap rows_of (sym c.requires.at.given);
 }
 

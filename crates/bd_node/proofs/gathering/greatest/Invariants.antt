@@ -1,5 +1,5 @@
 use Rattle.std.proofs.Common.{◌≤◌, All, take}
-use Rattle.bd_node.proofs.ending.greatest.Given as goal
+use Rattle.bd_node.proofs.gathering.greatest.Given as goal
 
 abbrev pub invariant-loop-seat : goal.invariant-loop-seat
 invariant-loop-seat g l = All (λ s. s.worker.log.last ≤ l.greatest) (take l.seat-index l.seats)
