@@ -63,7 +63,7 @@ module _ (setup : Setup) (told : Told) (dev : DevId) (row : DevRow) (there : row
           if_here false = refl
 
   found_from : (k a : ℕ) → a ≤ dev.0 → dev.0 < a + k → find (is_base dev) (from a k) ≡ Some (base_at_start told dev row)
-  found_from zero a low high = absurd (let no : ⊥ = omega (arith, low, high) in no)
+  found_from zero a low high = absurd (omega (arith, low, high))
   found_from (suc k) a low high = go (cases_eq a dev.0) (λ above. found_from k (a + 1) above (omega (arith, high)))
     where
       go : (a ≡ dev.0) ⊎ (a ≡ dev.0 → ⊥) → (a + 1 ≤ dev.0 → find (is_base dev) (from (a + 1) k) ≡ Some (base_at_start told dev row)) → find (is_base dev) (from a (suc k)) ≡ Some (base_at_start told dev row)
@@ -101,7 +101,7 @@ bases_then setup s (e ∷ es) t dev = bases_then setup (after setup s e) es t de
 
 module _ {X : Type 0} (is : X → Bool) where
   found_some : (xs : List X) (x : X) → find is xs ≡ Some x → 0 < count_by is xs
-  found_some [] x at = absurd (let no : ⊥ = cc in no)
+  found_some [] x at = cc
   found_some (y ∷ ys) x at = subst (λ (n : ℕ). 0 < n) (sym (sum_by-cons (λ (z : X). cond (is z) 1 0) y ys)) (go (is y) at (found_some ys x))
     where
       go : (b : Bool) → cond b (Some y) (find is ys) ≡ Some x → (find is ys ≡ Some x → 0 < count_by is ys) → 0 < cond b 1 0 + count_by is ys
@@ -109,7 +109,7 @@ module _ {X : Type 0} (is : X → Bool) where
       go false e later = let more : 0 < count_by is ys = later e in omega (arith, more)
 
   some_found : (xs : List X) → 0 < count_by is xs → (x : X) × (find is xs ≡ Some x)
-  some_found [] some = absurd (let no : ⊥ = omega (arith, some) in no)
+  some_found [] some = absurd (omega (arith, some))
   some_found (y ∷ ys) some = go (is y) refl (subst (λ (n : ℕ). 0 < n) (sum_by-cons (λ (z : X). cond (is z) 1 0) y ys) some) (some_found ys)
     where
       go : (b : Bool) → is y ≡ b → 0 < cond b 1 0 + count_by is ys → (0 < count_by is ys → (x : X) × (find is ys ≡ Some x)) → (x : X) × (find is (y ∷ ys) ≡ Some x)
@@ -120,24 +120,14 @@ module _ {X : Type 0} (is : X → Bool) where
 
 aio_is_base : (kind : Kind) → is_aio_kind kind ≡ true → is_base_kind kind ≡ true
 aio_is_base kinds.Aio is = refl
-aio_is_base kinds.Malloc is = refl
-aio_is_base kinds.Null is = refl
-aio_is_base kinds.Passthru is = is
-aio_is_base (kinds.Part shift) is = is
-aio_is_base (kinds.Delay average_read p99_read average_write p99_write) is = is
-aio_is_base kinds.Error is = is
+aio_is_base _ is = cc
 
 aio_told : (told : Told) (dev : DevId) (kind : Kind) (size blocks : ℕ) → is_aio_kind kind ≡ true → content_at_start told dev kind size blocks ≡ content_told (slice_index_or told dev.0 None)
 aio_told told dev kinds.Aio size blocks is = refl
-aio_told told dev kinds.Malloc size blocks is = absurd (let no : ⊥ = cc in no)
-aio_told told dev kinds.Null size blocks is = absurd (let no : ⊥ = cc in no)
-aio_told told dev kinds.Passthru size blocks is = refl
-aio_told told dev (kinds.Part shift) size blocks is = refl
-aio_told told dev (kinds.Delay average_read p99_read average_write p99_write) size blocks is = refl
-aio_told told dev kinds.Error size blocks is = refl
+aio_told told dev _ size blocks is = cc
 
 row_there : (o : Option DevRow) → has_kind is_aio_kind o ≡ true → (row : DevRow) × (o ≡ Some row) × (is_aio_kind row.kind ≡ true)
-row_there None is = absurd (let no : ⊥ = cc in no)
+row_there None is = cc
 row_there (Some row) is = (row, refl, is)
 
 module _ (setup : Setup) (told : Told) (dev : DevId) (some : 0 < setup.threads) (aio : has_kind is_aio_kind (row_of setup dev) ≡ true) where

@@ -1,11 +1,12 @@
 -- The disks of a run by the rows that the host tells of them: as they are opened, as the run goes on, and as they are closed.
-use Rattle.std.proofs.Common.{◌≡◌, ℕ, suc, ◌+◌, ◌<◌, ◌≤◌, ◌%◌, ◌&&◌, Bool, true, false, cond, List, [], ◌∷◌, ◌++◌, length, Option, Some, None, Ok, ◌⊎◌, inl, inr, refl, sym, ◌∙◌, ap, subst, append-nil, zero-add, arith}
+use Rattle.std.proofs.Common.{◌≡◌, ℕ, zero, suc, ◌+◌, ◌<◌, ◌≤◌, ◌%◌, ◌&&◌, Bool, true, false, cond, List, [], ◌∷◌, ◌++◌, length, set, Option, Some, None, Ok, ◌⊎◌, inl, inr, refl, sym, ◌∙◌, ap, ap₂, subst, append-nil, zero-add, arith}
 use Rattle.std.specs.List.{count_by, slice_get}
 use Rattle.std.specs.Option.{option_map}
 use Rattle.std.specs.Prelude.{is_some, min, slice_index_or, IfSome}
 use Rattle.std.proofs.Math.Nat.{le-min, min-eq_left, min-eq_right, min-le_left, min-le_right}
 use Rattle.std.proofs.lemmas.Bool.{cases_lt}
 use Rattle.std.proofs.lemmas.List.{length-append}
+use Rattle.std.proofs.lemmas.List.Sorted.{IsPermutation-refl}
 use Rattle.std.proofs.lemmas.List.Sums.{sum_by-cons}
 use Rattle.std.proofs.lemmas.Option.{get_or_from_slice_get}
 use Rattle.bd_base.specs.declared.act.ApplyEnd.{ApplyEnd}
@@ -21,6 +22,7 @@ use Rattle.bd_config.specs.declared.command.Command.TheVariants as commands
 use Rattle.bd_disks.specs.Holding.{content_of}
 use Rattle.bd_disks.specs.Rows.{disk_of, Does}
 use Rattle.bd_disks.specs.Serving.{is_flush, IsServed}
+use Rattle.bd_disks.specs.Shelf.{places_of, AreAllThere}
 use Rattle.bd_machine.specs.declared.state.Base.{Base}
 use Rattle.bd_machine.specs.BlockMap.{base_of, has_kind, home, is_aio, is_aio_kind, row_of, size_of}
 use Rattle.bd_machine.specs.Completion.{is_done_end, is_fault_end}
@@ -32,25 +34,22 @@ use Rattle.bd_node.specs.Disks.{disks_at, told_of, SaysOfDisks}
 use Rattle.bd_opened.specs.Closing.{closing_all}
 use Rattle.bd_opened.specs.Covering.{AreClosed, AreDone, Begun, HasAdded, HaveGoneOn, IsClosed, IsDone}
 use Rattle.bd_opened.specs.Held.{none_held, with_disk, Held}
-use Rattle.bd_opened.proofs.Lists.{at_last, has_at, is_below}
-use Rattle.bd_opened.proofs.EachClosed.{untold_all}
-use Rattle.bd_opened.proofs.Opens.{closed_again, closed_so, none_open, one_more as one_more_open, raised}
+use Rattle.bd_opened.proofs.Lists.{at_last, at_second, has_at, is_below, some_same}
+use Rattle.bd_opened.proofs.EachClosed.{name_same, untold_all}
+use Rattle.bd_opened.proofs.AllThere.{all_are_closed}
+use Rattle.bd_opened.proofs.Opens.{closed_so, none_open, one_more as one_more_open, raised}
 use Rattle.bd_outside.specs.Count.{last_count, one_more, Rises}
 use Rattle.bd_outside.specs.Disk.{closing_of, DiskState, HasWholeBlocks, IsOpenedOver}
 use Rattle.bd_outside.specs.File.{Told}
 use Rattle.bd_outside.specs.Host.{HostState, IsLater, Opens}
-use Rattle.bd_outside.specs.Opening.{open_row, AddsOpening}
+use Rattle.bd_outside.specs.Opening.{close_at, closed_row, open_row, openings_closed, AddsOpening}
 use Rattle.bd_outside.specs.declared.opening.Opening.{Opening}
 use Rattle.bd_served.specs.Served.{served_in, ServedPiece}
 use Rattle.bd_storage.specs.Contents.{content_if, contents_of}
 use Rattle.bd_storage.specs.Served.{DidPieces, DidPiecesIf}
 use Rattle.bd_top.proofs.AtHome.{base_last, begins_as_told}
 use Rattle.bd_top.proofs.Contents.{told_at_home}
-use Rattle.bd_top.specs.declared.fault.Fault.{Fault}
-use Rattle.bd_top.specs.declared.fault.Fault.TheVariants.{OutOfMemory}
-use Rattle.bd_top.specs.Run.{IsDone as IsAskedDone, NamesNoFile}
-use Rattle.bd_top.specs.Words.{Asked, Exercise, Generate, Run}
-use Rattle.bd_top.specs.DiskRows.{content_at_home, is_fault, is_flushed, AreFresh, AreSetOut, HasDisks, IsClosedUnless, IsDiskOf, IsFresh, IsSetOut, OpensFor, StandOpen, TellDisks, TellsSo}
+use Rattle.bd_top.specs.DiskRows.{content_at_home, is_fault, is_flushed, AreFresh, AreSetOut, HasDisks, IsDiskOf, IsFresh, IsSetOut, OpensFor, StandOpen, TellDisks, TellsSo}
 
 none_is_some : {X : Type 0} {Q : Type 0} {x : X} → None ≡ Some x → Q
 none_is_some e = cc
@@ -167,31 +166,67 @@ stand_next {D = D} state told base progress next index command blocks before aft
 
 -- ---- closing
 
--- **disks that were open and are closed again**
-pub set_out_closed : {D : Type 0} (state : D → DiskState) (told : List ℕ → Told) (n : ℕ) (devices : List AioDevice) (held : Held D) (base now : Option (List Opening)) → AreSetOut state told n devices held base now
-    → AreClosed base (closing_all state held.names held.threads now)
-set_out_closed state told n devices held base None are = subst (AreClosed base) (sym (untold_all state held.names held.threads)) tt
-set_out_closed state told n devices held None (Some rows) are = absurd are
-set_out_closed state told n devices held (Some base) (Some rows) are =
-    let end = closed_again state n held are.begun base rows are.stand in
-    subst (AreClosed (Some base)) (sym end.1) end.2
-
--- the same, by what the closing left
-pub closed_after : {D : Type 0} (state : D → DiskState) (told : List ℕ → Told) (n : ℕ) (devices : List AioDevice) (held last : Held D) (base now then final : Option (List Opening)) → AreSetOut state told n devices held base now
-    → last ≡ held → then ≡ now → final ≡ closing_all state last.names last.threads then → AreClosed base final
-closed_after {D = D} state told n devices held last base now then final are same still is =
-    subst (AreClosed base) (sym (is ∙ ap (λ (h : Held D). closing_all state h.names h.threads then) same ∙ ap (closing_all state held.names held.threads) still)) (set_out_closed state told n devices held base now are)
-
--- a disk that wasn't opened: those that are open are closed, unless there was no memory
-pub closed_unless : {D : Type 0} (state : D → DiskState) (told : List ℕ → Told) (base : Option (List Opening)) (progress : Progress) (before after : Held D) (old new final : HostState) (fault : Fault) → StandOpen state told base progress before old
-    → (fault ≡ OutOfMemory) ⊎ ((new.openings ≡ old.openings) × (after ≡ before)) → final.openings ≡ closing_all state after.names after.threads new.openings → IsClosedUnless fault base final.openings
-closed_unless state told base progress before after old new final fault stand (inl memory) is = inl memory
-closed_unless state told base progress before after old new final fault stand (inr (openings, disks)) is =
-    inr (closed_after state told (length progress.setup.devices) (aio_devices progress.setup) before after base old.openings new.openings final.openings stand.rows disks openings is)
-
 pub closed_same : (now : Option (List Opening)) → AreClosed now now
 closed_same None = tt
 closed_same (Some rows) = record { added = []; are = sym (append-nil rows); each = λ k row at. none_is_some at }
+
+pub closed_still : (now then : Option (List Opening)) → then ≡ now → AreClosed now then
+closed_still now then same = subst (AreClosed now) (sym same) (closed_same now)
+
+-- **where the disks that were open are all still there, they are closed; further ones that were opened since were closed already**
+pub all_closed : {D : Type 0} (state : D → DiskState) (told : List ℕ → Told) (n : ℕ) (devices : List AioDevice) (held : Held D) (base now then : Option (List Opening)) (after : List (List (DevId × D))) → AreSetOut state told n devices held base now
+    → AreClosed now then → AreAllThere state held.threads after → AreClosed base (closing_all state held.names after then)
+all_closed state told n devices held base now None after are more there = subst (AreClosed base) (sym (untold_all state held.names after)) tt
+all_closed state told n devices held base None (Some rows) after are more there = absurd more
+all_closed state told n devices held None (Some was) (Some rows) after are more there = absurd are
+all_closed state told n devices held (Some base) (Some was) (Some rows) after are more there =
+    let end = all_are_closed state n held are.begun base was rows after are.stand more there in
+    subst (AreClosed (Some base)) (sym end.1) end.2
+
+-- the same of the disks as they were opened, by what the closing left
+pub closed_after : {D : Type 0} (state : D → DiskState) (told : List ℕ → Told) (n : ℕ) (devices : List AioDevice) (held last : Held D) (base now then final : Option (List Opening)) → AreSetOut state told n devices held base now
+    → last ≡ held → AreClosed now then → final ≡ closing_all state last.names last.threads then → AreClosed base final
+closed_after {D = D} state told n devices held last base now then final are same more is =
+    subst (AreClosed base) (sym (is ∙ ap (λ (h : Held D). closing_all state h.names h.threads then) same))
+    (all_closed state told n devices held base now then held.threads are more (IsPermutation-refl (places_of state held.threads)))
+
+set_last : {X : Type 0} (xs : List X) (y z : X) → set (xs ++ y ∷ []) (length xs) z ≡ xs ++ z ∷ []
+set_last [] y z = refl
+set_last {X = X} (x ∷ xs) y z = ap (λ (ys : List X). x ∷ ys) (set_last xs y z)
+
+-- a disk that was opened and closed again at once, by the same name
+pub closed_at_once : (old next final : Option (List Opening)) (name : List ℕ) (disk : DiskState) → AddsOpening old next (open_row name disk.blocks) disk.place
+    → final ≡ openings_closed next disk.place name (closing_of disk) → AreClosed old final
+closed_at_once None next final name disk adds is =
+    subst (AreClosed None) (sym (is ∙ ap (λ (o : Option (List Opening)). openings_closed o disk.place name (closing_of disk)) adds)) tt
+closed_at_once (Some rows) next final name disk (inr silent) is =
+    subst (AreClosed (Some rows)) (sym (is ∙ ap (λ (o : Option (List Opening)). openings_closed o disk.place name (closing_of disk)) silent)) tt
+closed_at_once (Some rows) next final name disk (inl added) is =
+    subst (AreClosed (Some rows)) (sym final-is) (record { added = closed ∷ []; are = refl; each = each })
+  where
+    row : Opening
+    row = open_row name disk.blocks
+
+    closed : Opening
+    closed = record row { closing = Some (closing_of disk) }
+
+    its-row : slice_get (rows ++ row ∷ []) (length rows) ≡ Some row
+    its-row = at_second rows (row ∷ []) 0 (length rows) (omega arith)
+
+    shut : closed_row row name (closing_of disk) ≡ closed
+    shut = ap (λ (b : Bool). cond (b && true) closed row) (name_same name)
+
+    final-is : final ≡ Some (rows ++ closed ∷ [])
+    final-is =
+        is
+        ∙ ap₂ (λ (o : Option (List Opening)) (place : Option ℕ). openings_closed o place name (closing_of disk)) added.0 added.1
+        ∙ ap (λ (o : Option Opening). Some (close_at (rows ++ row ∷ []) (length rows) o name (closing_of disk))) its-row
+        ∙ ap (λ (r : Opening). Some (set (rows ++ row ∷ []) (length rows) r)) shut
+        ∙ ap (λ (rs : List Opening). Some rs) (set_last rows row closed)
+
+    each : (k : ℕ) (r : Opening) → slice_get (closed ∷ []) k ≡ Some r → IsClosed k r
+    each zero r at = ap (λ (o : Opening). is_some o.closing) (sym (some_same at))
+    each (suc k) r at = none_is_some at
 
 -- ---- what a disk did
 
@@ -407,23 +442,3 @@ module _ {D : Type 0} (state : D → DiskState) (told : List ℕ → Told) (setu
       subst (TellDisks told disks_told setup trace (Some base)) (sym end.1) end.2
 
 -- ---- closed after all
-
-each_is_closed : (told : List ℕ → Told) (contents : Contents) (setup : Setup) (trace : List Entry) (base rows : List Opening) → HasDisks told contents setup trace base rows → HasAdded IsClosed base rows
-each_is_closed told contents setup trace base rows has = record { added = has.added; are = has.are; each = each }
-  where
-    each : (k : ℕ) (row : Opening) → slice_get has.added k ≡ Some row → IsClosed k row
-    each k row at =
-        let device = has_at (aio_devices setup) k (subst (λ (n : ℕ). k < n) has.many (is_below has.added k row at)) in
-        ap (λ (r : Opening). is_some r.closing) (has.each k device.0 row device.1 at).is
-
--- where the host keeps so much of each disk, each is closed
-pub tells_closed : (told : List ℕ → Told) (contents : Contents) (setup : Setup) (trace : List Entry) (base now : Option (List Opening)) → TellDisks told contents setup trace base now → AreClosed base now
-tells_closed told contents setup trace base None tells = tt
-tells_closed told contents setup trace None (Some rows) tells = absurd tells
-tells_closed told contents setup trace (Some base) (Some rows) tells = each_is_closed told contents setup trace base rows tells
-
--- what was asked was done: each disk that was opened is closed
-pub done_closed : (asked : Asked) (old new : HostState) (trace : List Entry) (text : List ℕ) → IsAskedDone asked old new trace text → (NamesNoFile asked → new ≡ old) → AreClosed old.openings new.openings
-done_closed (Run arguments) old new trace text done unread = tells_closed old.told done.contents done.setup trace old.openings new.openings done.disks
-done_closed (Exercise numbers playing) old new trace text done unread = subst (λ (h : HostState). AreClosed old.openings h.openings) (sym (unread tt)) (closed_same old.openings)
-done_closed (Generate numbers threads) old new trace text done unread = subst (λ (h : HostState). AreClosed old.openings h.openings) (sym (unread tt)) (closed_same old.openings)

@@ -1,5 +1,5 @@
 -- The disks of a run, from their opening to their closing, by the rows that the host tells of them.
-use Rattle.std.specs.Prelude.{◌≡◌, ℕ, ◌+◌, ◌≤◌, ◌⊎◌, ◌&&◌, min, Bool, List, ◌++◌, length, slice_get, Option, Some}
+use Rattle.std.specs.Prelude.{◌≡◌, ℕ, ◌+◌, ◌≤◌, ◌&&◌, min, Bool, List, ◌++◌, length, slice_get, Option, Some}
 use Rattle.std.specs.List.{count_by}
 use Rattle.std.specs.Option.{option_map}
 use Rattle.bd_base.specs.declared.act.Entry.{Entry}
@@ -19,7 +19,7 @@ use Rattle.bd_machine.specs.Homes.{base_here}
 use Rattle.bd_machine.specs.Run.{state_after}
 use Rattle.bd_machine.specs.Start.{start}
 use Rattle.bd_machine.specs.View.{view}
-use Rattle.bd_opened.specs.Covering.{AreClosed, AreOpen, Begun, WhereTold}
+use Rattle.bd_opened.specs.Covering.{AreOpen, Begun, WhereTold}
 use Rattle.bd_opened.specs.Held.{Held}
 use Rattle.bd_outside.specs.Count.{last_count}
 use Rattle.bd_outside.specs.Disk.{closing_of, DiskState, HasWholeBlocks, IsOpenedOver}
@@ -28,8 +28,6 @@ use Rattle.bd_outside.specs.Host.{HostState}
 use Rattle.bd_outside.specs.declared.opening.Opening.{Opening}
 use Rattle.bd_served.specs.Served.{served_in, ServedPiece}
 use Rattle.bd_storage.specs.Served.{DidPieces}
-use Rattle.bd_top.specs.declared.fault.Fault.{Fault}
-use Rattle.bd_top.specs.declared.fault.Fault.TheVariants.{OutOfMemory}
 
 -- ---- open
 
@@ -76,10 +74,6 @@ pub record StandOpen {D : Type 0} (state : D → DiskState) (told : List ℕ →
   pub rows : AreSetOut state told (length progress.setup.devices) (aio_devices progress.setup) held base host.openings
 
 -- ---- closed
-
--- out of memory, or each disk that was opened since is closed
-abbrev pub IsClosedUnless : Fault → Option (List Opening) → Option (List Opening) → Type 0
-IsClosedUnless fault base now = (fault ≡ OutOfMemory) ⊎ AreClosed base now
 
 -- a piece that ended with a fault
 abbrev pub is_fault : ServedPiece → Bool

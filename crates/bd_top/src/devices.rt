@@ -1,12 +1,13 @@
 //! The devices of a configuration's commands, and the disks that these open.
-ghost use Rattle.std.specs.Prelude.{◌≡◌, ◌<◌, ◌⊎◌, ℕ, List, length, Option, IfOk, IfErr, All};
+ghost use Rattle.std.specs.Prelude.{◌≡◌, ◌<◌, ℕ, List, length, Option, IfOk, IfErr, OnErr, All};
 ghost use Rattle.bd_building.specs.Disks.{file_of};
 ghost use Rattle.bd_config.specs.Commands.{IsOpenable};
+ghost use Rattle.bd_opened.specs.Covering.{AreClosed};
 ghost use Rattle.bd_outside.specs.File.{Told};
 ghost use Rattle.bd_outside.specs.Host.{IsLater};
 ghost use Rattle.bd_outside.specs.declared.opening.Opening.{Opening};
 ghost use Rattle.bd_top.specs.Configure.{IsRefused};
-ghost use Rattle.bd_top.specs.DiskRows.{IsClosedUnless, OpensFor, StandOpen, TellsSo};
+ghost use Rattle.bd_top.specs.DiskRows.{OpensFor, StandOpen, TellsSo};
 ghost use Rattle.bd_top.specs.Disks.{IsNamed, MayGive, Opens};
 ghost use Rattle.bd_top.specs.Opening.{AreDone, DoingCause, IsBuildFault, IsStep, IsStepRefused, NeverRefused};
 
@@ -28,7 +29,7 @@ pub(crate) struct Opened<D> {
 }
 
 // Opens the file that a command asks for as the disk of the device of this number, and says how many
-// blocks it has; 0 where the command opens none.
+// blocks it has; 0 where the command opens none. Any fault leaves no disk more open.
 fn open_for<H: Host>(
     alloc: Global,
     host: &mut H,
@@ -43,8 +44,8 @@ fn open_for<H: Host>(
     ensures later { IsLater (H.state host.old) (H.state host.new) }
     ensures threads { length disks.new.threads ≡ length disks.old.threads }
     ensures opened { IfOk result (λ blocks. OpensFor H.Disk.state dev command.now blocks (H.state host.old) disks.old (H.state host.new) disks.new) }
-    ensures unopened { IfErr result (λ fault. (fault ≡ Fault.OutOfMemory)
-        ⊎ (((H.state host.new).openings ≡ (H.state host.old).openings) × (disks.new ≡ disks.old))) }
+    ensures unopened { OnErr result (disks.new ≡ disks.old) }
+    ensures closed { OnErr result (AreClosed (H.state host.old).openings (H.state host.new).openings) }
 {
     let Command::Aio { file, size, .. } = command else {
         return Ok(0);
@@ -106,7 +107,7 @@ fn do_command<H: Host>(
         → IfOk result (λ o. StandOpen H.Disk.state told base o.devices o.disks (H.state host.new)) }
     ensures closed { (told : List ℕ → Told) (base : Option (List Opening))
         → StandOpen H.Disk.state told base opened.devices opened.disks (H.state host.old)
-        → IfErr result (λ fault. IsClosedUnless fault base (H.state host.new).openings) }
+        → OnErr result (AreClosed base (H.state host.new).openings) }
 {
     let Opened { devices, disks } = opened;
     let mut disks = disks;
@@ -142,7 +143,7 @@ pub(crate) fn open_devices<H: Host>(
     ensures threads { IfOk result (λ o. length o.disks.threads ≡ threads) }
     ensures opened { (told : List ℕ → Told) → TellsSo (H.state host.old) told
         → IfOk result (λ o. StandOpen H.Disk.state told (H.state host.old).openings o.devices o.disks (H.state host.new)) }
-    ensures closed { IfErr result (λ fault. IsClosedUnless fault (H.state host.old).openings (H.state host.new).openings) }
+    ensures closed { OnErr result (AreClosed (H.state host.old).openings (H.state host.new).openings) }
 {
     let mut opened = Opened {
         devices: Building::new(alloc, threads),

@@ -1,9 +1,10 @@
 //! The two files of a run, the disks that the configuration opens, and what they mean.
-ghost use Rattle.std.specs.Prelude.{◌≡◌, ◌<◌, ℕ, List, length, IfOk, IfErr, All};
+ghost use Rattle.std.specs.Prelude.{◌≡◌, ◌<◌, ℕ, List, length, IfOk, IfErr, OnErr, All};
 ghost use Rattle.bd_config.specs.Commands.{IsOpenable};
 ghost use Rattle.bd_outside.specs.Host.{IsLater};
 ghost use Rattle.bd_building.specs.AioDevices.{aio_devices, AreBasesAlone};
-ghost use Rattle.bd_top.specs.DiskRows.{AreSetOut, IsClosedUnless, StandOpen};
+ghost use Rattle.bd_opened.specs.Covering.{AreClosed};
+ghost use Rattle.bd_top.specs.DiskRows.{AreSetOut, StandOpen};
 ghost use Rattle.bd_top.specs.Fault.{IsScriptFault, config_fault};
 ghost use Rattle.bd_top.specs.Run.{AreCommands, IsDevices, IsScript, IsMeant, ScriptCause, FileCause};
 
@@ -65,7 +66,7 @@ fn read_devices<H: Host>(
     ensures cause { (jobs : List ℕ) → IfErr result (FileCause (H.state host.old) (H.state host.new) name.now jobs threads) }
     ensures later { IsLater (H.state host.old) (H.state host.new) }
     ensures opened { IfOk result (λ o. StandOpen H.Disk.state (H.state host.old).told (H.state host.old).openings o.devices o.disks (H.state host.new)) }
-    ensures closed { IfErr result (λ fault. IsClosedUnless fault (H.state host.old).openings (H.state host.new).openings) }
+    ensures closed { OnErr result (AreClosed (H.state host.old).openings (H.state host.new).openings) }
 {
     let commands = read_commands(alloc, host, name)?;
     open_devices(alloc, host, threads, commands)
@@ -141,7 +142,7 @@ pub(crate) fn read_setup<H: Host>(
     ensures opened { IfOk result (λ r. AreSetOut H.Disk.state (H.state host.old).told (length r.setup.devices) (aio_devices r.setup) r.disks
         (H.state host.old).openings (H.state host.new).openings) }
     ensures alone { IfOk result (λ r. AreBasesAlone r.setup) }
-    ensures closed { IfErr result (λ fault. IsClosedUnless fault (H.state host.old).openings (H.state host.new).openings) }
+    ensures closed { OnErr result (AreClosed (H.state host.old).openings (H.state host.new).openings) }
 {
     let Opened { devices, disks } = read_devices(alloc, host, config, threads)?;
     let scripts = match scripts(alloc, host, jobs, threads) {

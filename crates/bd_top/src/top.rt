@@ -7,7 +7,7 @@ ghost use Rattle.bd_outside.specs.File.{Told};
 ghost use Rattle.bd_outside.specs.declared.opening.Opening.{Opening};
 ghost use Rattle.bd_outside.specs.Sink.{StaysUntold};
 ghost use Rattle.bd_top.specs.declared.fault.Fault.{Fault as Refusal};
-ghost use Rattle.bd_top.specs.DiskRows.{AreSetOut, IsClosedUnless, TellDisks};
+ghost use Rattle.bd_top.specs.DiskRows.{AreSetOut, TellDisks};
 ghost use Rattle.bd_top.specs.Run.{IsPlayed, AreFilesPlayed, IsExercised, IsGenerated, IsDone, IsRun, FileCause, AskedCause, Cause, AreInForm, IsWrong, NamesNoFile, NothingFails, WritesNothing};
 ghost use Rattle.bd_top.specs.Words.{Asked as Meant, seen, seen_arguments, asked_of, IsInRange, IsThreadCount};
 
@@ -18,10 +18,10 @@ use crate::setup::Ready;
 use crate::words::{Arguments, Asked, Playing, parse};
 use bd_base::OutOfMemory;
 use bd_jobs::generate;
-use bd_node::{Drive, History, play};
+use bd_node::{Drive, History, Played, play};
 use bd_opened::{close_all, close_shelf};
 use bd_outside::{Clock, Failed, Gate, Host, MemHost, Sink};
-use bd_report::report::report;
+use bd_report::report::report_with;
 use bd_report::writing::write_all;
 use std::alloc::Global;
 use std::marker::Send;
@@ -63,6 +63,9 @@ where
         → AreSetOut H.Disk.state told (length ready.setup.devices) (aio_devices ready.setup) ready.disks base (H.state host.old).openings
         → IfOk result (λ done. TellDisks told (told_of H.Disk.state ready.setup ready.disks.threads) ready.setup done.trace base
         (H.state host.new).openings) }
+    ensures closed { (told : List ℕ → Told) (base : Option (List Opening))
+        → AreSetOut H.Disk.state told (length ready.setup.devices) (aio_devices ready.setup) ready.disks base (H.state host.old).openings
+        → AreClosed base (H.state host.new).openings }
 {
     let Ready { setup, disks } = ready;
     let (names, shelf) = match disks.shelve(rt.alloc()) {
@@ -74,8 +77,11 @@ where
     };
     let (played, shelf) = play(rt, rt.alloc(), &setup, shelf, drive, gate);
     close_shelf(host, &names, shelf);
-    let trace = played?;
-    let text = report(rt.alloc(), &setup, trace.entries(), full)?;
+    let Played {
+        history: trace,
+        stats,
+    } = played?;
+    let text = report_with(rt.alloc(), &setup, trace.entries(), &stats, full)?;
     Ok(Done { trace, text })
 }
 
@@ -92,7 +98,7 @@ where
     ensures done { IfOk result (λ done. AreFilesPlayed (seen_arguments arguments.entry) (H.state host.old) (H.state host.new) done.trace done.text.items) }
     ensures cause { IfErr result
         (FileCause (H.state host.old) (H.state host.new) arguments.entry.config.now arguments.entry.jobs.now arguments.entry.playing.threads) }
-    ensures closed { IfErr result (λ fault. IsClosedUnless fault (H.state host.old).openings (H.state host.new).openings) }
+    ensures closed { AreClosed (H.state host.old).openings (H.state host.new).openings }
 {
     let Arguments {
         config,
@@ -149,7 +155,7 @@ where
     requires { IsInRange (seen asked) }
     ensures done { IfOk result (λ done. IsDone (seen asked.entry) (H.state host.old) (H.state host.new) done.trace done.text.items) }
     ensures cause { IfErr result (AskedCause (seen asked.entry) (H.state host.old) (H.state host.new)) }
-    ensures closed { IfErr result (λ fault. IsClosedUnless fault (H.state host.old).openings (H.state host.new).openings) }
+    ensures closed { AreClosed (H.state host.old).openings (H.state host.new).openings }
     ensures unread { NamesNoFile (seen asked.entry) → H.state host.new ≡ H.state host.old }
 {
     match asked {
@@ -204,7 +210,7 @@ where
         → MatchResult result (λ _ran. ⊥) (λ given. (given ≡ fault) ⊎ (given ≡ Fault.OutOfMemory)) }
     ensures unread { (asked : Meant) → asked_of (map string_bytes words.now) ≡ Some asked → NamesNoFile asked
         → H.state host.new ≡ H.state host.old }
-    ensures closed { (result ≡ Err Fault.OutOfMemory) ⊎ AreClosed (H.state host.old).openings (H.state host.new).openings }
+    ensures closed { AreClosed (H.state host.old).openings (H.state host.new).openings }
     ensures nothing { IfErr result (WritesNothing (K.state out.old) (K.state out.new)) }
     ensures untold { StaysUntold (K.state out.old) (K.state out.new) }
 {

@@ -1,9 +1,10 @@
-use Rattle.std.proofs.Common.{rules, ◌≡◌, ◌∙◌, ◌+◌, ℕ, inl, IfErr, List, [], ◌∷◌, length, ap, sym, refl, subst, arith}
+use Rattle.std.proofs.Common.{rules, ◌≡◌, ◌∙◌, ◌+◌, ℕ, inl, IfErr, OnErr, List, [], ◌∷◌, length, ap, sym, refl, subst, arith}
 use Rattle.std.proofs.lemmas.List.{length-replicate}
 use Rattle.bd_building.specs.Progress.{nothing_yet, Progress}
+use Rattle.bd_opened.specs.Covering.{AreClosed}
 use Rattle.bd_opened.specs.Held.{Held}
 use Rattle.bd_outside.specs.File.{Told}
-use Rattle.bd_top.specs.DiskRows.{IsClosedUnless, StandOpen, TellsSo}
+use Rattle.bd_top.specs.DiskRows.{StandOpen, TellsSo}
 use Rattle.std.specs.Prelude.{All}
 use Rattle.std.specs.Vec.Iter.{into_iter_items}
 use Rattle.std.proofs.lemmas.List.Elements.{All-head, All-tail}
@@ -15,7 +16,7 @@ use Rattle.bd_top.specs.Configure.{IsRefused}
 use Rattle.bd_top.specs.Disks.{IsNamed, Opens}
 use Rattle.bd_top.specs.Opening.{IsStepRefused}
 use Rattle.bd_opened.proofs.EachClosed.{kept_same}
-use Rattle.bd_top.proofs.DiskRows.{stand_first}
+use Rattle.bd_top.proofs.DiskRows.{closed_after, closed_same, stand_first}
 use Rattle.bd_top.proofs.FileCauses.{doing_from, step_at, step_refused_at}
 use Rattle.bd_top.proofs.FileLemmas.{later_same, later_then}
 use Rattle.bd_top.proofs.Opening.{IsOnWay, ends, goes_on, is_refused, starts}
@@ -49,7 +50,7 @@ pub returns-in_err-opened-clause-closed : goal.returns-in_err-opened-clause-clos
 returns-in_err-opened-clause-closed g c =
     let old = g.H.Host.state c.args.host.now in
     let new = g.H.Host.state c.do_command.new.host in
-    let closed : IfErr c.do_command.result (λ fault. IsClosedUnless fault old.openings new.openings) = c.do_command.ensures.closed old.told old.openings (c.loop-command.invariant.stand old.told (λ name. refl)) in
+    let closed : OnErr c.do_command.result (AreClosed old.openings new.openings) = c.do_command.ensures.closed old.told old.openings (c.loop-command.invariant.stand old.told (λ name. refl)) in
     search rules
 
 pub do_command-requires-clause-openable : goal.do_command-requires-clause-openable
@@ -106,3 +107,11 @@ returns-clause-done g c =
     let empty : into_iter_items at.command-iterator ≡ [] = none_left _ (sym at.invariant.counted ∙ c.in-None.ensures.steps.0) in
     let P : List Command → Type 0 = λ cs. IsOnWay old.told c.args.threads c.args.commands.items at.index at.opened.devices cs in
     ends old.told c.args.threads c.args.commands.items at.index at.opened.devices (subst P empty at.invariant.way)
+
+pub returns-in_default-clause-closed : goal.returns-in_default-clause-closed
+returns-in_default-clause-closed g c =
+    let old = g.H.Host.state c.args.host.now in
+    let new = g.H.Host.state c.do_command.new.host in
+    let opened = c.in_ok-opened.opened in
+    let stand : StandOpen g.H.Disk.Disk.state old.told old.openings opened.devices opened.disks new = c.in_ok-opened.ensures.opened old.told old.openings (c.loop-command.invariant.stand old.told (λ name. refl)) in
+    closed_after g.H.Disk.Disk.state old.told _ _ opened.disks opened.disks old.openings new.openings new.openings (g.H.Host.state c.close_all.new.host).openings stand.rows refl (closed_same new.openings) c.close_all.ensures.openings

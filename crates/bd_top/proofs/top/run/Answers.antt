@@ -1,5 +1,4 @@
-use Rattle.std.proofs.Common.{sym, rules, inr, map, string_bytes}
-use Rattle.bd_top.proofs.DiskRows.{done_closed}
+use Rattle.std.proofs.Common.{sym, rules, map, string_bytes}
 use Rattle.std.proofs.lemmas.Result.{IfErr-weaker}
 use Rattle.bd_top.specs.Words.{seen}
 use Rattle.bd_top.proofs.InForm.{only_memory}
@@ -19,11 +18,3 @@ pub returns-in-Ok-clause-refused : goal.returns-in-Ok-clause-refused
 returns-in-Ok-clause-refused g c fault wrong quiet =
     not_done (map string_bytes c.args.words.now) (g.H.Host.state c.args.host.now) fault wrong (g.H.Host.state c.do_asked.new.host) (g.K.Sink.state c.args.out.now) (g.K.Sink.state c.write_all.new.out) quiet
     (seen c.in-Some.asked) c.in_ok-done.done.trace c.in_ok-done.done.text.items (sym c.in-Some.ensures.meaning) c.in_ok-done.ensures.done
-
-pub returns-in-Ok-clause-closed : goal.returns-in-Ok-clause-closed
-returns-in-Ok-clause-closed g c =
-    inr (done_closed (seen c.in-Some.asked) (g.H.Host.state c.args.host.now) (g.H.Host.state c.do_asked.new.host) c.in_ok-done.done.trace c.in_ok-done.done.text.items c.in_ok-done.ensures.done c.do_asked.ensures.unread)
-
-pub returns-in-Err-clause-closed : goal.returns-in-Err-clause-closed
-returns-in-Err-clause-closed g c =
-    inr (done_closed (seen c.in-Some.asked) (g.H.Host.state c.args.host.now) (g.H.Host.state c.do_asked.new.host) c.in_ok-done.done.trace c.in_ok-done.done.text.items c.in_ok-done.ensures.done c.do_asked.ensures.unread)

@@ -11,3 +11,13 @@ returns-in-Ok-clause-done g c =
       played = c.in-Ok.ensures.played c.in_ok-ready.ensures.alone;
       disks = c.in-Ok.ensures.disks old.told old.openings c.in_ok-ready.ensures.alone c.in_ok-ready.ensures.opened;
     }
+
+pub returns-in-Ok-clause-closed : goal.returns-in-Ok-clause-closed
+returns-in-Ok-clause-closed g c =
+    let old = g.H.Host.state c.args.host.now in
+    c.play_and_report.ensures.closed old.told old.openings c.in_ok-ready.ensures.opened
+
+pub returns-in-Err-clause-closed : goal.returns-in-Err-clause-closed
+returns-in-Err-clause-closed g c =
+    let old = g.H.Host.state c.args.host.now in
+    c.play_and_report.ensures.closed old.told old.openings c.in_ok-ready.ensures.opened
