@@ -1,4 +1,5 @@
 //! The acts of a history: each is one step of the layer that nothing divides.
+use crate::boxed::Boxed;
 use crate::event::{Answer, RegEvent};
 use crate::id::{DevId, HandleId, ReqId, WalkId};
 use crate::name::Name;
@@ -57,10 +58,10 @@ pub enum Act {
         number: u128,
         what: Token,
     },
-    /// An event of the registry.
+    /// An event of the registry. The answer has a place of its own, since few acts have one and an entry is to stay narrow.
     Reg {
         event: RegEvent,
-        answer: Answer,
+        answer: Boxed<Answer>,
     },
     /// A request was accepted: its range is in blocks of the handle's device.
     Accept {

@@ -3,6 +3,7 @@
 #![tactic(auto)]
 
 mod act;
+mod boxed;
 mod bytes;
 mod device;
 mod digest;
@@ -19,6 +20,7 @@ mod setup;
 mod thread_set;
 
 pub use act::{Act, ApplyEnd, Entry, Outcome, Token};
+pub use boxed::Boxed;
 pub use bytes::Bytes;
 pub use device::{DevRow, ErrKind, Injection, Injections, IoSet, Kind, RateSet, Rates};
 pub use digest::digest_of;

@@ -147,7 +147,7 @@ fn refused_act(alloc: Global, side: &Side, act: &Act) -> Result<Option<u32>, Out
             number,
             what,
         } => Ok(messages::refused_took(side, message(*source, *number), what)),
-        Act::Reg { event, answer } => events::refused_reg(alloc, side, event, answer),
+        Act::Reg { event, answer } => events::refused_reg(alloc, side, event, answer.get()),
         Act::Accept { .. } | Act::Refuse { .. } | Act::Cut { .. } | Act::Complete { .. } => {
             refused_request(alloc, side, act)
         }
@@ -246,7 +246,7 @@ fn changed_by(alloc: Global, side: &Side, act: &Act) -> Result<State, OutOfMemor
             number,
             what,
         } => messages::take(alloc, side, message(*source, *number), what),
-        Act::Reg { event, answer } => events::reg(alloc, side, event, answer),
+        Act::Reg { event, answer } => events::reg(alloc, side, event, answer.get()),
         Act::Accept { .. } | Act::Refuse { .. } | Act::Cut { .. } | Act::Complete { .. } => {
             changed_by_request(alloc, side, act)
         }
@@ -277,7 +277,9 @@ fn register_asked(
     ensures { OnOk result (registry.new ≡ registry_after setup.now registry.old thread (asked act.now)) }
 {
     match act {
-        Act::Reg { event, answer } => register(alloc, setup, registry, thread, event, answer),
+        Act::Reg { event, answer } => {
+            register(alloc, setup, registry, thread, event, answer.get())
+        }
         _ => Ok(()),
     }
 }
@@ -289,7 +291,7 @@ fn taken_injection(act: &Act) -> Option<TakenInjection>
     let Act::Reg { event, answer } = act else {
         return None;
     };
-    match (event, answer) {
+    match (event, answer.get()) {
         (RegEvent::TakeInjection { dev, req, .. }, Answer::Injected { decision }) => {
             Some(TakenInjection {
                 req: *req,

@@ -2,7 +2,8 @@
 ghost use Rattle.std.specs.Prelude.{◌≡◌, IfOk};
 ghost use Rattle.bd_registry.specs.State.{event_row};
 
-use bd_base::{Act, Answer, Entry, OutOfMemory, RegEvent};
+use bd_base::{Act, Answer, Boxed, Entry, OutOfMemory, RegEvent};
+use std::alloc::Global;
 
 fn copy_event(event: &RegEvent) -> Result<RegEvent, OutOfMemory>
     ensures { IfOk result (λ e. e ≡ event.now) }
@@ -90,6 +91,7 @@ fn copy_answer(answer: &Answer) -> Result<Answer, OutOfMemory>
 
 /// The row of an event with its answer.
 pub(crate) fn event_row(
+    alloc: Global,
     thread: u32,
     stamp: u128,
     event: &RegEvent,
@@ -99,7 +101,7 @@ pub(crate) fn event_row(
 {
     let act = Act::Reg {
         event: copy_event(event)?,
-        answer: copy_answer(answer)?,
+        answer: Boxed::new(alloc, copy_answer(answer)?)?,
     };
     Ok(Entry { stamp, thread, act })
 }

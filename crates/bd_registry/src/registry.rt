@@ -198,7 +198,7 @@ impl Registry {
         ensures err { OnErr result (self.new ≡ self.old) }
     {
         let counts = counts_after(alloc, &self.setup, self, thread, event, answer)?;
-        let row = event_row(thread, stamp, event, answer)?;
+        let row = event_row(alloc, thread, stamp, event, answer)?;
         self.journal.push(row)?;
         match self
             .tables

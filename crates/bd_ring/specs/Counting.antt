@@ -2,10 +2,9 @@
 use Rattle.std.specs.Prelude.{◌≡◌, ℕ, ◌<◌, List, [], ◌∷◌, ◌++◌, length, slice_index_or}
 use Prim.Native.Nat.{zero, suc}
 use Rattle.atomic_table.specs.Seated.{TableId}
-use Rattle.bd_base.specs.declared.act.Act.TheVariants.{Reg}
+use Rattle.bd_base.specs.declared.act.Act.TheVariants.{Script}
+use Rattle.bd_base.specs.declared.act.Outcome.TheVariants.{Done}
 use Rattle.bd_base.specs.declared.act.Entry.{Entry}
-use Rattle.bd_base.specs.declared.event.Answer.TheVariants.{ResetQueued}
-use Rattle.bd_base.specs.declared.event.RegEvent.TheVariants.{EndReset}
 use Rattle.bd_base.specs.declared.journal.Start.{Start}
 use Rattle.bd_base.specs.declared.act.Token.TheVariants as tokens
 use Rattle.bd_machine.specs.declared.state.Kept.TheVariants as keeps
@@ -34,7 +33,7 @@ abbrev pub HavePut : ℕ → List Sender → List Sender → Type 0
 HavePut count before after = (k : ℕ) (d : Sender) → k < length before → slice_index_or after k d ≡ after_posts (slice_index_or before k d) count
 
 abbrev pub row_at : ℕ → ℕ → Entry
-row_at thread n = record { stamp = n; thread = thread; act = Reg (EndReset (record { 0 = n })) ResetQueued }
+row_at thread n = record { stamp = n; thread = thread; act = Script n Done }
 
 -- the first n rows of a thread
 abbrev pub first_rows : ℕ → ℕ → List Entry

@@ -5,7 +5,7 @@ ghost use Rattle.bd_ring.specs.SlotRule.{rows_of};
 ghost use Rattle.bd_ring.specs.Slots.{holder};
 
 use crate::slot::{Slot, SlotPass};
-use bd_base::{Act, Answer, DevId, Entry, Journaled, OutOfMemory, RegEvent};
+use bd_base::{Act, Entry, Journaled, OutOfMemory, Outcome};
 use std::alloc::Global;
 use std::marker::Model;
 use std::sync::Wait;
@@ -77,9 +77,9 @@ fn row(thread: u32, number: u32) -> Entry
     Entry {
         stamp: u128::from(number),
         thread,
-        act: Act::Reg {
-            event: RegEvent::EndReset { dev: DevId(number) },
-            answer: Answer::ResetQueued,
+        act: Act::Script {
+            line: number,
+            outcome: Outcome::Done,
         },
     }
 }

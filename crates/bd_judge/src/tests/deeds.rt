@@ -1,8 +1,8 @@
 //! Acts in words, which the tests give the machine by hand.
 use crate::tests::setups::name;
 use bd_base::{
-    Act, Answer, ApplyEnd, ClaimKind, DevId, Dropped, Entry, Errno, HandleId, Op, OutOfMemory,
-    Outcome, RegEvent, ReqId, Rows, Setup, Shown, Status, ThreadSet, Token,
+    Act, Answer, ApplyEnd, Boxed, ClaimKind, DevId, Dropped, Entry, Errno, HandleId, Op,
+    OutOfMemory, Outcome, RegEvent, ReqId, Rows, Setup, Shown, Status, ThreadSet, Token,
 };
 use bd_play::{Machine, StepNo};
 use std::alloc::Global;
@@ -145,7 +145,7 @@ fn act(alloc: Global, deed: Deed) -> Result<Act, OutOfMemory> {
     match deed {
         Deed::Reg(ask) => Ok(Act::Reg {
             event: event(alloc, ask)?,
-            answer: answer(alloc, ask),
+            answer: Boxed::new(alloc, answer(alloc, ask))?,
         }),
         Deed::Accept(req, dev, op, lba, count) => { Ok(accepted(req, DevId(dev), op, lba, count)) }
         Deed::Refuse(op, lba) => Ok(refused(op, lba)),
