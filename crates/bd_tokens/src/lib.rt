@@ -2,6 +2,8 @@
 #![tactic(auto)]
 
 mod key;
+mod others;
+mod places;
 mod tokens;
 
 pub use tokens::Tokens;

@@ -1,10 +1,14 @@
 //! What a thread holds of the tokens that are on it.
-ghost use Rattle.std.specs.Prelude.{◌≡◌, ◌+◌, ◌<◌, ◌≤◌, [], length, option_copied, IfNone, OnOk, OnErr, IsOk, None, Some};
+ghost use Rattle.std.specs.Prelude.{◌≡◌, ◌+◌, ◌<◌, ◌≤◌, [], length, slice_index_or, option_copied, true, vec_len, IfNone, OnOk, OnErr, IsOk, None, Some};
+ghost use Rattle.std.specs.HashMap.{spare};
 ghost use Rattle.bd_changes.specs.Begun.{begun, walk_moved};
 ghost use Rattle.bd_machine.specs.Alone.{held_after};
+ghost use Rattle.bd_tokens.specs.Places.{is_free, items_with, place_of, AreKept};
 ghost use Rattle.bd_tokens.specs.Tokens.{here_in, left_of, Sets};
 
 use crate::key::Key;
+use crate::others::{drop_other, get_other, hold_other, take_other};
+use crate::places::{Row, count, free_place, kept_at_place, make_places, own_place, take_at};
 use bd_base::{OutOfMemory, Token, WalkId};
 use bd_changes::{is_at_end, stays, taken};
 use bd_machine::{Id, Kept, OpenWalk};
@@ -16,16 +20,62 @@ use std::marker::Model;
 /// can be held without taking memory.
 #[derive(Drop)]
 pub struct Tokens {
+    // requests and pieces, each at its place
+    rows: Vec<Row>,
+    // walks and notices, and tokens whose place another one has
     map: HashMap<Key, Kept>,
 }
 
 impl Model for Tokens {
     ghost use Rattle.std.specs.HashMap.{spare};
-    ghost use Rattle.bd_tokens.specs.Tokens.{Held, items_of};
+    ghost use Rattle.bd_tokens.specs.Places.{items_with, AreKept};
+    ghost use Rattle.bd_tokens.specs.Tokens.{Held};
 
     ghost Value = { Held };
 
-    ghost view = { λ t. record { items = items_of t.map.entries; room = spare t.map } };
+    ghost view = { λ t. record { items = items_with t.rows.items t.map.entries; room = spare t.map } };
+
+    ghost invariant = { λ t. AreKept t.rows.items t.map.entries };
+}
+
+// The token is at its place, where that is free, and else in the map.
+fn hold(
+    rows: &mut Vec<Row>,
+    map: &mut HashMap<Key, Kept>,
+    id: Id,
+    kept: Kept,
+) -> Result<(), OutOfMemory>
+    requires { AreKept rows.old.items map.old.entries }
+    ensures kept { AreKept rows.new.items map.new.entries }
+    ensures ok { OnOk result (Sets (items_with rows.old.items map.old.entries) (items_with rows.new.items map.new.entries) id (Some kept)) }
+    ensures err { OnErr result (items_with rows.new.items map.new.entries ≡ items_with rows.old.items map.old.entries) }
+    ensures room { spare map.old ≤ spare map.new + 1 }
+    ensures holds { 0 < spare map.old → IsOk result }
+{
+    match free_place(rows.as_slice(), id) {
+        Some(place) => {
+            hold_at(rows, map, place, id, kept);
+            Ok(())
+        }
+        None => {
+            hold_other(map, id, kept)?;
+            Ok(())
+        }
+    }
+}
+
+// The token is at its place, which is free.
+fn hold_at(rows: &mut Vec<Row>, map: &mut HashMap<Key, Kept>, place: usize, id: Id, kept: Kept)
+    requires kept { AreKept rows.old.items map.old.entries }
+    requires within { place < vec_len rows.old }
+    requires place { place_of id ≡ Some place }
+    requires free { is_free id (slice_index_or rows.old.items place None) ≡ true }
+    ensures kept { AreKept rows.new.items map.new.entries }
+    ensures held { Sets (items_with rows.old.items map.old.entries) (items_with rows.new.items map.new.entries) id (Some kept) }
+    ensures room { spare map.old ≤ spare map.new }
+{
+    drop_other(map, id);
+    rows[place] = Some((id, kept));
 }
 
 impl Tokens {
@@ -34,6 +84,7 @@ impl Tokens {
         ensures { result.items ≡ [] }
     {
         Tokens {
+            rows: Vec::new(alloc),
             map: HashMap::new(alloc),
         }
     }
@@ -42,14 +93,17 @@ impl Tokens {
     pub fn len(&self) -> usize
         ensures { result ≡ length self.now.items }
     {
-        self.map.len()
+        count(self.rows.as_slice()) + self.map.len()
     }
 
     /// What is held of the token.
     pub fn get(&self, id: Id) -> Option<&Kept>
         ensures { option_copied result ≡ here_in self.now.items id }
     {
-        self.map.get(&Key { id })
+        match kept_at_place(self.rows.as_slice(), id) {
+            Some(kept) => Some(kept),
+            None => get_other(&self.map, id),
+        }
     }
 
     /// Takes memory for `n` more tokens. Out of memory, nothing changed.
@@ -70,8 +124,8 @@ impl Tokens {
         ensures room { self.old.room ≤ self.new.room + 1 }
         ensures holds { 0 < self.old.room → IsOk result }
     {
-        self.map.insert(Key { id }, kept)?;
-        Ok(())
+        make_places(&mut self.rows);
+        hold(&mut self.rows, &mut self.map, id, kept)
     }
 
     /// Takes out what is held of the token, where it is here.
@@ -81,7 +135,10 @@ impl Tokens {
         ensures same { IfNone result (self.new.items ≡ self.old.items) }
         ensures room { self.old.room ≤ self.new.room }
     {
-        self.map.remove(&Key { id })
+        match own_place(self.rows.as_slice(), id) {
+            Some(place) => take_at(&mut self.rows, place),
+            None => take_other(&mut self.map, id),
+        }
     }
 
     /// Lets the token go, where it is here.

@@ -1,0 +1,332 @@
+-- A token is looked up at its place and then in the map; a change at one place, or in the map, is a change of one token.
+use Rattle.std.proofs.Common.{◌≡◌, ◌≢◌, ℕ, zero, suc, ◌+◌, ◌<◌, ◌≤◌, ◌==◌, ◌⊎◌, inl, inr, Bool, true, false, cond, List, [], ◌∷◌, ◌++◌, length, slice_index_or, slice_set, Option, Some, None, is_some, option_map, refl, sym, ◌∙◌, ap, ap₂, subst, eqb-true, eq-eqb, arith}
+use Rattle.std.proofs.lemmas.List.{get_or-set_same, get_or-set_other, get_or_past, length-set}
+use mathlib.Core.Path.{fun_ext}
+use Rattle.bd_machine.specs.declared.state.Id.{Id}
+use Rattle.bd_machine.specs.declared.state.Kept.{Kept}
+use Rattle.bd_machine.specs.Same.{same_id}
+use Rattle.bd_machine.proofs.Tables.{id_same}
+use Rattle.bd_tokens.specs.declared.key.Key.{Key}
+use Rattle.bd_tokens.specs.Tokens.{here_in, items_of, Sets}
+use Rattle.bd_tokens.specs.Places.{items_in, items_with, is_free, is_own, kept_in, kept_of, place_of, AreApart, AreAt, AreKept, IsAt}
+
+-- ---- places
+
+some_same : (a b : ℕ) → Some a ≡ Some b → a ≡ b
+some_same a b e = cc
+
+none_some : {A : Type 0} (a : A) → None ≡ Some a → ⊥
+none_some a e = cc
+
+clash : true ≡ false → ⊥
+clash h = cc
+
+-- tokens with other places are other tokens
+differ : (id j : Id) → place_of id ≢ place_of j → same_id id j ≡ false
+differ id j other = go (same_id id j) refl
+  where
+    go : (b : Bool) → same_id id j ≡ b → b ≡ false
+    go true e = absurd (other (ap place_of (id_same.exact id j e)))
+    go false e = refl
+
+-- a token whose place is none of these isn't at one of them
+pub nowhere : (place : ℕ) (rows : List (Option (Id × Kept))) (id : Id) → AreAt place rows → ((k : ℕ) → place ≤ k → place_of id ≢ Some k) → here_in (items_in rows) id ≡ None
+nowhere place [] id at other = refl
+nowhere place (None ∷ rows) id at other = nowhere (place + 1) rows id at.1 (λ k le. other k (omega arith))
+nowhere place (Some item ∷ rows) id at other =
+    ap (λ (b : Bool). cond b (Some item.1) (here_in (items_in rows) id)) (differ item.0 id (λ same. other place (omega arith) (sym same ∙ at.0)))
+    ∙ nowhere (place + 1) rows id at.1 (λ k le. other k (omega arith))
+
+-- what is here of a token is what its place has of it
+at_from : (place k n : ℕ) (rows : List (Option (Id × Kept))) (id : Id) → AreAt place rows → place_of id ≡ Some n → n ≡ place + k → here_in (items_in rows) id ≡ kept_in id (slice_index_or rows k None)
+at_from place k n [] id at is at-k = refl
+at_from place zero n (None ∷ rows) id at is at-k = nowhere (place + 1) rows id at.1 (λ m le e. let same : n ≡ m = some_same n m (sym is ∙ e) in absurd (omega arith))
+at_from place zero n (Some item ∷ rows) id at is at-k =
+    ap (λ (o : Option Kept). cond (same_id item.0 id) (Some item.1) o) (nowhere (place + 1) rows id at.1 (λ m le e. let same : n ≡ m = some_same n m (sym is ∙ e) in absurd (omega arith)))
+at_from place (suc k) n (None ∷ rows) id at is at-k = at_from (place + 1) k n rows id at.1 is (omega arith)
+at_from place (suc k) n (Some item ∷ rows) id at is at-k =
+    ap (λ (b : Bool). cond b (Some item.1) (here_in (items_in rows) id)) (differ item.0 id (λ same. let h : place ≡ n = some_same place n (sym at.0 ∙ same ∙ is) in absurd (omega arith)))
+    ∙ at_from (place + 1) k n rows id at.1 is (omega arith)
+
+pub at_place : (rows : List (Option (Id × Kept))) (k : ℕ) (id : Id) → AreAt 0 rows → place_of id ≡ Some k → here_in (items_in rows) id ≡ kept_in id (slice_index_or rows k None)
+at_place rows k id at is = at_from 0 k k rows id at is (omega arith)
+
+pub placeless : (rows : List (Option (Id × Kept))) (id : Id) → AreAt 0 rows → place_of id ≡ None → here_in (items_in rows) id ≡ None
+placeless rows id at is = nowhere 0 rows id at (λ k le e. none_some k (sym is ∙ e))
+
+-- a token whose place doesn't exist isn't at it
+pub past : (rows : List (Option (Id × Kept))) (k : ℕ) (id : Id) → AreAt 0 rows → place_of id ≡ Some k → length rows ≤ k → here_in (items_in rows) id ≡ None
+past rows k id at is le = at_place rows k id at is ∙ ap (kept_in id) (get_or_past rows k None le)
+
+-- nor is one whose place has none, or another one
+pub not_own : (rows : List (Option (Id × Kept))) (k : ℕ) (row : Option (Id × Kept)) (id : Id) → AreAt 0 rows → place_of id ≡ Some k → row ≡ slice_index_or rows k None → is_own id row ≡ false → here_in (items_in rows) id ≡ None
+not_own rows k row id at is same none = at_place rows k id at is ∙ ap (kept_in id) (sym same) ∙ of_row row none
+  where
+    of_row : (r : Option (Id × Kept)) → is_own id r ≡ false → kept_in id r ≡ None
+    of_row None e = refl
+    of_row (Some item) e = ap (λ (b : Bool). cond b (Some item.1) None) e
+
+pub not_free : (rows : List (Option (Id × Kept))) (k : ℕ) (row : Option (Id × Kept)) (id : Id) → AreAt 0 rows → place_of id ≡ Some k → row ≡ slice_index_or rows k None → is_free id row ≡ false → here_in (items_in rows) id ≡ None
+not_free rows k row id at is same none = at_place rows k id at is ∙ ap (kept_in id) (sym same) ∙ of_row row none
+  where
+    of_row : (r : Option (Id × Kept)) → is_free id r ≡ false → kept_in id r ≡ None
+    of_row None e = absurd (clash e)
+    of_row (Some item) e = ap (λ (b : Bool). cond b (Some item.1) None) e
+
+-- one place has something else
+set_from : (place k : ℕ) (rows : List (Option (Id × Kept))) (row : Option (Id × Kept)) → AreAt place rows → IsAt (place + k) row → AreAt place (slice_set rows k row)
+set_from place k [] row at is = tt
+set_from place zero (old ∷ rows) row at is = (subst (λ (n : ℕ). IsAt n row) (omega arith) is, at.1)
+set_from place (suc k) (old ∷ rows) row at is = (at.0, set_from (place + 1) k rows row at.1 (subst (λ (n : ℕ). IsAt n row) (omega arith) is))
+
+set_at : (rows : List (Option (Id × Kept))) (k : ℕ) (row : Option (Id × Kept)) (id : Id) (o : Option Kept)
+    → AreAt 0 rows
+    → AreAt 0 (slice_set rows k row)
+    → k < length rows
+    → place_of id ≡ Some k
+    → ((j : Id) → kept_in j row ≡ cond (same_id id j) o (kept_in j (slice_index_or rows k None)))
+    → (j : Id) → here_in (items_in (slice_set rows k row)) j ≡ cond (same_id id j) o (here_in (items_in rows) j)
+set_at rows k row id o at at' lt is changed j = go (place_of j) refl
+  where
+    other : place_of id ≢ place_of j → here_in (items_in (slice_set rows k row)) j ≡ here_in (items_in rows) j → here_in (items_in (slice_set rows k row)) j ≡ cond (same_id id j) o (here_in (items_in rows) j)
+    other differs same = same ∙ ap (λ (b : Bool). cond b o (here_in (items_in rows) j)) (sym (differ id j differs))
+
+    at-m : (m : ℕ) → place_of j ≡ Some m → (b : Bool) → (m == k) ≡ b → here_in (items_in (slice_set rows k row)) j ≡ cond (same_id id j) o (here_in (items_in rows) j)
+    at-m m e true same =
+        let m-is : m ≡ k = eqb-true m k same in
+        let e' : place_of j ≡ Some k = e ∙ ap (λ (n : ℕ). Some n) m-is in
+        at_place (slice_set rows k row) k j at' e' ∙ ap (λ (x : Option (Id × Kept)). kept_in j x) (get_or-set_same rows k row None lt)
+        ∙ changed j ∙ ap (λ (x : Option Kept). cond (same_id id j) o x) (sym (at_place rows k j at e'))
+    at-m m e false same =
+        let differs : m ≢ k = (λ h. clash (sym (eq-eqb m k h) ∙ same)) in
+        other (λ h. differs (some_same m k (sym e ∙ sym h ∙ is)))
+        (at_place (slice_set rows k row) m j at' e ∙ ap (λ (x : Option (Id × Kept)). kept_in j x) (get_or-set_other rows k m row None differs) ∙ sym (at_place rows m j at e))
+
+    go : (p : Option ℕ) → place_of j ≡ p → here_in (items_in (slice_set rows k row)) j ≡ cond (same_id id j) o (here_in (items_in rows) j)
+    go None e = other (λ h. none_some k (sym e ∙ sym h ∙ is)) (placeless (slice_set rows k row) j at' e ∙ sym (placeless rows j at e))
+    go (Some m) e = at-m m e (m == k) refl
+
+-- what a row that has this token, or none, has of another one
+of_other : (id j : Id) (row : Option (Id × Kept)) → is_free id row ≡ true → same_id id j ≡ false → kept_in j row ≡ None
+of_other id j None free differs = refl
+of_other id j (Some item) free differs = ap (λ (b : Bool). cond b (Some item.1) None) (ap (λ (i : Id). same_id i j) (id_same.exact item.0 id free) ∙ differs)
+
+own_free : (id : Id) (row : Option (Id × Kept)) → is_own id row ≡ true → is_free id row ≡ true
+own_free id None own = refl
+own_free id (Some item) own = own
+
+own_kept : (id : Id) (row : Option (Id × Kept)) → is_own id row ≡ true → kept_in id row ≡ option_map kept_of row
+own_kept id None own = refl
+own_kept id (Some item) own = ap (λ (b : Bool). cond b (Some item.1) None) own
+
+own_some : (id : Id) (row : Option (Id × Kept)) → is_own id row ≡ true → is_some (kept_in id row) ≡ true
+own_some id None own = absurd (clash (sym own))
+own_some id (Some item) own = ap (λ (b : Bool). is_some (cond b (Some item.1) None)) own
+
+held_row : (id : Id) (kept : Kept) (row : Option (Id × Kept)) → is_free id row ≡ true → (j : Id) → kept_in j (Some (id, kept)) ≡ cond (same_id id j) (Some kept) (kept_in j row)
+held_row id kept row free j = go (same_id id j) refl
+  where
+    go : (b : Bool) → same_id id j ≡ b → cond b (Some kept) None ≡ cond b (Some kept) (kept_in j row)
+    go true e = refl
+    go false e = sym (of_other id j row free e)
+
+empty_row : (id : Id) (row : Option (Id × Kept)) → is_free id row ≡ true → (j : Id) → kept_in j None ≡ cond (same_id id j) None (kept_in j row)
+empty_row id row free j = go (same_id id j) refl
+  where
+    go : (b : Bool) → same_id id j ≡ b → None ≡ cond b None (kept_in j row)
+    go true e = refl
+    go false e = sym (of_other id j row free e)
+
+-- ---- places and the map
+
+abbrev pub first_of : Option Kept → Option Kept → Option Kept
+first_of None o = o
+first_of (Some kept) o = Some kept
+
+of_first : (b : Bool) (kept : Kept) (o p q : Option Kept) → o ≡ first_of p q → cond b (Some kept) o ≡ first_of (cond b (Some kept) p) q
+of_first true kept o p q is = refl
+of_first false kept o p q is = is
+
+here_both : (xs ys : List (Id × Kept)) (id : Id) → here_in (xs ++ ys) id ≡ first_of (here_in xs id) (here_in ys id)
+here_both [] ys id = refl
+here_both (x ∷ xs) ys id = of_first (same_id x.0 id) x.1 (here_in (xs ++ ys) id) (here_in xs id) (here_in ys id) (here_both xs ys id)
+
+-- what is at its place is here
+pub here_own : (rows : List (Option (Id × Kept))) (entries : List (Key × Kept)) (id : Id) (kept : Kept) → here_in (items_in rows) id ≡ Some kept → here_in (items_with rows entries) id ≡ Some kept
+here_own rows entries id kept is = here_both (items_in rows) (items_of entries) id ∙ ap (λ (o : Option Kept). first_of o (here_in (items_of entries) id)) is
+
+-- of a token that isn't at its place that is here which the map has
+pub here_other : (rows : List (Option (Id × Kept))) (entries : List (Key × Kept)) (id : Id) → here_in (items_in rows) id ≡ None → here_in (items_with rows entries) id ≡ here_in (items_of entries) id
+here_other rows entries id is = here_both (items_in rows) (items_of entries) id ∙ ap (λ (o : Option Kept). first_of o (here_in (items_of entries) id)) is
+
+-- places and map change for one token alone: it is here then as they say, and all else stayed
+sets_both : (rows rows' : List (Option (Id × Kept))) (entries entries' : List (Key × Kept)) (id : Id) (o : Option Kept)
+    → ((j : Id) → same_id id j ≡ true → first_of (here_in (items_in rows') j) (here_in (items_of entries') j) ≡ o)
+    → ((j : Id) → same_id id j ≡ false → here_in (items_in rows') j ≡ here_in (items_in rows) j)
+    → ((j : Id) → same_id id j ≡ false → here_in (items_of entries') j ≡ here_in (items_of entries) j)
+    → Sets (items_with rows entries) (items_with rows' entries') id o
+sets_both rows rows' entries entries' id o own places others = fun_ext (λ (j : Id). here_both (items_in rows') (items_of entries') j ∙ go j (same_id id j) refl)
+  where
+    go : (j : Id) (b : Bool) → same_id id j ≡ b → first_of (here_in (items_in rows') j) (here_in (items_of entries') j) ≡ cond b o (here_in (items_with rows entries) j)
+    go j true e = own j e
+    go j false e = ap₂ first_of (places j e) (others j e) ∙ sym (here_both (items_in rows) (items_of entries) j)
+
+apart_both : (rows rows' : List (Option (Id × Kept))) (entries entries' : List (Key × Kept)) (id : Id)
+    → ((j : Id) → same_id id j ≡ true → (here_in (items_in rows') j ≡ None) ⊎ (here_in (items_of entries') j ≡ None))
+    → ((j : Id) → same_id id j ≡ false → here_in (items_in rows') j ≡ here_in (items_in rows) j)
+    → ((j : Id) → same_id id j ≡ false → here_in (items_of entries') j ≡ here_in (items_of entries) j)
+    → AreApart rows entries → AreApart rows' entries'
+apart_both rows rows' entries entries' id own places others apart j = go (same_id id j) refl
+  where
+    kept : same_id id j ≡ false → (here_in (items_in rows) j ≡ None) ⊎ (here_in (items_of entries) j ≡ None) → (here_in (items_in rows') j ≡ None) ⊎ (here_in (items_of entries') j ≡ None)
+    kept e (inl h) = inl (places j e ∙ h)
+    kept e (inr h) = inr (others j e ∙ h)
+
+    go : (b : Bool) → same_id id j ≡ b → (here_in (items_in rows') j ≡ None) ⊎ (here_in (items_of entries') j ≡ None)
+    go true e = own j e
+    go false e = kept e (apart j)
+
+at_same : (f : Id → Option Kept) (id j : Id) (o : Option Kept) → same_id id j ≡ true → f id ≡ o → f j ≡ o
+at_same f id j o e is = ap f (sym (id_same.exact id j e)) ∙ is
+
+-- one place has another row for its token
+module _ (rows : List (Option (Id × Kept))) (k : ℕ) (row : Option (Id × Kept)) (id : Id) (o : Option Kept)
+    (set-is : (j : Id) → here_in (items_in (slice_set rows k row)) j ≡ cond (same_id id j) o (here_in (items_in rows) j)) where
+  set_own : (j : Id) → same_id id j ≡ true → here_in (items_in (slice_set rows k row)) j ≡ o
+  set_own j e = set-is j ∙ ap (λ (b : Bool). cond b o (here_in (items_in rows) j)) e
+
+  set_other : (j : Id) → same_id id j ≡ false → here_in (items_in (slice_set rows k row)) j ≡ here_in (items_in rows) j
+  set_other j e = set-is j ∙ ap (λ (b : Bool). cond b o (here_in (items_in rows) j)) e
+
+-- the map has something else of one token
+module _ (entries entries' : List (Key × Kept)) (id : Id) (o : Option Kept) (sets : Sets (items_of entries) (items_of entries') id o) where
+  map_own : (j : Id) → same_id id j ≡ true → here_in (items_of entries') j ≡ o
+  map_own j e = ap (λ (f : Id → Option Kept). f j) sets ∙ ap (λ (b : Bool). cond b o (here_in (items_of entries) j)) e
+
+  map_other : (j : Id) → same_id id j ≡ false → here_in (items_of entries') j ≡ here_in (items_of entries) j
+  map_other j e = ap (λ (f : Id → Option Kept). f j) sets ∙ ap (λ (b : Bool). cond b o (here_in (items_of entries) j)) e
+
+-- a token is held at its place, and the map doesn't have it
+pub record IsHeldAt (rows : List (Option (Id × Kept))) (entries entries' : List (Key × Kept)) (k : ℕ) (id : Id) (it : Kept) : Type 0 where
+  pub kept : AreKept (slice_set rows k (Some (id, it))) entries'
+  pub held : Sets (items_with rows entries) (items_with (slice_set rows k (Some (id, it))) entries') id (Some it)
+
+pub held_at : (rows : List (Option (Id × Kept))) (entries entries' : List (Key × Kept)) (k : ℕ) (id : Id) (kept : Kept)
+    → AreKept rows entries
+    → k < length rows
+    → place_of id ≡ Some k
+    → is_free id (slice_index_or rows k None) ≡ true
+    → Sets (items_of entries) (items_of entries') id None
+    → IsHeldAt rows entries entries' k id kept
+held_at rows entries entries' k id kept before lt is free gone =
+    let row : Option (Id × Kept) = Some (id, kept) in
+    let at' : AreAt 0 (slice_set rows k row) = set_from 0 k rows row before.at (is ∙ ap (λ (n : ℕ). Some n) (let h : k ≡ 0 + k = omega arith in h)) in
+    let set-is : (j : Id) → here_in (items_in (slice_set rows k row)) j ≡ cond (same_id id j) (Some kept) (here_in (items_in rows) j) =
+    set_at rows k row id (Some kept) before.at at' lt is (held_row id kept (slice_index_or rows k None) free) in
+    record {
+      kept = record {
+        few = omega (arith, length-set rows k row, before.few);
+        at = at';
+        apart = apart_both rows (slice_set rows k row) entries entries' id (λ j e. inr (map_own entries entries' id None gone j e)) (set_other rows k row id (Some kept) set-is) (map_other entries entries' id None gone) before.apart;
+      };
+      held = sets_both rows (slice_set rows k row) entries entries' id (Some kept)
+          (λ j e. ap (λ (x : Option Kept). first_of x (here_in (items_of entries') j)) (set_own rows k row id (Some kept) set-is j e))
+          (set_other rows k row id (Some kept) set-is) (map_other entries entries' id None gone);
+    }
+
+-- a token is held in the map, where it isn't at its place
+pub record IsHeldThere (rows : List (Option (Id × Kept))) (entries entries' : List (Key × Kept)) (id : Id) (o : Option Kept) : Type 0 where
+  pub kept : AreKept rows entries'
+  pub held : Sets (items_with rows entries) (items_with rows entries') id o
+
+pub held_there : (rows : List (Option (Id × Kept))) (entries entries' : List (Key × Kept)) (id : Id) (o : Option Kept)
+    → AreKept rows entries → here_in (items_in rows) id ≡ None → Sets (items_of entries) (items_of entries') id o → IsHeldThere rows entries entries' id o
+held_there rows entries entries' id o before none sets =
+    let nothing : (j : Id) → same_id id j ≡ true → here_in (items_in rows) j ≡ None = λ j e. at_same (here_in (items_in rows)) id j None e none in
+    record {
+      kept = record { few = before.few; at = before.at; apart = apart_both rows rows entries entries' id (λ j e. inl (nothing j e)) (λ j e. refl) (map_other entries entries' id o sets) before.apart };
+      held = sets_both rows rows entries entries' id o (λ j e. ap₂ first_of (nothing j e) (map_own entries entries' id o sets j e)) (λ j e. refl) (map_other entries entries' id o sets);
+    }
+
+-- a token is taken from its place, as it was seen there
+pub record IsTaken (rows rows' : List (Option (Id × Kept))) (entries : List (Key × Kept)) (id : Id) (was : Option Kept) : Type 0 where
+  pub kept : AreKept rows' entries
+  pub gone : Sets (items_with rows entries) (items_with rows' entries) id None
+  pub is : here_in (items_with rows entries) id ≡ was
+
+taken_at : (rows : List (Option (Id × Kept))) (entries : List (Key × Kept)) (k : ℕ) (id : Id)
+    → AreKept rows entries → k < length rows → place_of id ≡ Some k → is_own id (slice_index_or rows k None) ≡ true
+    → IsTaken rows (slice_set rows k None) entries id (option_map kept_of (slice_index_or rows k None))
+taken_at rows entries k id before lt is own =
+    let old : Option (Id × Kept) = slice_index_or rows k None in
+    let at' : AreAt 0 (slice_set rows k None) = set_from 0 k rows None before.at tt in
+    let set-is : (j : Id) → here_in (items_in (slice_set rows k None)) j ≡ cond (same_id id j) None (here_in (items_in rows) j) =
+    set_at rows k None id None before.at at' lt is (empty_row id old (own_free id old own)) in
+    let here : here_in (items_in rows) id ≡ kept_in id old = at_place rows k id before.at is in
+    let none : here_in (items_of entries) id ≡ None = not_both (kept_in id old) (own_some id old own) here (before.apart id) in
+    record {
+      kept = record {
+        few = omega (arith, length-set rows k None, before.few);
+        at = at';
+        apart = apart_both rows (slice_set rows k None) entries entries id (λ j e. inl (set_own rows k None id None set-is j e)) (set_other rows k None id None set-is) (λ j e. refl) before.apart;
+      };
+      gone = sets_both rows (slice_set rows k None) entries entries id None
+          (λ j e. ap₂ first_of (set_own rows k None id None set-is j e) (at_same (here_in (items_of entries)) id j None e none))
+          (set_other rows k None id None set-is) (λ j e. refl);
+      is = was-is (kept_in id old) (own_some id old own) (own_kept id old own) here;
+    }
+  where
+    not_both : (o : Option Kept) → is_some o ≡ true → here_in (items_in rows) id ≡ o → (here_in (items_in rows) id ≡ None) ⊎ (here_in (items_of entries) id ≡ None) → here_in (items_of entries) id ≡ None
+    not_both None some e h = absurd (clash (sym some))
+    not_both (Some x) some e (inl h) = absurd (none_some x (sym h ∙ e))
+    not_both (Some x) some e (inr h) = h
+
+    was-is : (o : Option Kept) → is_some o ≡ true → o ≡ option_map kept_of (slice_index_or rows k None) → here_in (items_in rows) id ≡ o → here_in (items_with rows entries) id ≡ option_map kept_of (slice_index_or rows k None)
+    was-is None some same e = absurd (clash (sym some))
+    was-is (Some x) some same e = here_own rows entries id x e ∙ same
+
+pub takes : (rows rows' seen : List (Option (Id × Kept))) (entries : List (Key × Kept)) (k : ℕ) (id : Id)
+    → AreKept rows entries
+    → seen ≡ rows
+    → k < length seen
+    → place_of id ≡ Some k
+    → is_own id (slice_index_or seen k None) ≡ true
+    → rows' ≡ slice_set rows k None
+    → IsTaken rows rows' entries id (option_map kept_of (slice_index_or rows k None))
+takes rows rows' seen entries k id before same lt is own after =
+    subst (λ (xs : List (Option (Id × Kept))). IsTaken rows xs entries id (option_map kept_of (slice_index_or rows k None))) (sym after)
+    (taken_at rows entries k id before (subst (λ (xs : List (Option (Id × Kept))). k < length xs) same lt) is (subst (λ (xs : List (Option (Id × Kept))). is_own id (slice_index_or xs k None) ≡ true) same own))
+
+-- ---- making the places, and counting what is there
+
+pub none_more : (rows : List (Option (Id × Kept))) → items_in rows ≡ [] → items_in (rows ++ None ∷ []) ≡ []
+none_more [] none = refl
+none_more (None ∷ rows) none = none_more rows none
+none_more (Some item ∷ rows) none = absurd (let h : item ∷ items_in rows ≡ [] = none in cc)
+
+at_more_from : (place : ℕ) (rows : List (Option (Id × Kept))) → AreAt place rows → AreAt place (rows ++ None ∷ [])
+at_more_from place [] at = (tt, tt)
+at_more_from place (row ∷ rows) at = (at.0, at_more_from (place + 1) rows at.1)
+
+pub at_more : (rows : List (Option (Id × Kept))) → AreAt 0 rows → AreAt 0 (rows ++ None ∷ [])
+at_more rows at = at_more_from 0 rows at
+
+-- places with the same tokens
+pub kept_places : (rows rows' : List (Option (Id × Kept))) (entries : List (Key × Kept)) → AreKept rows entries → length rows' ≤ 384 → AreAt 0 rows' → items_in rows' ≡ items_in rows → AreKept rows' entries
+kept_places rows rows' entries before few at same = record {
+  few = few;
+  at = at;
+  apart = λ j. subst (λ (items : List (Id × Kept)). (here_in items j ≡ None) ⊎ (here_in (items_of entries) j ≡ None)) (sym same) (before.apart j);
+}
+
+-- a map with the same tokens
+pub kept_others : (rows : List (Option (Id × Kept))) (entries entries' : List (Key × Kept)) → AreKept rows entries → here_in (items_of entries') ≡ here_in (items_of entries) → AreKept rows entries'
+kept_others rows entries entries' before same = record {
+  few = before.few;
+  at = before.at;
+  apart = λ j. subst (λ (f : Id → Option Kept). (here_in (items_in rows) j ≡ None) ⊎ (f j ≡ None)) (sym same) (before.apart j);
+}
+
+pub here_others : (rows : List (Option (Id × Kept))) (entries entries' : List (Key × Kept)) → here_in (items_of entries') ≡ here_in (items_of entries) → here_in (items_with rows entries') ≡ here_in (items_with rows entries)
+here_others rows entries entries' same = fun_ext (λ (j : Id).
+    here_both (items_in rows) (items_of entries') j ∙ ap (λ (f : Id → Option Kept). first_of (here_in (items_in rows) j) (f j)) same ∙ sym (here_both (items_in rows) (items_of entries) j))

@@ -1,0 +1,170 @@
+//! Places for tokens: each request and each piece has one, which it shares with others. What is at the places is
+//! found without a search; a token whose place another one has is in a map.
+ghost use Rattle.std.specs.Prelude.{◌≡◌, ◌<◌, ◌≤◌, [], length, slice_index_or, slice_set, option_copied, option_map, true, vec_len, IfNone, IfSome, Some, None};
+ghost use Rattle.bd_tokens.specs.Places.{is_free, is_own, items_in, kept_in, kept_of, place_of, AreAt};
+ghost use Rattle.bd_tokens.specs.Tokens.{here_in};
+
+use bd_machine::{Id, Kept};
+use bd_view::same_id;
+
+/// How many places there are.
+const PLACES: usize = 384;
+
+/// What is at a place: a token with what is kept of it, if there is one.
+pub(crate) type Row = Option<(Id, Kept)>;
+
+// The place of a request or a piece.
+fn place_of(id: Id) -> Option<usize>
+    ensures { result ≡ place_of id }
+{
+    match id {
+        Id::Request(req) => Some(256 + (req.seq % 128) as usize),
+        Id::Piece(req, k) => {
+            let column = ((req.seq % 16) as usize + (k % 16) as usize) % 16;
+            Some(16 * (req.thread % 16) as usize + column)
+        }
+        _ => None,
+    }
+}
+
+// What is kept of the token, where it is the one of this row.
+fn kept_in(row: &Row, id: Id) -> Option<&Kept>
+    ensures { option_copied result ≡ kept_in id row.now }
+{
+    match row {
+        Some((other, kept)) => {
+            if same_id(*other, id) {
+                Some(kept)
+            } else {
+                None
+            }
+        }
+        None => None,
+    }
+}
+
+// Whether the row has no other token.
+fn is_free(row: &Row, id: Id) -> bool
+    ensures { result ≡ is_free id row.now }
+{
+    match row {
+        Some((other, _)) => same_id(*other, id),
+        None => true,
+    }
+}
+
+// Whether the row has the token.
+fn is_own(row: &Row, id: Id) -> bool
+    ensures { result ≡ is_own id row.now }
+{
+    match row {
+        Some((other, _)) => same_id(*other, id),
+        None => false,
+    }
+}
+
+/// What is kept of the token, where it is at its place.
+pub(crate) fn kept_at_place(rows: &[Row], id: Id) -> Option<&Kept>
+    requires { AreAt 0 rows.now }
+    ensures { option_copied result ≡ here_in (items_in rows.now) id }
+{
+    let Some(place) = place_of(id) else {
+        return None;
+    };
+    match rows.get(place) {
+        Some(row) => kept_in(row, id),
+        None => None,
+    }
+}
+
+/// The place of the token, where no other one is there.
+pub(crate) fn free_place(rows: &[Row], id: Id) -> Option<usize>
+    requires { AreAt 0 rows.now }
+    ensures within { IfSome result (λ place. place < length rows.now) }
+    ensures place { IfSome result (λ place. place_of id ≡ Some place) }
+    ensures free { IfSome result (λ place. is_free id (slice_index_or rows.now place None) ≡ true) }
+    ensures none { IfNone result (here_in (items_in rows.now) id ≡ None) }
+{
+    let Some(place) = place_of(id) else {
+        return None;
+    };
+    let Some(row) = rows.get(place) else {
+        return None;
+    };
+    if is_free(row, id) { Some(place) } else { None }
+}
+
+/// The place of the token, where it is there.
+pub(crate) fn own_place(rows: &[Row], id: Id) -> Option<usize>
+    requires { AreAt 0 rows.now }
+    ensures within { IfSome result (λ place. place < length rows.now) }
+    ensures place { IfSome result (λ place. place_of id ≡ Some place) }
+    ensures own { IfSome result (λ place. is_own id (slice_index_or rows.now place None) ≡ true) }
+    ensures none { IfNone result (here_in (items_in rows.now) id ≡ None) }
+{
+    let Some(place) = place_of(id) else {
+        return None;
+    };
+    let Some(row) = rows.get(place) else {
+        return None;
+    };
+    if is_own(row, id) { Some(place) } else { None }
+}
+
+/// Makes the places, where there are none yet, as far as there is memory for them.
+pub(crate) fn make_places(rows: &mut Vec<Row>)
+    requires at { AreAt 0 rows.old.items }
+    requires few { vec_len rows.old ≤ 384 }
+    ensures at { AreAt 0 rows.new.items }
+    ensures few { vec_len rows.new ≤ 384 }
+    ensures same { items_in rows.new.items ≡ items_in rows.old.items }
+{
+    if rows.is_empty() {
+        add_places(rows);
+    }
+}
+
+// Makes the places, as far as there is memory for them.
+#[tactic(auto, using(crate::proofs::Placed::none_more, crate::proofs::Placed::at_more))]
+fn add_places(rows: &mut Vec<Row>)
+    requires { rows.old.items ≡ [] }
+    ensures at { AreAt 0 rows.new.items }
+    ensures few { vec_len rows.new ≤ 384 }
+    ensures none { items_in rows.new.items ≡ [] }
+{
+    if rows.reserve_exact(PLACES).is_err() {
+        return;
+    }
+    for _place in 0..PLACES {
+        if rows.push(None).is_err() {
+            return;
+        }
+    }
+}
+
+/// Takes out what is at a place.
+pub(crate) fn take_at(rows: &mut Vec<Row>, place: usize) -> Option<Kept>
+    requires { place < vec_len rows.old }
+    ensures kept { result ≡ option_map kept_of (slice_index_or rows.old.items place None) }
+    ensures taken { rows.new.items ≡ slice_set rows.old.items place None }
+{
+    let row = &mut rows[place];
+    match row.take() {
+        Some((_, kept)) => Some(kept),
+        None => None,
+    }
+}
+
+/// How many tokens are at their places.
+pub(crate) fn count(rows: &[Row]) -> usize
+    ensures value { result ≡ length (items_in rows.now) }
+    ensures within { result ≤ length rows.now }
+{
+    let mut count = 0;
+    for row in rows {
+        if row.is_some() {
+            count += 1;
+        }
+    }
+    count
+}
