@@ -1,5 +1,5 @@
 -- A thread's log.
-use Rattle.std.specs.Prelude.{◌≡◌, ℕ, ◌+◌, ◌≤◌, List, length}
+use Rattle.std.specs.Prelude.{◌≡◌, ℕ, ◌+◌, ◌<◌, ◌≤◌, List, [], ◌∷◌, length}
 use Rattle.std.specs.List.{AllByRecursion}
 use Rattle.bd_base.specs.declared.act.Act.{Act}
 use Rattle.bd_base.specs.declared.act.Entry.{Entry}
@@ -36,3 +36,13 @@ entry_of log act = record { stamp = log.last + 1; thread = log.thread; act = act
 abbrev pub IsCause : LogNo → Written → Type 0
 IsCause OutOfMemory log = log.capacity ≤ length log.entries
 IsCause (StampsSpent n) log = (n ≡ log.last) × (log.last ≡ 340282366920938463463374607431768211455)
+
+-- the acts of these entries as entries of a thread, with the stamps after this one
+abbrev pub stamped : ℕ → ℕ → List Entry → List Entry
+stamped thread last [] = []
+stamped thread last (x ∷ xs) = record { stamp = last + 1; thread = thread; act = x.act } ∷ stamped thread (last + 1) xs
+
+-- why a push of so many is refused: the room doesn't suffice, or they would pass the greatest stamp
+abbrev pub IsCauseOfMany : LogNo → Written → ℕ → Type 0
+IsCauseOfMany OutOfMemory log count = log.capacity < length log.entries + count
+IsCauseOfMany (StampsSpent n) log count = (n ≡ log.last) × (340282366920938463463374607431768211455 < log.last + count)

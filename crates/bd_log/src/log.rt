@@ -1,5 +1,6 @@
 //! A thread's log: what it did, each act with a stamp.
-ghost use Rattle.std.specs.Prelude.{◌≡◌, ◌+◌, ◌≤◌, ◌<◌, ◌++◌, ◌∷◌, [], length, max, IfOk, IfErr, OnOk, OnErr};
+ghost use Rattle.std.specs.Prelude.{◌≡◌, ◌+◌, ◌≤◌, ◌<◌, ◌++◌, ◌∷◌, [], length, max, vec_len, IfOk, IfErr, OnOk, OnErr};
+ghost use Rattle.bd_log.specs.Log.{stamped};
 ghost use Rattle.bd_log.specs.Merge.{IsPart};
 
 use crate::part::LogPart;
@@ -50,7 +51,7 @@ impl Model for Log {
 }
 
 impl Log {
-    ghost use Rattle.bd_log.specs.Log.{IsCause, IsWithin, entry_of, log_part};
+    ghost use Rattle.bd_log.specs.Log.{IsCause, IsCauseOfMany, IsWithin, entry_of, log_part};
 
     /// An empty log of this thread, whose first stamp is 1. It takes no memory.
     pub fn new(alloc: Global, thread: ThreadId) -> Log
@@ -85,6 +86,32 @@ impl Log {
             return Err(LogNo::OutOfMemory);
         }
         Ok(self.append(act))
+    }
+
+    /// Appends the acts of these entries in order, with the stamps after the last one: the stamps and threads that
+    /// they had don't matter. It answers the list without them, with its memory. Where so many stamps aren't left,
+    /// or there is no memory for all of them, it appends none.
+    #[tactic(auto, using(crate::proofs::Stamping::log_all))]
+    pub fn push_all(&mut self, entries: Vec<Entry>) -> Result<Vec<Entry>, LogNo>
+        ensures entries { OnOk result (self.new.entries ≡ self.old.entries ++ stamped self.old.thread self.old.last entries.items) }
+        ensures last { OnOk result (self.new.last ≡ self.old.last + vec_len entries) }
+        ensures thread { self.new.thread ≡ self.old.thread }
+        ensures capacity { self.old.capacity ≤ self.new.capacity }
+        ensures left { IfOk result (λ left. left.items ≡ []) }
+
+        ensures cause { IfErr result (λ no. IsCauseOfMany no self.old (vec_len entries)) }
+        ensures err { OnErr result (self.new ≡ record self.old { capacity = self.new.capacity }) }
+    {
+        let mut entries = entries;
+        let Some(last) = self.last.checked_add(entries.len() as u128) else {
+            return Err(LogNo::StampsSpent(self.last));
+        };
+        stamp_all(entries.as_mut_slice(), self.thread, self.last);
+        if self.entries.append(&mut entries).is_err() {
+            return Err(LogNo::OutOfMemory);
+        }
+        self.last = last;
+        Ok(entries)
     }
 
     // Appends an act for which there is room.
@@ -168,5 +195,18 @@ impl Log {
             entries,
         } = self;
         LogPart::of(thread, entries)
+    }
+}
+
+// Gives the entries this thread, and the stamps after the last one.
+fn stamp_all(entries: &mut [Entry], thread: u32, last: u128)
+    requires { last + length entries.old ≤ u128.MAX }
+    ensures { entries.new ≡ stamped thread last entries.old }
+{
+    let mut stamp = last;
+    for entry in entries.iter_mut() {
+        stamp += 1;
+        entry.stamp = stamp;
+        entry.thread = thread;
     }
 }

@@ -11,8 +11,9 @@ use std::marker::Model;
 #[derive(Debug, Drop)]
 pub struct LogPart {
     thread: u32,
-    // That of the first entry, beside the thread, where the search for the least of all finds it.
-    first_stamp: Option<u128>,
+    // That of the first entry, beside the thread, where the search for the least of all finds it; the greatest number
+    // where there is none.
+    first_stamp: u128,
     entries: VecDeque<Entry>,
 }
 
@@ -60,12 +61,13 @@ impl LogPart {
         ensures before { result ≡ head_before self.now.entries other.now.entries }
         ensures part { IsPart self.now }
     {
-        match (self.first_stamp, other.first_stamp) {
-            (None, _) => false,
-            (Some(_), None) => true,
-            (Some(first), Some(second)) => {
-                first < second || (first == second && self.thread < other.thread)
-            }
+        if self.first_stamp != other.first_stamp {
+            return self.first_stamp < other.first_stamp;
+        }
+        match (self.entries.is_empty(), other.entries.is_empty()) {
+            (true, _) => false,
+            (false, true) => true,
+            (false, false) => self.thread < other.thread,
         }
     }
 
@@ -80,12 +82,12 @@ impl LogPart {
     }
 }
 
-// The stamp of the entry at this place, if there is one.
-fn stamp_at(entries: &VecDeque<Entry>, place: usize) -> Option<u128>
+// The stamp of the entry at this place, or the greatest number.
+fn stamp_at(entries: &VecDeque<Entry>, place: usize) -> u128
     ensures { result ≡ first_stamp (drop place entries.now.items) }
 {
     match entries.get(place) {
-        Some(entry) => Some(entry.stamp),
-        None => None,
+        Some(entry) => entry.stamp,
+        None => u128::MAX,
     }
 }

@@ -2,5 +2,6 @@ mod Causes
 mod Fetching
 mod Flushing
 mod FlushingAll
+mod Stamped
 mod Suffixes
 mod TakenOver

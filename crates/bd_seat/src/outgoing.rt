@@ -63,6 +63,9 @@ pub fn flush<W: Wait>(
     ensures flushed { OnOk result (Flushed stamp pass.old queue.old pass.new queue.new) }
     ensures all { OnOk result (HasFlushedAll ring.now pass.new queue.new) }
 {
+    if queue.len() == 0 {
+        return Ok(());
+    }
     for _ in rt.forever() {
         if !flush_next(rt, ring, pass, queue, stamp)? {
             return Ok(());

@@ -1,5 +1,5 @@
 //! What a turn did, taken over into the thread's own log and into the registry that it was lent.
-ghost use Rattle.std.specs.Prelude.{◌≡◌, ◌+◌, ◌≤◌, ◌∷◌, [], ◌++◌, true, false, length, is_some, IfErr, OnOk};
+ghost use Rattle.std.specs.Prelude.{◌≡◌, ◌+◌, ◌<◌, ◌≤◌, ◌∷◌, [], ◌++◌, true, false, length, is_some, IfErr, IfOk, OnOk};
 ghost use Rattle.std.specs.List.{AllByRecursion};
 ghost use Rattle.bd_apart.specs.Course.{acts_of, restamped};
 ghost use Rattle.bd_log.specs.Log.{entry_of};
@@ -131,12 +131,12 @@ fn append_alone(log: &mut Log, act: Act) -> Result<(), SeatNo>
     Ok(())
 }
 
-/// Takes over what a turn without the registry did: each act is appended to the log, with the next stamp.
-/// None of the entries asks the registry or is a Shutdown; their own stamps don't matter. Where memory or
-/// stamps run out a prefix may have been taken over, and the thread has to halt.
-pub fn append_all(log: &mut Log, entries: Rows<Entry>) -> Result<(), SeatNo>
+// Each act is appended to the log, with the next stamp, one after the other: so a part of them where the stamps don't
+// suffice for all.
+fn append_each(log: &mut Log, entries: Rows<Entry>) -> Result<Rows<Entry>, SeatNo>
     requires none_asks { events entries ≡ [] }
     ensures appended { OnOk result (AppendsAlone log.old (restamped log.old.thread log.old.last (acts_of entries)) log.new) }
+    ensures left { IfOk result (λ left. left ≡ []) }
     ensures cause { IfErr result (λ no. IsCause no log.new.last) }
     ensures stamps { log.new.last ≤ log.old.last + length entries }
 {
@@ -144,5 +144,43 @@ pub fn append_all(log: &mut Log, entries: Rows<Entry>) -> Result<(), SeatNo>
     while let Some(entry) = left.pop_front() {
         append_alone(log, entry.act)?;
     }
-    Ok(())
+    Ok(Rows::from_vec(Vec::from(left)))
+}
+
+// The acts are appended to the log at once. There are some, and the stamps suffice for them.
+#[tactic(auto, using(crate::proofs::Stamped::alone_all))]
+fn append_many(log: &mut Log, entries: Rows<Entry>) -> Result<Rows<Entry>, SeatNo>
+    requires none_asks { events entries ≡ [] }
+    requires some { 0 < length entries }
+    requires stamps { log.old.last + length entries ≤ u128.MAX }
+    ensures appended { OnOk result (AppendsAlone log.old (restamped log.old.thread log.old.last (acts_of entries)) log.new) }
+    ensures left { IfOk result (λ left. left ≡ []) }
+    ensures cause { IfErr result (λ no. IsCause no log.new.last) }
+    ensures stamps { log.new.last ≤ log.old.last + length entries }
+{
+    match log.push_all(entries.into_vec()) {
+        Ok(left) => Ok(Rows::from_vec(left)),
+        Err(LogNo::OutOfMemory) => Err(SeatNo::OutOfMemory),
+        Err(LogNo::StampsSpent(_)) => Err(SeatNo::StampsSpent),
+    }
+}
+
+/// Takes over what a turn without the registry did: each act is appended to the log, with the next stamp.
+/// None of the entries asks the registry or is a Shutdown; their own stamps don't matter. It answers the list that they
+/// were in, without them but with its memory. Where memory or stamps run out a prefix may have been taken over, and the
+/// thread has to halt.
+pub fn append_all(log: &mut Log, entries: Rows<Entry>) -> Result<Rows<Entry>, SeatNo>
+    requires none_asks { events entries ≡ [] }
+    ensures appended { OnOk result (AppendsAlone log.old (restamped log.old.thread log.old.last (acts_of entries)) log.new) }
+    ensures left { IfOk result (λ left. left ≡ []) }
+    ensures cause { IfErr result (λ no. IsCause no log.new.last) }
+    ensures stamps { log.new.last ≤ log.old.last + length entries }
+{
+    if entries.len() == 0 {
+        return Ok(entries);
+    }
+    if log.last().checked_add(entries.len() as u128).is_none() {
+        return append_each(log, entries);
+    }
+    append_many(log, entries)
 }

@@ -3,7 +3,7 @@ use Rattle.bd_base.specs.declared.act.Entry.{Entry}
 use Rattle.bd_merged.specs.Journals.{events}
 use Rattle.bd_apart.specs.Course.{acts_of, restamped}
 use Rattle.bd_seat.specs.Taking.{AppendsAlone}
-use Rattle.bd_seat.proofs.taking.append_all.Given as goal
+use Rattle.bd_seat.proofs.taking.append_each.Given as goal
 
 -- some entries were appended, and with those that are left they are all
 abbrev pub invariant-loop-entry : goal.invariant-loop-entry

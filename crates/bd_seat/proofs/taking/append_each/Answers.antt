@@ -3,7 +3,7 @@ use Rattle.bd_base.specs.declared.act.Entry.{Entry}
 use Rattle.bd_merged.specs.Journals.{events}
 use Rattle.bd_apart.specs.Course.{acts_of, restamped}
 use Rattle.bd_seat.proofs.TakenOver.{alone_more, none_first, stamps_next}
-use Rattle.bd_seat.proofs.taking.append_all.Goals as goal
+use Rattle.bd_seat.proofs.taking.append_each.Goals as goal
 
 pub append_alone-requires : goal.append_alone-requires
 append_alone-requires c =
