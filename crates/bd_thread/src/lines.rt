@@ -16,7 +16,7 @@ ghost use Rattle.bd_base.specs.declared.event.RegEvent.TheVariants as events;
 use crate::links::Links;
 use crate::thread::Thread;
 use bd_asked::{asks_event, bound_to, next_line, outcome_of, undecided_job};
-use bd_base::{Act, Answer, DevId, Job, OutOfMemory, RegEvent, WalkId};
+use bd_base::{Act, Answer, Boxed, DevId, Job, OutOfMemory, RegEvent, WalkId};
 use bd_changes::{closed, decide, line_done};
 use bd_due::{begin_walk, close_due, get_due, made_by, removal_answered};
 use bd_events::{dropped, freed, got, put_down};
@@ -144,7 +144,14 @@ impl<'a> Thread<'a> {
         let answer = links.registry.event(self.alloc, self.me, stamp, &event)?;
         let walk = self.answered(links.shut, made.as_slice(), &event, &answer)?;
         begin_walk(&mut self.held, &mut self.outbox, walk)?;
-        self.note(links, Act::Reg { event, answer })?;
+        let boxed = Boxed::new(self.alloc, answer)?;
+        self.note(
+            links,
+            Act::Reg {
+                event,
+                answer: boxed,
+            },
+        )?;
         Ok(())
     }
 

@@ -1,5 +1,5 @@
 //! Messages of a thread: those that it takes, and those that it puts.
-ghost use Rattle.std.specs.Prelude.{◌≡◌, ◌<◌, vec_len, IfOk, OnOk};
+ghost use Rattle.std.specs.Prelude.{◌≡◌, ◌<◌, true, vec_len, IfOk, OnOk};
 ghost use Rattle.bd_thread.specs.Acted.{Acted};
 ghost use Rattle.bd_thread.specs.Requests.{KeepsTickets};
 ghost use Rattle.bd_thread.specs.Sent.{may_put, KeepsRequests, Puts, Takes};
@@ -83,6 +83,23 @@ impl<'a> Thread<'a> {
         if !self.may_put(links, to, &what) {
             return Ok(false);
         }
+        self.put_allowed(links, to, what)?;
+        Ok(true)
+    }
+
+    /// Puts a token that may go to the thread last in the queue there.
+    pub(crate) fn put_allowed(
+        &mut self,
+        links: &mut Links,
+        to: u32,
+        what: Token,
+    ) -> Result<(), OutOfMemory>
+        requires { may_put self.old links.old to what ≡ true }
+        ensures acted { OnOk result (Acted self.old links.old self.new links.new) }
+        ensures tickets { OnOk result (KeepsTickets self.old → KeepsTickets self.new) }
+        ensures keeps { OnOk result (KeepsRequests self.old links.old self.new links.new) }
+        ensures puts { OnOk result (Puts self.old links.old self.new links.new to what true) }
+    {
         let number = count_at(self.part.put.as_slice(), to);
         bd_changes::put(&mut self.part, to, number, &what)?;
         let id = id_of(self.me, to, number, &what);
@@ -98,6 +115,6 @@ impl<'a> Thread<'a> {
             },
         )?;
         self.note(links, Act::Put { to, number, what })?;
-        Ok(true)
+        Ok(())
     }
 }

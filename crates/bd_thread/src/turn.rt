@@ -301,7 +301,10 @@ impl<'a> Thread<'a> {
             return Ok(false);
         }
         match self.outbox.pop_front() {
-            Some((to, what)) => self.put(links, to, what),
+            Some((to, what)) => {
+                self.put_allowed(links, to, what)?;
+                Ok(true)
+            }
             None => Ok(false),
         }
     }

@@ -50,6 +50,7 @@ returns c =
     ∙ ap (λ (p : Part). let m : Thread = record new { part = p } in m) part in
     let asked : Links = record links { registry = c.event.new.self } in
     let shared = c.in_ok-note.ensures.links
+    ∙ ap (λ (a : Answer). let l : Links = record asked { entries = longer c.answered.new.self.me links.entries (acts.Reg event a) } in l) c.in_ok-boxed.ensures
     ∙ ap (λ (n : Thread). let l : Links = record asked { entries = longer n.me links.entries (acts.Reg event answer) } in l) left
     ∙ ap (λ (r : Registered). let l : Links = record after { registry = r } in l) registry in
     let is : IsAnswered event t links new after = record {

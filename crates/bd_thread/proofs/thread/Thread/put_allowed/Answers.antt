@@ -18,7 +18,7 @@ use Rattle.bd_due.specs.Sending.{kept_on_way}
 use Rattle.bd_thread.proofs.Going.{acted_by, carried}
 use Rattle.bd_thread.proofs.Put.{put_steps, may_parts}
 use Rattle.bd_thread.proofs.Tickets.{same_tickets}
-use Rattle.bd_thread.proofs.thread.Thread.put.Goals as goal
+use Rattle.bd_thread.proofs.thread.Thread.put_allowed.Goals as goal
 
 pub returns-clause-acted : goal.returns-clause-acted
 returns-clause-acted c =
@@ -31,7 +31,7 @@ returns-clause-acted c =
     let queues = queues_of links.queues.items in
     let new : Thread = record t { part = untaken c.put.new.part; held = c.leave.new.tokens } in
     let after : Links = record links { queues = c.push.new.queues; entries = longer t.me links.entries (acts.Put to number what) } in
-    let may = may_parts t links to what (search rules) in
+    let may = may_parts t links to what c.requires in
     carried (Acted t links) new after _ _ c.in_ok-note.ensures.thread c.in_ok-note.ensures.links
     (acted_by t links new after (acts.Put to number what) refl refl c.in_ok-push.ensures.len refl refl
     (put_steps t.setup.now t.me t.part c.put.new.part here (here_in c.leave.new.tokens.items) links.registry.state links.shut (length links.entries) queues (queues_of c.push.new.queues.items) to number what c.in_ok-kept.kept
