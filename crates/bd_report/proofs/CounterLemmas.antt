@@ -8,6 +8,7 @@ use Rattle.std.proofs.lemmas.List.FromFn.{get_or-map-range_with_len, length-map-
 use Rattle.std.proofs.lemmas.List.Sums.{count_by-le-length, sum_by_push}
 use Rattle.std.proofs.lemmas.Grind.{get_or-set_at}
 use Rattle.bd_base.specs.declared.act.Act.{Act}
+use Rattle.bd_base.specs.declared.act.Act.TheVariants as acts
 use Rattle.bd_base.specs.declared.act.Entry.{Entry}
 use Rattle.bd_base.specs.declared.id.ReqId.{ReqId}
 use Rattle.bd_base.specs.declared.request.Status.TheVariants.{Success, Failed, Aborted}
@@ -16,8 +17,8 @@ use Rattle.bd_base.specs.declared.request.Way.TheVariants as ways
 use Rattle.bd_report.specs.declared.counts.Counts.{Counts}
 use Rattle.bd_report.specs.declared.submitted.Submitted.{Submitted}
 use Rattle.bd_report.specs.declared.traffic.Traffic.{Traffic}
-use Rattle.bd_report.specs.Counts.{capped, count_acts, counts_of, is_accept, is_end, is_meant, is_refusal, more_if, no_acts, thread_counts, with_act, with_act_at}
-use Rattle.bd_report.specs.Traffic.{all_submitted, bytes_in, device_traffic, has_succeeded, is_success_of, moved_at, moved_in, no_traffic, same_way, submitted_in, traffic_among, traffic_from, with_bytes}
+use Rattle.bd_report.specs.Counts.{capped, count_acts, counts_of, is_accept, is_counted, is_end, is_meant, is_refusal, more_if, no_acts, thread_counts, with_act, with_act_at}
+use Rattle.bd_report.specs.Traffic.{all_submitted, bytes_in, device_traffic, has_succeeded, is_success_of, moved_at, moved_in, no_traffic, same_way, submitted_in, submitted_in_act, traffic_among, traffic_from, with_bytes}
 use Rattle.bd_report.proofs.ReportLemmas.{filter_map_push}
 
 -- ---- lists by number
@@ -101,11 +102,28 @@ thread_counts_push threads entries x =
     (λ i ne. counts_other (Some i) entries x (apart x.thread i ne))
     (counts_push (Some x.thread) entries x (same x.thread))
 
+-- ---- acts that don't count
+
+-- what an act that doesn't count leaves as it is
+pub record Adds (nothing : Act) : Type 0 where
+  pub counts : (counts : Counts) → with_act nothing counts ≡ counts
+  pub submitted : submitted_in_act nothing ≡ None
+  pub successes : (request : ReqId) → is_success_of request nothing ≡ false
+
+pub not_counted : (act : Act) → is_counted act ≡ false → Adds act
+not_counted (acts.Accept req dev handle op lba count) e = absurd (let x : true ≡ false = e in cc)
+not_counted (acts.Refuse handle op lba count errno) e = absurd (let x : true ≡ false = e in cc)
+not_counted (acts.Complete req status shown) e = absurd (let x : true ≡ false = e in cc)
+not_counted _ e = record { counts = λ counts. refl; submitted = refl; successes = λ request. refl }
+
 -- ---- which requests succeeded
 
 or_false : (b : Bool) → (b || false) ≡ b
 or_false true = refl
 or_false false = refl
+
+pub or_none : (b : Bool) {c : Bool} → c ≡ false → b ≡ (b || c)
+or_none b e = sym (ap (λ c. b || c) e ∙ or_false b)
 
 -- one more entry
 pub succeeded_push : (entries : List Entry) (x : Entry) (request : ReqId) → (has_succeeded entries request || is_success_of request x.act) ≡ has_succeeded (entries ++ x ∷ []) request

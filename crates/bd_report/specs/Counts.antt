@@ -43,6 +43,13 @@ abbrev pub is_end : Status → Act → Bool
 is_end status (acts.Complete req ended shown) = is_status status ended
 is_end status _ = false
 
+-- an act that counts: an accept, a completion or a refusal
+abbrev pub is_counted : Act → Bool
+is_counted (acts.Accept req dev handle op lba count) = true
+is_counted (acts.Refuse handle op lba count errno) = true
+is_counted (acts.Complete req status shown) = true
+is_counted _ = false
+
 -- the counts of a thread's acts, or of all, each at most 2^64 - 1
 abbrev pub counts_of : Option ℕ → List Entry → Counts
 counts_of thread entries =

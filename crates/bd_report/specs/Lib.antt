@@ -6,6 +6,7 @@ pub mod Index
 pub mod Order
 pub mod Report
 pub mod Stats
+pub mod TraceDigests
 pub mod TraceIndex
 pub mod Traffic
 pub mod Writing

@@ -2,7 +2,7 @@
 use Rattle.std.specs.Prelude.{List}
 use Rattle.bd_base.specs.declared.act.Entry.{Entry}
 use Rattle.bd_report.specs.declared.index.TraceIndex.TheInside.{Inside}
-use Rattle.bd_report.specs.Index.{TellsOutcomes, TellsCompletions, TellsDigests, TellsTold}
+use Rattle.bd_report.specs.Index.{TellsOutcomes, TellsCompletions, TellsTold}
 
 abbrev pub trace_of : Inside → List Entry
 trace_of t = t.trace.now
@@ -10,5 +10,4 @@ trace_of t = t.trace.now
 pub record Tells (t : Inside) : Type 0 where
   pub outcomes : TellsOutcomes t.outcomes t.trace.now
   pub completions : TellsCompletions t.completions t.trace.now
-  pub digests : TellsDigests t.digests t.trace.now
   pub told : TellsTold t.told t.trace.now

@@ -8,7 +8,7 @@ ghost use Rattle.bd_report.specs.Index.{TellsSuccesses};
 ghost use Rattle.bd_report.specs.Stats.{sizes_of, stats_of};
 ghost use Rattle.bd_report.specs.Traffic.{device_traffic};
 
-use crate::counts::{Counts, CountsList, counts_in, note_act};
+use crate::counts::{Counts, CountsList, counts_in, is_counted, note_act};
 use crate::stats::Stats;
 use crate::submitted::{Submitted, note_submitted};
 use crate::successes::{Successes, note_success};
@@ -60,14 +60,17 @@ impl Counter {
         Ok(())
     }
 
-    // Counts an entry, where there is room for it.
+    // Counts an entry, where there is room for it. Most acts don't count.
     fn note(&mut self, entry: &Entry)
         requires { HasRoom (entry.now ∷ []) self.old }
         ensures counted { (setup : Setup) (entries : List Entry) → HasCounted setup entries self.old → HasCounted setup (entries ++ entry.now ∷ []) self.new }
         ensures room { (rest : List Entry) → HasRoom (entry.now ∷ rest) self.old → HasRoom rest self.new }
     {
+        if !is_counted(&entry.act) {
+            return;
+        }
         note_act(&mut self.threads, entry.thread, &entry.act);
-        self.all = self.all.with(&entry.act);
+        self.all.note(&entry.act);
         note_submitted(&mut self.submitted, &entry.act);
         note_success(&mut self.successes, &entry.act);
     }

@@ -1,6 +1,6 @@
 //! How many requests were accepted, how they ended, and how many submissions were refused.
 ghost use Rattle.std.specs.Prelude.{◌≡◌, None};
-ghost use Rattle.bd_report.specs.Counts.{counts_of, no_acts, with_act, with_act_at, more_if, is_accept, is_refusal, is_end};
+ghost use Rattle.bd_report.specs.Counts.{counts_of, no_acts, with_act, with_act_at, is_counted};
 
 use bd_base::{Act, Entry, Rows, Status};
 
@@ -36,28 +36,20 @@ impl Counts {
         }
     }
 
-    /// The counts with one more act.
-    pub(crate) fn with(self, act: &Act) -> Counts
-        ensures { result ≡ with_act act.now self }
+    /// Counts one more act.
+    pub(crate) fn note(&mut self, act: &Act)
+        ensures { self.new ≡ with_act act.now self.old }
     {
-        Counts {
-            accepted: more_if(is_accept(act), self.accepted),
-            success: more_if(is_end(Status::Success, act), self.success),
-            failed: more_if(is_end(Status::Failed, act), self.failed),
-            aborted: more_if(is_end(Status::Aborted, act), self.aborted),
-            refused: more_if(is_refusal(act), self.refused),
+        match act {
+            Act::Accept { .. } => self.accepted = self.accepted.saturating_add(1),
+            Act::Refuse { .. } => self.refused = self.refused.saturating_add(1),
+            Act::Complete { status, .. } => match status {
+                Status::Success => self.success = self.success.saturating_add(1),
+                Status::Failed => self.failed = self.failed.saturating_add(1),
+                Status::Aborted => self.aborted = self.aborted.saturating_add(1),
+            },
+            _ => {}
         }
-    }
-}
-
-// One more, or the same.
-fn more_if(counts: bool, count: u64) -> u64
-    ensures { result ≡ more_if counts count }
-{
-    if counts {
-        count.saturating_add(1)
-    } else {
-        count
     }
 }
 
@@ -67,7 +59,7 @@ pub(crate) fn counts_in(entries: &[Entry]) -> Counts
 {
     let mut counts = Counts::new();
     for entry in entries {
-        counts = counts.with(&entry.act);
+        counts.note(&entry.act);
     }
     counts
 }
@@ -78,33 +70,16 @@ pub(crate) fn note_act(threads: &mut CountsList, thread: u32, act: &Act)
 {
     let at = thread as usize;
     if at < threads.len() {
-        let counts = threads.as_slice()[at].with(act);
-        threads.set(at, counts);
+        threads.at_mut(at).note(act);
     }
 }
 
-// ---- what an act is
-
-// Whether the act accepts a request.
-fn is_accept(act: &Act) -> bool
-    ensures { result ≡ is_accept act.now }
+/// Whether the act counts: it accepts a request, completes one, or refuses a submission.
+pub(crate) fn is_counted(act: &Act) -> bool
+    ensures { result ≡ is_counted act.now }
 {
-    matches!(act, Act::Accept { .. })
-}
-
-// Whether the act refuses a submission.
-fn is_refusal(act: &Act) -> bool
-    ensures { result ≡ is_refusal act.now }
-{
-    matches!(act, Act::Refuse { .. })
-}
-
-// Whether the act is a completion with this status.
-fn is_end(status: Status, act: &Act) -> bool
-    ensures { result ≡ is_end status act.now }
-{
-    match act {
-        Act::Complete { status: ended, .. } => status == *ended,
-        _ => false,
-    }
+    matches!(
+        act,
+        Act::Accept { .. } | Act::Complete { .. } | Act::Refuse { .. }
+    )
 }

@@ -118,8 +118,11 @@ fn opened_in_act(act: &Act) -> Option<(u128, &Name)>
     match act {
         Act::Reg {
             event: RegEvent::Open { name, .. },
-            answer: Answer::Opened { handle, .. },
-        } => Some((handle.0, name)),
+            answer,
+        } => match answer.get() {
+            Answer::Opened { handle, .. } => Some((handle.0, name)),
+            _ => None,
+        },
         _ => None,
     }
 }

@@ -1,9 +1,8 @@
-//! What a trace says, found by key: of a line, a request, a handle or a device.
+//! What a trace says, found by key: of a line, a request or a handle.
 ghost use Rattle.std.specs.Prelude.{◌≡◌, IfOk};
-ghost use Rattle.bd_report.specs.Report.{first_found, outcome_in, completion_in, digest_in, was_told};
+ghost use Rattle.bd_report.specs.Report.{first_found, outcome_in, completion_in, was_told};
 
 use crate::completions::{Completions, first_completions};
-use crate::digests::{Digests, first_digests};
 use crate::outcomes::{Outcomes, first_outcomes};
 use crate::told::{ToldHandles, told_handles};
 use bd_base::{Entry, OutOfMemory, Outcome, ReqId, Shown, Status};
@@ -16,7 +15,6 @@ pub(crate) struct TraceIndex<'a> {
     trace: &'a [Entry],
     completions: Completions,
     outcomes: Outcomes,
-    digests: Digests,
     told: ToldHandles,
 }
 
@@ -42,7 +40,6 @@ impl<'a> TraceIndex<'a> {
             trace,
             completions: first_completions(alloc, trace)?,
             outcomes: first_outcomes(alloc, trace)?,
-            digests: first_digests(alloc, trace)?,
             told: told_handles(alloc, trace)?,
         })
     }
@@ -68,13 +65,6 @@ impl<'a> TraceIndex<'a> {
         self.completions
             .get(&(request.thread, request.seq))
             .copied()
-    }
-
-    /// The first digest of a device's contents.
-    pub(crate) fn digest(&self, device: usize) -> Option<[u8; 32]>
-        ensures { result ≡ first_found (digest_in device) self.now }
-    {
-        self.digests.get(&device).copied()
     }
 
     /// Whether a thread took a handle's remove event before the handle was closed.

@@ -10,6 +10,7 @@ ghost use Rattle.bd_report.specs.Report.{report_of, report_with, detail_lines, j
 
 use crate::counter::stats;
 use crate::counts::Counts;
+use crate::digests::Digests;
 use crate::handles::{OpenedHandle, removed_in_order};
 use crate::index::TraceIndex;
 use crate::order::{Command, in_order};
@@ -47,10 +48,10 @@ pub fn report_with(
 ) -> Result<Vec<u8>, OutOfMemory>
     ensures { IfOk result (λ v. v.items ≡ report_with full setup.now trace.now stats.now) }
 {
-    let index = &TraceIndex::new(alloc, trace)?;
     let mut out = Vec::new(alloc);
     let devices = setup.devices.as_slice();
-    write_details(alloc, &mut out, setup, index, full)?;
+    let digests = &Digests::new(alloc, trace)?;
+    write_details(alloc, &mut out, setup, trace, full)?;
     write_waiting(alloc, &mut out, setup.waiting.as_slice())?;
     write_threads(
         alloc,
@@ -58,22 +59,23 @@ pub fn report_with(
         setup.scripts.as_slice(),
         stats.threads.as_slice(),
     )?;
-    write_devices(alloc, &mut out, index, devices, stats.devices.as_slice())?;
+    write_devices(alloc, &mut out, digests, devices, stats.devices.as_slice())?;
     write_end(alloc, &mut out, &stats.all)?;
     Ok(out)
 }
 
-// Writes the commands and the removed handles, where the report is full.
+// Writes the commands and the removed handles, where the report is full. No other needs the index.
 fn write_details(
     alloc: Global,
     out: &mut Vec<u8>,
     setup: &Setup,
-    index: &TraceIndex,
+    trace: &[Entry],
     full: bool,
 ) -> Result<(), OutOfMemory>
-    ensures { OnOk result (out.new.items ≡ out.old.items ++ detail_lines full setup.now index.now) }
+    ensures { OnOk result (out.new.items ≡ out.old.items ++ detail_lines full setup.now trace.now) }
 {
     if full {
+        let index = &TraceIndex::new(alloc, trace)?;
         write_jobs(alloc, out, setup.scripts.as_slice(), index)?;
         write_removed(alloc, out, setup.scripts.as_slice(), index)?;
     }
@@ -357,14 +359,21 @@ fn write_ends(alloc: Global, out: &mut Vec<u8>, counts: &Counts) -> Result<(), O
 fn write_devices(
     alloc: Global,
     out: &mut Vec<u8>,
-    index: &TraceIndex,
+    digests: &Digests,
     devices: &[DevRow],
     traffic: &[Traffic],
 ) -> Result<(), OutOfMemory>
-    ensures { OnOk result (out.new.items ≡ out.old.items ++ device_lines index.now 0 devices.now traffic.now) }
+    ensures { OnOk result (out.new.items ≡ out.old.items ++ device_lines digests.now 0 devices.now traffic.now) }
 {
     for device in 0..devices.len().min(traffic.len()) {
-        write_device(alloc, out, index, device, &devices[device], traffic[device])?;
+        write_device(
+            alloc,
+            out,
+            digests,
+            device,
+            &devices[device],
+            traffic[device],
+        )?;
     }
     Ok(())
 }
@@ -373,16 +382,16 @@ fn write_devices(
 fn write_device(
     alloc: Global,
     out: &mut Vec<u8>,
-    index: &TraceIndex,
+    digests: &Digests,
     device: usize,
     row: &DevRow,
     traffic: Traffic,
 ) -> Result<(), OutOfMemory>
-    ensures { OnOk result (out.new.items ≡ out.old.items ++ device_line index.now device row.now traffic) }
+    ensures { OnOk result (out.new.items ≡ out.old.items ++ device_line digests.now device row.now traffic) }
 {
     write_device_size(alloc, out, row)?;
     write_moved(alloc, out, traffic)?;
-    write_contents(alloc, out, index, device, row.kind)?;
+    write_contents(alloc, out, digests, device, row.kind)?;
     out.extend_from_slice(b"\n")?;
     Ok(())
 }
@@ -418,14 +427,14 @@ fn write_device_size(alloc: Global, out: &mut Vec<u8>, row: &DevRow) -> Result<(
 fn write_contents(
     alloc: Global,
     out: &mut Vec<u8>,
-    index: &TraceIndex,
+    digests: &Digests,
     device: usize,
     kind: Kind,
 ) -> Result<(), OutOfMemory>
-    ensures { OnOk result (out.new.items ≡ out.old.items ++ contents_words index.now device kind) }
+    ensures { OnOk result (out.new.items ≡ out.old.items ++ contents_words digests.now device kind) }
 {
     if is_malloc(kind) {
-        write_digest_if(alloc, out, index.digest(device))?;
+        write_digest_if(alloc, out, digests.get(device))?;
     }
     Ok(())
 }

@@ -89,8 +89,11 @@ fn closed_in(act: &Act) -> Option<u128>
     match act {
         Act::Reg {
             event: RegEvent::Close { handle },
-            answer: Answer::Closed { .. },
-        } => Some(handle.0),
+            answer,
+        } => match answer.get() {
+            Answer::Closed { .. } => Some(handle.0),
+            _ => None,
+        },
         _ => None,
     }
 }

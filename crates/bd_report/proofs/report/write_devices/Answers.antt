@@ -8,5 +8,5 @@ returns c =
     let i = c.loop-device.device in
     sym (append-nil c.loop-device.out.items) ∙
     ap (λ lines. c.loop-device.out.items ++ lines)
-    (sym (device_lines_past c.args.index.now i i c.args.devices.now c.args.traffic.now (omega (arith, c.loop-device-test.false, c.min-device-end.ensures)))) ∙
+    (sym (device_lines_past c.args.digests.now i i c.args.devices.now c.args.traffic.now (omega (arith, c.loop-device-test.false, c.min-device-end.ensures)))) ∙
     c.loop-device.invariant
