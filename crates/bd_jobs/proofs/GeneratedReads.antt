@@ -10,11 +10,12 @@ use Rattle.bstr.specs.Text.{lines_of, without_terminator}
 use Rattle.bstr.proofs.lemmas.LineLemmas.{lines-nil, lines-append, lines-one}
 use Rattle.bd_base.specs.declared.job.Line.{Line}
 use Rattle.bd_jobs.specs.declared.command.Command.{Command}
-use Rattle.bd_jobs.specs.declared.generator.Step.{Step}
-use Rattle.bd_jobs.specs.declared.generator.Step.TheVariants.{Opens, Writes, Reads, Waits, Closes}
+use Rattle.bd_jobs.specs.declared.steps.Step.{Step}
+use Rattle.bd_jobs.specs.declared.steps.Step.TheVariants.{Opens, Writes, Reads, Waits, Closes}
 use Rattle.bd_jobs.specs.Words.{is_blank, is_digit, words_of}
 use Rattle.bd_jobs.specs.ScriptGrammar.{lines_for, words_command, is_bare, after_line, commands_from, commands_of, text_lines, scripts_below, scripts_of}
 use Rattle.bd_jobs.specs.Generated.{writes, reads, group, full_groups, last_group, steps, block_of, seed_of, step_words, spaced, step_line, steps_text, generated, step_job, step_commands, generated_commands, generated_scripts}
+use Rattle.bd_jobs.proofs.GeneratedLemmas.{length-steps, length-commands, length-generated}
 use Rattle.bd_jobs.proofs.ReadLemmas.{from-append}
 use Rattle.bd_jobs.proofs.WrittenLemmas.{both, AreDigitsOf, decimal_digits, number-decimal, IsWord, word-decimal, AreWords, words-spaced, is_line_byte, line_bytes}
 
@@ -103,40 +104,6 @@ small-steps n h = (
   small-append (full_groups (n / 8)) (last_group (8 * (n / 8)) (n % 8) ++ Closes ∷ []) (small-groups (n / 8) (omega arith))
       (small-append (last_group (8 * (n / 8)) (n % 8)) (Closes ∷ []) (small-last (8 * (n / 8)) (n % 8) (omega arith)) (tt, tt)),
 )
-
--- how many they are
-length-writes : (first count : ℕ) → length (writes first count) ≡ count
-unfolding writes
-length-writes first zero = refl
-length-writes first (suc count) = omega (arith, length-append (writes first count) (Writes (first + count) ∷ []), length-writes first count)
-
-length-reads : (first count : ℕ) → length (reads first count) ≡ count
-unfolding reads
-length-reads first zero = refl
-length-reads first (suc count) = omega (arith, length-append (reads first count) (Reads (first + count) ∷ []), length-reads first count)
-
-length-group : (first count : ℕ) → length (group first count) ≡ 2 * count + 2
-length-group first count =
-    omega (arith, length-append (writes first count) (Waits ∷ (reads first count ++ Waits ∷ [])), length-append (reads first count) (Waits ∷ []), length-writes first count, length-reads first count)
-
-length-groups : (count : ℕ) → length (full_groups count) ≡ 18 * count
-unfolding full_groups
-length-groups zero = refl
-length-groups (suc count) = omega (arith, length-append (full_groups count) (group (8 * count) 8), length-groups count, length-group (8 * count) 8)
-
-length-last : (first count : ℕ) → length (last_group first count) ≤ 2 * count + 2
-length-last first zero = omega arith
-length-last first (suc count) = omega (arith, length-group first (suc count))
-
-length-steps : (n : ℕ) → n ≤ 500 → length (steps n) ≤ 1200
-length-steps n h =
-    omega (
-      arith,
-      length-append (full_groups (n / 8)) (last_group (8 * (n / 8)) (n % 8) ++ Closes ∷ []),
-      length-append (last_group (8 * (n / 8)) (n % 8)) (Closes ∷ []),
-      length-groups (n / 8),
-      length-last (8 * (n / 8)) (n % 8),
-    )
 
 -- ---- a step's line
 
@@ -229,11 +196,6 @@ reads_steps threads thread number earlier (step ∷ rest) below h small few =
     ∙ reads_steps threads thread (number + 1) (earlier ++ command_of thread number step ∷ []) rest below h small.1 (omega arith)
     ∙ ap Some (append_assoc earlier (command_of thread number step ∷ []) (step_commands thread (number + 1) rest))
 
-length-commands : (thread number : ℕ) (some : List Step) → length (step_commands thread number some) ≡ length some
-unfolding step_commands
-length-commands thread number [] = refl
-length-commands thread number (step ∷ rest) = omega (arith, length-commands thread (number + 1) rest)
-
 lines-steps : (thread : ℕ) (some : List Step) (rest : List ℕ) → thread < 16 → AreSmall some → text_lines (steps_text thread some ++ rest) ≡ map (line_of thread) some ++ text_lines rest
 unfolding steps_text
 lines-steps thread [] rest h small = refl
@@ -266,12 +228,6 @@ length-lines : (thread : ℕ) (some : List Step) → length (map (line_of thread
 length-lines thread [] = refl
 length-lines thread (step ∷ rest) = omega (arith, length-lines thread rest)
 
-length-all : (n threads : ℕ) → n ≤ 500 → length (all_lines n threads) ≤ threads * 1200
-unfolding all_lines
-length-all n zero few = omega arith
-length-all n (suc thread) few =
-    omega (arith, length-append (all_lines n thread) (map (line_of thread) (steps n)), length-all n thread few, length-lines thread (steps n), length-steps n few)
-
 length-same : (n threads : ℕ) → length (all_lines n threads) ≡ length (generated_commands n threads)
 unfolding all_lines generated_commands
 length-same n zero = refl
@@ -290,7 +246,7 @@ unfolding all_lines generated_commands
 reads_all threads n zero few h below = refl
 reads_all threads n (suc thread) few h below =
     let size : length (all_lines n thread) ≡ length (generated_commands n thread) = length-same n thread in
-    let room : (1 + length (generated_commands n thread)) + length (steps n) ≤ 20001 = omega (arith, size, length-all n thread few, length-steps n few) in
+    let room : (1 + length (generated_commands n thread)) + length (steps n) ≤ 20001 = omega (arith, length-generated n thread few, length-steps n few) in
     from-append threads (Some []) 1 (all_lines n thread) (map (line_of thread) (steps n))
     ∙ ap (λ s. commands_from threads s (1 + length (all_lines n thread)) (map (line_of thread) (steps n))) (reads_all threads n thread few h (omega arith))
     ∙ ap (λ m. commands_from threads (Some (generated_commands n thread)) (1 + m) (map (line_of thread) (steps n))) size

@@ -7,8 +7,8 @@ use Rattle.bd_base.specs.declared.job.Script.{Script}
 use Rattle.bd_base.specs.declared.request.Op.TheVariants.{Read, Write}
 use Rattle.bd_jobs.specs.ScriptGrammar.{scripts_below}
 use Rattle.bd_jobs.specs.declared.command.Command.{Command}
-use Rattle.bd_jobs.specs.declared.generator.Step.{Step}
-use Rattle.bd_jobs.specs.declared.generator.Step.TheVariants.{Opens, Writes, Reads, Waits, Closes}
+use Rattle.bd_jobs.specs.declared.steps.Step.{Step}
+use Rattle.bd_jobs.specs.declared.steps.Step.TheVariants.{Opens, Writes, Reads, Waits, Closes}
 
 -- ---- what a thread does
 

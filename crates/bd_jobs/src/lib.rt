@@ -2,11 +2,14 @@
 #![tactic(auto)]
 
 mod command;
+mod generated;
 mod generator;
 mod read;
+mod steps;
 mod word;
 
 pub use command::Command;
+pub use generated::generated_scripts;
 pub use generator::generate;
 pub use read::{JobNo, read_jobs};
 pub use word::number;

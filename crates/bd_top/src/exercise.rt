@@ -15,7 +15,7 @@ use crate::fault::Fault;
 use crate::setup::{Ready, setup_of};
 use bd_base::{OutOfMemory, Rows, Script};
 use bd_config::Command;
-use bd_jobs::{JobNo, generate, read_jobs};
+use bd_jobs::generated_scripts;
 use bd_opened::close_all;
 use bd_outside::Host;
 use std::alloc::Global;
@@ -66,12 +66,7 @@ fn scripts(alloc: Global, numbers: u32, threads: u32) -> Result<Rows<Script>, Ou
     requires threads { threads ≤ 16 }
     ensures { IfOk result (λ scripts. scripts_of threads (generated numbers threads) ≡ Some scripts) }
 {
-    let text = generate(alloc, numbers, threads)?;
-    match read_jobs(alloc, text.as_slice(), threads) {
-        Ok(scripts) => Ok(scripts),
-        Err(JobNo::OutOfMemory) => Err(OutOfMemory),
-        Err(JobNo::Line(_)) => unreachable!(),
-    }
+    generated_scripts(alloc, numbers, threads)
 }
 
 /// The setup of the built-in configuration with the generated script of 1 to 500 numbers for each thread.

@@ -3,8 +3,8 @@ mod command;
 
 use crate::steps::said;
 use crate::words::{decoded, escaped, first_word, small};
-use bd_base::{OutOfMemory, Script, digest_of};
-use bd_jobs::{JobNo, generate, read_jobs};
+use bd_base::{OutOfMemory, Rows, Script, digest_of};
+use bd_jobs::{JobNo, generate, generated_scripts, read_jobs};
 use std::alloc::Global;
 
 pub(crate) fn answer(alloc: Global, case: &str) -> Result<String, OutOfMemory> {
@@ -15,6 +15,8 @@ pub(crate) fn answer(alloc: Global, case: &str) -> Result<String, OutOfMemory> {
         "repeat" => outcome(alloc, repeated(alloc, small(number), rest)?.as_slice(), 1),
         "generate" => escaped(alloc, generated(alloc, number, rest)?.as_slice()),
         "digest" => digest(alloc, number, rest),
+        "made" => told(alloc, made(alloc, number, rest)?.as_slice()),
+        "alike" => alike(alloc, number, rest),
         _ => said(alloc, "no such step"),
     }
 }
@@ -72,4 +74,18 @@ fn digest(alloc: Global, numbers: &str, threads: &str) -> Result<String, OutOfMe
         }
         Err(_) => Ok(digest),
     }
+}
+
+// The scripts of so many numbers and threads, without their text.
+fn made(alloc: Global, numbers: &str, threads: &str) -> Result<Rows<Script>, OutOfMemory> {
+    generated_scripts(alloc, small(numbers).min(500), small(threads).min(16))
+}
+
+// Whether these scripts are those that reading their text gives.
+fn alike(alloc: Global, numbers: &str, threads: &str) -> Result<String, OutOfMemory> {
+    let text = generated(alloc, numbers, threads)?;
+    let read = outcome(alloc, text.as_slice(), small(threads))?;
+    let made = told(alloc, made(alloc, numbers, threads)?.as_slice())?;
+    let alike = read.as_str() == made.as_str();
+    Ok(format!(in alloc; "{alike}")?)
 }

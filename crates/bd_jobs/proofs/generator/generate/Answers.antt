@@ -10,7 +10,10 @@ loop-thread-init c = c.new-text.ensures.items ∙ sym (generated-none c.args.n)
 
 pub loop-thread-preserved : goal.loop-thread-preserved
 loop-thread-preserved c =
-    c.in_ok-write_thread.ensures ∙ ap (λ text. text ++ steps_text c.loop-thread.thread (steps c.args.n)) c.loop-thread.invariant ∙ sym (generated-more c.args.n c.loop-thread.thread)
+    c.in_ok-write_steps.ensures
+    ∙ ap (λ all. c.loop-thread.text.items ++ steps_text c.loop-thread.thread all) (c.as_slice.ensures.value ∙ c.in_ok-steps.ensures)
+    ∙ ap (λ text. text ++ steps_text c.loop-thread.thread (steps c.args.n)) c.loop-thread.invariant
+    ∙ sym (generated-more c.args.n c.loop-thread.thread)
 
 pub returns-clause-read : goal.returns-clause-read
 returns-clause-read c =
