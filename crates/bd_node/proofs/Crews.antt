@@ -6,10 +6,10 @@ use Rattle.std.proofs.lemmas.Bool.{cases_eq}
 use Rattle.std.proofs.lemmas.Option.{get_or_from_slice_get, slice_get-get_or, slice_get_within}
 use Rattle.bd_outside.specs.Disk.{DiskState}
 use Rattle.bd_wires.specs.declared.wires.Wires.{Wires}
-use Rattle.bd_node.specs.declared.seat.Seat.{Seat}
-use Rattle.bd_node.specs.Seats.{AllWentOn, SitsOrHalts, WentOn}
-use Rattle.bd_node.proofs.Places.{set_else, set_here}
-use Rattle.bd_node.proofs.Seats.{continues_still, continues_then, sitting_then}
+use Rattle.bd_worker.specs.declared.seat.Seat.{Seat}
+use Rattle.bd_worker.specs.Seats.{AllWentOn, SitsOrHalts, WentOn}
+use Rattle.bd_worker.proofs.Places.{set_else, set_here}
+use Rattle.bd_worker.proofs.Seats.{continues_still, continues_then, sitting_then}
 
 module _ {D : Type 0} (state : D → DiskState) (w : Wires) where
   went_still : (s : Seat D) → WentOn state w s s

@@ -11,12 +11,12 @@ use Rattle.bd_base.specs.declared.id.DevId.{DevId}
 use Rattle.bd_base.specs.declared.setup.Setup.{Setup}
 use Rattle.bd_apart.specs.Course.{Phase}
 use Rattle.bd_wires.specs.declared.wires.Wires.{Wires}
-use Rattle.bd_node.specs.declared.seat.Seat.{Seat}
+use Rattle.bd_worker.specs.declared.seat.Seat.{Seat}
 use Rattle.bd_outside.specs.Disk.{DiskState}
 use Rattle.bd_node.specs.Disks.{disks_at}
-use Rattle.bd_node.specs.Seats.{AllWentOn, Continues, Past, number_in}
+use Rattle.bd_worker.specs.Seats.{AllWentOn, Continues, Past, number_in}
 use Rattle.bd_node.specs.Whole.{seat_goes, AreSeated, IsIn}
-use Rattle.bd_node.proofs.Places.{all_at}
+use Rattle.bd_worker.proofs.Places.{all_at}
 use Rattle.bd_node.proofs.Rounds.{no_halt}
 
 -- ---- numbers in order

@@ -18,19 +18,19 @@ use Rattle.bd_apart.specs.Course.{Course, Phase}
 use Rattle.bd_apart.proofs.Arriving.{stamps_are_met}
 use Rattle.bd_storage.specs.Contents.{contents_of}
 use Rattle.bd_wires.specs.declared.wires.Wires.{Wires}
-use Rattle.bd_node.specs.declared.seat.Seat.{Seat}
+use Rattle.bd_worker.specs.declared.seat.Seat.{Seat}
 use Rattle.bd_report.specs.Counter.{HasCounted}
 use Rattle.bd_report.specs.declared.counter.Counter.{Counter}
 use Rattle.bd_node.specs.Shutting.{IsUnchanged}
 use Rattle.bd_node.specs.Disks.{disks_at, told_of}
-use Rattle.bd_node.specs.Gathering.{part_in, Gathers, IsHandedOut}
-use Rattle.bd_node.specs.Seats.{seen_over, made_by, IsAt, IsSeat}
+use Rattle.bd_node.specs.Gathering.{Gathers}
+use Rattle.bd_worker.specs.Seats.{part_in, IsHandedOut, seen_over, made_by, IsAt, IsSeat}
 use Rattle.bd_node.specs.declared.node.Node.{Node}
 use Rattle.bd_node.specs.declared.node.NodeState.{NodeState}
 use Rattle.bd_node.specs.declared.node.NodeState.TheVariants.{Idle, Done, Busy}
 use Rattle.bd_node.specs.Whole.{are_all_taken, entries_left, has_taken, is_at_rest, is_idle, is_over, log_with, logs_of, past_of, seat_has_destructed, seat_is_blocked, seat_rests, state_of, ArePhases, AreSeated, HasSameLogs, IsNodeOf, IsTrace}
 use Rattle.bd_node.proofs.Disks.{no_more}
-use Rattle.bd_node.proofs.Places.{has_at, is_below, set_else, set_here}
+use Rattle.bd_worker.proofs.Places.{has_at, is_below, set_else, set_here}
 use Rattle.bd_node.proofs.Resting.{seat_at}
 use Rattle.bd_node.proofs.Settling.{map_at, parts_many, part_thread}
 use Rattle.bd_node.proofs.Telling.{none_made}

@@ -10,10 +10,10 @@ use Rattle.bd_outside.specs.Disk.{DiskState}
 use Rattle.bd_wires.specs.declared.wires.Wires.{Wires}
 use Rattle.bd_wires.proofs.Lists.{map-set_same}
 use Rattle.bd_node.specs.declared.node.Node.{Node}
-use Rattle.bd_node.specs.declared.seat.Seat.{Seat}
+use Rattle.bd_worker.specs.declared.seat.Seat.{Seat}
 use Rattle.bd_node.specs.Disks.{disks_of}
 use Rattle.bd_node.specs.Gathering.{Gathers}
-use Rattle.bd_node.specs.Seats.{AllWentOn, HasSameDisks}
+use Rattle.bd_worker.specs.Seats.{AllWentOn, HasSameDisks}
 use Rattle.bd_node.specs.Shutting.{IsUnchanged}
 use Rattle.bd_node.specs.Whole.{disks_in, HasAllDisks}
 

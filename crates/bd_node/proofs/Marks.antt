@@ -23,12 +23,13 @@ use Rattle.bd_served.specs.Served.{served_on, ServedPiece}
 use Rattle.bd_wires.specs.declared.wires.Wires.{Wires}
 use Rattle.bd_node.specs.declared.node.Node.{Node}
 use Rattle.bd_node.specs.declared.node.NodeState.TheVariants.{Idle, Done, Busy}
-use Rattle.bd_node.specs.declared.seat.Seat.{Seat}
+use Rattle.bd_worker.specs.declared.seat.Seat.{Seat}
 use Rattle.bd_node.specs.Disks.{disks_at, told_of}
-use Rattle.bd_node.specs.Seats.{entries_in, IsSeat, Past, Sits}
-use Rattle.bd_node.specs.Shutting.{shutdown_by, AreToLearn, IsShutAt, LearnsShut, Shuts}
+use Rattle.bd_worker.specs.Seats.{entries_in, IsSeat, Past, Sits}
+use Rattle.bd_node.specs.Shutting.{AreToLearn}
+use Rattle.bd_worker.specs.Shutting.{shutdown_by, IsShutAt, LearnsShut, Shuts}
 use Rattle.bd_node.specs.Whole.{are_all_taken, is_at_rest, is_idle, is_over, past_of, seat_is_blocked, seat_rests, state_of, ArePhases, AreSeated, AreShut, IsIn, IsNode, IsNodeOf}
-use Rattle.bd_node.proofs.Places.{has_at, is_below, set_else, set_here}
+use Rattle.bd_worker.proofs.Places.{has_at, is_below, set_else, set_here}
 use Rattle.bd_node.proofs.Resting.{all_rest, all_taken, are_blocked, local_of, local_or, none_injected, views_of}
 
 -- ---- a choice

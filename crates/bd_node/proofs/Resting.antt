@@ -31,12 +31,12 @@ use Rattle.bd_thread.specs.declared.thread.Thread.{Thread}
 use Rattle.bd_thread.specs.Resting.{has_destructed_all, is_settled, rests}
 use Rattle.bd_thread.specs.Seen.{number_of, setup_of, view_of}
 use Rattle.bd_wires.specs.declared.wires.Wires.{Wires}
-use Rattle.bd_node.specs.declared.seat.Seat.{Seat}
-use Rattle.bd_node.specs.Seats.{seen_over, Past}
+use Rattle.bd_worker.specs.declared.seat.Seat.{Seat}
+use Rattle.bd_worker.specs.Seats.{seen_over, Past}
 use Rattle.bd_outside.specs.Disk.{DiskState}
 use Rattle.bd_storage.specs.Contents.{contents_of}
 use Rattle.bd_node.specs.Whole.{are_all_taken, has_taken, seat_has_destructed, seat_is_blocked, seat_rests, AreSeated}
-use Rattle.bd_node.proofs.Places.{all_at, all_below, has_at}
+use Rattle.bd_worker.proofs.Places.{all_at, all_below, has_at}
 
 -- ---- what seats see
 

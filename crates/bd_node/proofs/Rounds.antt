@@ -10,12 +10,12 @@ use Rattle.bd_base.specs.declared.setup.Setup.{Setup}
 use Rattle.bd_seat.specs.declared.seat_no.SeatNo.{SeatNo}
 use Rattle.bd_apart.specs.Course.{Phase}
 use Rattle.bd_wires.specs.declared.wires.Wires.{Wires}
-use Rattle.bd_node.specs.declared.seat.Seat.{Seat}
+use Rattle.bd_worker.specs.declared.seat.Seat.{Seat}
 use Rattle.bd_outside.specs.Disk.{DiskState}
 use Rattle.bd_node.specs.Disks.{disks_at}
-use Rattle.bd_node.specs.Seats.{Continues, IsSitting, Past}
+use Rattle.bd_worker.specs.Seats.{Continues, IsSitting, Past}
 use Rattle.bd_node.specs.Whole.{AreSeated, IsIn}
-use Rattle.bd_node.proofs.Places.{set_else, set_here}
+use Rattle.bd_worker.proofs.Places.{set_else, set_here}
 
 pub no_halt : (o : Option SeatNo) → is_none o ≡ true → o ≡ None
 no_halt None h = refl

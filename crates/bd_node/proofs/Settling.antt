@@ -35,9 +35,9 @@ use Rattle.bd_served.specs.Served.{served_from}
 use Rattle.bd_wires.specs.declared.wires.Passes.{Passes}
 use Rattle.bd_wires.specs.declared.wires.Wires.{Wires}
 use Rattle.bd_wires.specs.Wires as wires
-use Rattle.bd_node.specs.declared.seat.Seat.{Seat}
+use Rattle.bd_worker.specs.declared.seat.Seat.{Seat}
 use Rattle.bd_node.specs.Disks.{disks_at}
-use Rattle.bd_node.specs.Seats.{IsSeat, Past}
+use Rattle.bd_worker.specs.Seats.{IsSeat, Past}
 use Rattle.bd_node.specs.declared.node.Node.{Node}
 use Rattle.bd_node.specs.Whole.{are_all_taken, log_with, past_of, seat_has_destructed, seat_rests, setup_in, AreSeated, AreShut, IsNode}
 use Rattle.bd_node.proofs.Resting.{are_destructed, are_spent, local_or, locals_of, seat_at}

@@ -29,15 +29,15 @@ use Rattle.bd_thread.proofs.Starting.{new_is_at_start}
 use Rattle.bd_wires.specs.declared.wires.Passes.{Passes}
 use Rattle.bd_wires.specs.declared.wires.Wires.{Wires}
 use Rattle.bd_wires.specs.Wires.{put_into, AreNew, IsLinked, IsUnused}
-use Rattle.bd_node.specs.declared.seat.Seat.{Seat}
-use Rattle.bd_node.specs.Seats.{IsSeat}
+use Rattle.bd_worker.specs.declared.seat.Seat.{Seat}
+use Rattle.bd_worker.specs.Seats.{IsSeat}
 use Rattle.bd_node.specs.Starting.{AreNewSeats, IsNewSeat}
 use Rattle.bd_node.specs.Whole.{past_of, ArePhases, AreSeated, IsNodeOf, IsTrace}
 use Rattle.bd_node.specs.declared.node.Node.{Node}
 use Rattle.bd_report.specs.Counter.{HasCounted}
 use Rattle.bd_node.specs.Disks.{disks_at, disks_of, told_of}
 use Rattle.bd_node.proofs.Opened.{opened_view}
-use Rattle.bd_node.proofs.Places.{has_at, is_below}
+use Rattle.bd_worker.proofs.Places.{has_at, is_below}
 
 -- ---- seats, one after the other
 

@@ -1,5 +1,5 @@
 -- What the disks of a node's threads did, and what they tell.
-use Rattle.std.specs.Prelude.{◌≡◌, ℕ, true, List, [], ◌++◌, Option, None, Some, IfSome, find, length, map, slice_get, slice_index_or}
+use Rattle.std.specs.Prelude.{◌≡◌, ℕ, true, List, [], Option, None, Some, IfSome, find, length, map, slice_get, slice_index_or}
 use Rattle.std.specs.List.{range_with_len}
 use Rattle.bd_base.specs.declared.act.Entry.{Entry}
 use Rattle.bd_base.specs.declared.id.DevId.{DevId}
@@ -15,10 +15,9 @@ use Rattle.bd_machine.specs.Users.{dev_of}
 use Rattle.bd_machine.specs.View.{part_of}
 use Rattle.bd_outside.specs.Disk.{DiskState}
 use Rattle.bd_served.specs.Served.{served_from, ServedPiece}
-use Rattle.bd_apart.specs.Course.{Course}
 use Rattle.bd_storage.specs.Contents.{contents_of}
 use Rattle.bd_storage.specs.Served.{AreDoneBy}
-use Rattle.bd_node.specs.declared.seat.Seat.{Seat}
+use Rattle.bd_worker.specs.declared.seat.Seat.{Seat}
 
 -- ---- threads, in order
 
@@ -44,14 +43,6 @@ told_at state setup disks n = blocks_in (contents_of state (disks_at disks (home
 -- the blocks that the disk of each device tells; none where a device has no disk, or its disk tells nothing
 abbrev pub told_of : {D : Type 0} → (D → DiskState) → Setup → List (List (DevId × D)) → Told
 told_of state setup disks = map (told_at state setup disks) (range_with_len 0 (length setup.devices))
-
--- ---- a course
-
--- the disks did further pieces, and the second course says which, behind those of the first
-pub record AddsServed {D : Type 0} (state : D → DiskState) (setup : Setup) (c c' : Course) (old new : List (DevId × D)) : Type 0 where
-  pub more : DevId → List ServedPiece
-  pub served : (dev : DevId) → c'.served dev ≡ c.served dev ++ more dev
-  pub done : AreDoneBy state setup more old new
 
 -- ---- a history
 

@@ -1,20 +1,10 @@
 -- What is gathered of the threads' logs.
-use Rattle.std.specs.Prelude.{◌≡◌, ℕ, ◌≤◌, ◌++◌, List, [], All, Some, length, map, slice_get}
+use Rattle.std.specs.Prelude.{◌≡◌, ℕ, ◌≤◌, ◌++◌, List, All, Some, length, map, slice_get}
 use Rattle.bd_base.specs.declared.act.Entry.{Entry}
-use Rattle.bd_log.specs.Log.{log_part, IsWithin}
-use Rattle.bd_log.specs.Merge.{IsMerge, Part}
+use Rattle.bd_log.specs.Merge.{IsMerge}
 use Rattle.bd_node.specs.declared.node.Node.{Node}
-use Rattle.bd_node.specs.declared.seat.Seat.{Seat}
-use Rattle.bd_node.specs.Seats.{entries_in}
-
--- what is in a seat's log
-abbrev pub part_in : {D : Type 0} → Seat D → Part
-part_in s = log_part s.worker.log
-
--- what was in its log is gone from it, and had no stamp above this one, which the log met
-pub record IsHandedOut {D : Type 0} (stamp : ℕ) (old new : Seat D) : Type 0 where
-  pub is : new ≡ record old { worker = record old.worker { log = record old.worker.log { entries = []; last = stamp; capacity = new.worker.log.capacity } } }
-  pub within : IsWithin stamp (entries_in old)
+use Rattle.bd_worker.specs.declared.seat.Seat.{Seat}
+use Rattle.bd_worker.specs.Seats.{part_in, IsHandedOut}
 
 -- all logs were handed out, and their merge is last in the trace; all else is as before
 pub record Gathers {D : Type 0} (old new : Node D) : Type 0 where

@@ -1,5 +1,4 @@
 pub mod Schedule
-pub mod Seats
 pub mod Disks
 pub mod Whole
 pub mod Starting

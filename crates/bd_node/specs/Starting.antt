@@ -4,7 +4,7 @@ use Rattle.bd_base.specs.declared.setup.Setup.{Setup}
 use Rattle.bd_thread.specs.Requests.{KeepsTickets}
 use Rattle.bd_thread.specs.Starts.{IsNew, IsNewLinks}
 use Rattle.bd_wires.specs.declared.wires.Passes.{Passes}
-use Rattle.bd_node.specs.declared.seat.Seat.{Seat}
+use Rattle.bd_worker.specs.declared.seat.Seat.{Seat}
 
 -- thread number `me` before any entry, with these passes
 pub record IsNewSeat {D : Type 0} (me : ℕ) (setup : Setup) (passes : Passes) (s : Seat D) : Type 0 where

@@ -23,9 +23,9 @@ use Rattle.bd_wires.specs.declared.wires.Wires.{Wires}
 use Rattle.bd_node.specs.declared.node.Node.{Node}
 use Rattle.bd_node.specs.declared.node.NodeState.{NodeState}
 use Rattle.bd_node.specs.declared.node.NodeState.TheVariants.{Idle, Done, Busy}
-use Rattle.bd_node.specs.declared.seat.Seat.{Seat}
+use Rattle.bd_worker.specs.declared.seat.Seat.{Seat}
 use Rattle.bd_node.specs.Disks.{disks_at, disks_of, told_of}
-use Rattle.bd_node.specs.Seats.{entries_in, made_by, Past, Sits}
+use Rattle.bd_worker.specs.Seats.{entries_in, made_by, Past, Sits}
 use Rattle.bd_report.specs.Counter.{HasCounted}
 
 -- ---- all seats

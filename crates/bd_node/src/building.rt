@@ -3,13 +3,12 @@ ghost use Rattle.std.specs.Prelude.{◌≡◌, ◌<◌, ◌≤◌, ◌+◌, ◌+
 ghost use Rattle.bd_node.specs.Disks.{disks_of};
 ghost use Rattle.bd_node.specs.Starting.{AreNewSeats, IsNewSeat};
 
-use crate::seat::Seat;
-use crate::worker::Worker;
 use bd_base::{OutOfMemory, Setup, ThreadId};
 use bd_disks::{Disks, Shelf};
 use bd_log::Log;
 use bd_thread::{Links, Thread};
 use bd_wires::Passes;
+use bd_worker::{Seat, Worker};
 use std::alloc::Global;
 
 /// Abandons the tickets of all seats. Their disks go on the shelf.

@@ -1,18 +1,19 @@
 //! A reactor's turns in a round: its seats have turns until all reactors are quiet at the same moment.
 ghost use Rattle.std.specs.Prelude.{◌<◌, All, length};
-ghost use Rattle.bd_node.specs.Seats.{AllWentOn, SitsOrHalts};
+ghost use Rattle.bd_worker.specs.Seats.{AllWentOn, SitsOrHalts};
 
-use crate::seat::Seat;
 use crate::sharing::Deal;
 use bd_outside::{Disk, Gate};
 use bd_wires::Wires;
+use bd_worker::Seat;
 use std::alloc::Global;
 use std::sync::Wait;
 use std::sync::atomic::{AtomicU32, Ordering};
 use std::thread;
 
-/// How many passes in which something moved a reactor makes in a round, at most.
-const PASSES: u32 = 256;
+/// How many passes in which something moved a reactor makes in a round, at most: what a round did is in the logs until
+/// its end, so a round is short.
+const PASSES: u32 = 16;
 
 /// What the reactors of a round share: the gate that they pass, how threads are dealt to them, and how many of
 /// them are at work.
@@ -181,7 +182,7 @@ impl<'w, 'g, G: Gate> Crew<'w, 'g, G> {
 }
 
 /// The turns that a reactor gives its seats in a round: passes over all of them, until one in which none moved
-/// while no other reactor was at work, or until 256 in which some moved. It gives turns also while it has nothing
+/// while no other reactor was at work, or until 16 in which some moved. It gives turns also while it has nothing
 /// to do itself and others have, so that what they send is taken at once.
 pub(crate) fn give_turns<W: Wait, G: Gate, D: Disk>(
     rt: &W,

@@ -8,7 +8,7 @@ ghost use Rattle.bd_base.specs.declared.id.DevId.{DevId};
 ghost use Rattle.bd_told.specs.Told.{AreBasesLowest};
 ghost use Rattle.bd_node.specs.Disks.{disks_of, told_of, SaysOfDisks};
 ghost use Rattle.bd_node.specs.Schedule.{advance, advance_by};
-ghost use Rattle.bd_node.specs.Seats.{has_moved, made_by, HasMoved, Tells};
+ghost use Rattle.bd_worker.specs.Seats.{has_moved, made_by, HasMoved, Tells};
 ghost use Rattle.bd_node.specs.Shutting.{AddsShutdown, IsUnchanged};
 ghost use Rattle.bd_node.specs.Waits.{TurnsQuietly};
 ghost use Rattle.bd_report.specs.Stats.{stats_of};
@@ -21,7 +21,6 @@ use crate::gathering::greatest;
 use crate::history::{History, Played};
 use crate::node::{Node, NodeState};
 use crate::schedule::Schedule;
-use crate::seat::Seat;
 use crate::sharing::{Deal, turn_all};
 use bd_base::{OutOfMemory, Rows, Setup};
 use bd_disks::Shelf;
@@ -32,6 +31,7 @@ use bd_report::stats::Stats;
 use bd_seat::SeatNo;
 use bd_thread::Turned;
 use bd_wires::{Wires, connect, disconnect};
+use bd_worker::Seat;
 use std::alloc::Global;
 use std::sync::Wait;
 use std::thread::Threads;
@@ -265,7 +265,7 @@ impl<'a, D: Disk> Node<'a, D> {
 }
 
 impl<'a, D: Disk + Send> Node<'a, D> {
-    // Each seat has its turns of a round, by so many reactors.
+    // Each seat has its turns of a round, by this number of reactors.
     fn turn_in_round<R: Threads + Wait + Sync, G: Gate + Sync>(
         &mut self,
         rt: &R,
@@ -303,7 +303,7 @@ impl<'a, D: Disk + Send> Node<'a, D> {
     /// may have fewer, and some none. Where there are more than one they run beside each other, if the system has
     /// threads for them. A reactor goes over its threads, a turn each, and after each that moved one more for the
     /// first, and passes the gate before each turn, until none of them moved in a pass while no other reactor was
-    /// at work, or until they moved in 256 passes. Then what they did is gathered.
+    /// at work, or until they moved in 16 passes. Then what they did is gathered.
     pub fn round<R: Threads + Wait + Sync, G: Gate + Sync>(
         &mut self,
         rt: &R,

@@ -1,83 +1,16 @@
 //! How a node is shut down, and its seats taken apart at the end.
-ghost use Rattle.std.specs.Prelude.{◌≡◌, ◌≢◌, ◌≤◌, ◌<◌, ◌+◌, ◌++◌, ℕ, All, Some, length, map, vec_len, slice_get, IfOk, IsPermutation, MatchOption};
+ghost use Rattle.std.specs.Prelude.{◌≡◌, ◌≤◌, ◌<◌, ◌+◌, ◌++◌, ℕ, Some, length, map, vec_len, slice_get, IfOk, IsPermutation};
 ghost use Rattle.bd_node.specs.Disks.{disks_of};
-ghost use Rattle.bd_node.specs.Seats.{Continues, IsLentTo, IsSitting};
-ghost use Rattle.bd_node.specs.Shutting.{AreToLearn, LearnsShut, Shuts, ShutsWith};
+ghost use Rattle.bd_node.specs.Shutting.{AreToLearn};
+ghost use Rattle.bd_worker.specs.Shutting.{LearnsShut};
 
 use crate::building::abandon_all;
-use crate::seat::Seat;
-use crate::worker::Worker;
-use bd_base::{Act, OutOfMemory};
+use bd_base::OutOfMemory;
 use bd_disks::Shelf;
-use bd_outside::Disk;
-use bd_registry::Registry;
-use bd_seat::{SeatNo, catch_up};
-use bd_wires::{Passes, Wires};
+use bd_wires::Passes;
+use bd_worker::Seat;
 use std::alloc::Global;
 use std::collections::VecDeque;
-use std::sync::Wait;
-
-impl<'a> Worker<'a> {
-    // Thread 0 shuts down, with the stamp after this one and after all of its log and of the journal of the
-    // registry that it is lent, of which it saw this number of rows. Its registry follows the journal.
-    fn shut(
-        &mut self,
-        alloc: Global,
-        lent: &mut Registry,
-        seen: usize,
-        above: u128,
-    ) -> Result<u128, SeatNo>
-        requires { IsLentTo self.old seen lent.old }
-        ensures { IfOk result (λ stamp. ShutsWith seen above self.old lent.old stamp self.new lent.new) }
-    {
-        self.log.meet(lent.last_stamp());
-        self.log.meet(above);
-        let _journal = lent.journal();
-        catch_up(alloc, &mut self.links.registry, lent, seen)?;
-        let stamp = self.log.push(Act::Shutdown)?;
-        lent.shut(stamp)?;
-        self.links.shut = true;
-        Ok(stamp)
-    }
-}
-
-impl<'a, D: Disk> Seat<'a, D> {
-    /// Thread 0 shuts down, with a stamp above this one, which it answers. None where the registry wasn't in its
-    /// slot; then nothing changes.
-    pub fn shut<W: Wait>(
-        &mut self,
-        rt: &W,
-        alloc: Global,
-        wires: &Wires,
-        above: u128,
-    ) -> Result<Option<u128>, SeatNo>
-        requires sits { IsSitting D.state wires.now self.old }
-        requires first { self.old.worker.me ≡ 0 }
-        ensures shut { IfOk result (λ o. MatchOption o (self.new ≡ self.old) (λ stamp. (above < stamp) × Shuts D.state wires.now stamp self.old self.new)) }
-        ensures disks { self.new.disks ≡ self.old.disks }
-    {
-        let Some(mut lent) = wires.slot.try_take(rt, &mut self.passes.slot) else {
-            return Ok(None);
-        };
-        let stamp = self.worker.shut(alloc, &mut lent, self.seen, above)?;
-        self.seen = lent.journal().len();
-        wires.slot.give(rt, &mut self.passes.slot, lent);
-        Ok(Some(stamp))
-    }
-}
-
-impl<'a, D> Seat<'a, D> {
-    /// Another thread learns of the Shutdown, whose stamp its log meets.
-    pub fn learn_shut(&mut self, stamp: u128)
-        requires other { self.old.worker.me ≢ 0 }
-        requires later { self.old.worker.log.last < stamp }
-        ensures shut { LearnsShut stamp self.old self.new }
-        ensures disks { self.new.disks ≡ self.old.disks }
-    {
-        self.worker.log.meet(stamp);
-        self.worker.links.shut = true;
-    }
-}
 
 /// All threads but the first learn of the Shutdown.
 pub(crate) fn learn_all<'a, D>(seats: &mut [Seat<'a, D>], stamp: u128)

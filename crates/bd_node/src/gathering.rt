@@ -1,17 +1,16 @@
 //! What the threads of a node did, gathered: merged after the trace, counted, and gone from their logs.
 ghost use Rattle.std.specs.Prelude.{◌≡◌, ◌≤◌, ◌+◌, ◌++◌, ℕ, Some, All, [], length, map, sum_by, vec_len, vec_capacity, slice_get, IfOk, SomeIff, IsOk, OnOk, OnErr};
-ghost use Rattle.bd_log.specs.Log.{log_part};
 ghost use Rattle.bd_log.specs.Merge.{AreOfDifferentThreads};
-ghost use Rattle.bd_node.specs.Gathering.{part_in, Gathers, IsHandedOut};
-ghost use Rattle.bd_node.specs.Seats.{made_by};
+ghost use Rattle.bd_node.specs.Gathering.{Gathers};
+ghost use Rattle.bd_worker.specs.Seats.{part_in, IsHandedOut, made_by};
 ghost use Rattle.bd_node.specs.Shutting.{IsUnchanged};
 ghost use Rattle.bd_node.specs.Whole.{disks_in, CountsTheSame, HasSameLogs, IsNode, KeepsDisks, entries_left};
 
 use crate::node::Node;
-use crate::seat::Seat;
 use bd_base::OutOfMemory;
 use bd_log::{LogPart, merge_onto};
 use bd_outside::Disk;
+use bd_worker::Seat;
 
 /// A stamp that no log's last is above.
 pub(crate) fn greatest<'a, D>(seats: &[Seat<'a, D>]) -> u128
@@ -35,19 +34,8 @@ fn count_left<'a, D>(seats: &[Seat<'a, D>]) -> Option<usize>
     Some(total)
 }
 
-impl<'a, D> Seat<'a, D> {
-    // What is in its log, which meets this stamp: all that comes later is above it.
-    fn hand_out(&mut self, stamp: u128) -> LogPart
-        requires { self.old.worker.log.last ≤ stamp }
-        ensures handed { result ≡ log_part self.old.worker.log }
-        ensures out { IsHandedOut stamp self.old self.new }
-    {
-        self.worker.log.meet(stamp);
-        self.worker.log.hand_out()
-    }
-}
-
-// The same of all seats, in their order. It takes no memory: there is room for the parts.
+// What is in the logs of all seats, in their order; they all meet this stamp. It takes no memory: there is room
+// for the parts.
 fn hand_out_all<'a, D>(seats: &mut [Seat<'a, D>], stamp: u128, parts: &mut Vec<LogPart>)
     requires below { All (λ s. s.worker.log.last ≤ stamp) seats.old }
     requires room { vec_len parts.old + length seats.old ≤ vec_capacity parts.old }

@@ -11,11 +11,7 @@ mod history;
 mod node;
 mod run;
 mod schedule;
-mod seat;
 mod sharing;
-mod turning;
-mod worker;
-mod working;
 
 pub use history::{History, Played};
 pub use node::{Node, NodeState};

@@ -2,11 +2,11 @@
 ghost use Rattle.std.specs.Prelude.{◌≤◌, ◌+◌, length, vec_len};
 
 use crate::schedule::Schedule;
-use crate::seat::Seat;
 use bd_base::{Entry, Setup};
 use bd_disks::Shelf;
 use bd_report::counter::Counter;
 use bd_wires::Wires;
+use bd_worker::Seat;
 use std::alloc::Global;
 
 /// How far a node is.

@@ -3,13 +3,13 @@ ghost use Rattle.std.specs.Prelude.{◌≡◌, ◌<◌, All, IsPermutation, leng
 ghost use Rattle.std.specs.List.Sorted.{IsNonDecreasingBy};
 ghost use Rattle.bd_disks.specs.Shelf.{AreAllThere};
 ghost use Rattle.bd_node.specs.Disks.{disks_of};
-ghost use Rattle.bd_node.specs.Seats.{AllWentOn, IsSitting, number_in};
+ghost use Rattle.bd_worker.specs.Seats.{AllWentOn, IsSitting, number_in};
 ghost use Rattle.bd_node.specs.Whole.{StaySeated};
 
 use crate::crew::{Watch, give_turns};
-use crate::seat::Seat;
 use bd_outside::{Disk, Gate};
 use bd_wires::Wires;
+use bd_worker::Seat;
 use std::alloc::Global;
 use std::sync::Wait;
 use std::thread::{self, Threads};

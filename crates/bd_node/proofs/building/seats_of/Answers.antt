@@ -3,7 +3,7 @@ use Rattle.std.specs.List.{slice_get}
 use Rattle.std.proofs.lemmas.List.{length-append}
 use Rattle.std.proofs.lemmas.Option.{slice_get_read}
 use Rattle.bd_wires.specs.declared.wires.Passes.{Passes}
-use Rattle.bd_node.specs.declared.seat.Seat.{Seat}
+use Rattle.bd_worker.specs.declared.seat.Seat.{Seat}
 use Rattle.bd_node.specs.Starting.{AreNewSeats}
 use Rattle.bd_node.specs.Disks.{disks_of}
 use Rattle.bd_node.proofs.Disks.{disks_more, no_more, no_more_disks}

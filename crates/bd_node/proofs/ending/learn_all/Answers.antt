@@ -1,9 +1,9 @@
 use Rattle.std.proofs.Common.{◌≢◌, ◌≤◌, ◌<◌, arith, length, slice_index_or, ◌∙◌}
 use Rattle.std.proofs.lemmas.Option.{slice_get-get_or}
 use Rattle.std.proofs.Math.Seq.{map-set_same}
-use Rattle.bd_node.specs.declared.seat.Seat.{Seat}
-use Rattle.bd_node.proofs.Places.{is_below, set_else}
-use Rattle.bd_node.proofs.Shut.{learnt_more}
+use Rattle.bd_worker.specs.declared.seat.Seat.{Seat}
+use Rattle.bd_worker.proofs.Places.{is_below, set_else}
+use Rattle.bd_node.proofs.Learning.{learnt_more}
 use Rattle.bd_node.proofs.ending.learn_all.Goals as goal
 
 pub loop-place-preserved : goal.loop-place-preserved

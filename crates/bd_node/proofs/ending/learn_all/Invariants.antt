@@ -1,8 +1,8 @@
 use Rattle.std.proofs.Common.{◌≡◌, ℕ, ◌<◌, ◌≤◌, Some}
 use Rattle.std.specs.List.{slice_get}
-use Rattle.bd_node.specs.declared.seat.Seat.{Seat}
+use Rattle.bd_worker.specs.declared.seat.Seat.{Seat}
 use Rattle.bd_node.specs.Disks.{disks_of}
-use Rattle.bd_node.specs.Shutting.{LearnsShut}
+use Rattle.bd_worker.specs.Shutting.{LearnsShut}
 use Rattle.bd_node.proofs.ending.learn_all.Given as goal
 
 abbrev pub invariant-loop-place : goal.invariant-loop-place

@@ -1,5 +1,5 @@
 use Rattle.std.proofs.Common.{◌≡◌, ◌≤◌, take, sum_by}
-use Rattle.bd_node.specs.Seats.{made_by}
+use Rattle.bd_worker.specs.Seats.{made_by}
 use Rattle.bd_node.proofs.gathering.count_left.Given as goal
 
 abbrev pub invariant-loop-seat : goal.invariant-loop-seat

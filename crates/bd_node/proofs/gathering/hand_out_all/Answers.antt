@@ -4,10 +4,10 @@ use Rattle.std.proofs.lemmas.List.{map-append, take_all, take_more}
 use Rattle.std.proofs.lemmas.List.Elements.{All-get_or}
 use Rattle.std.proofs.lemmas.Option.{get_or_from_slice_get, slice_get-get_or}
 use Rattle.bd_log.specs.Merge.{Part}
-use Rattle.bd_node.specs.declared.seat.Seat.{Seat}
-use Rattle.bd_node.specs.Gathering.{part_in, IsHandedOut}
+use Rattle.bd_worker.specs.declared.seat.Seat.{Seat}
+use Rattle.bd_worker.specs.Seats.{part_in, IsHandedOut}
 use Rattle.bd_node.proofs.Gathered.{more_at}
-use Rattle.bd_node.proofs.Places.{is_below, set_else}
+use Rattle.bd_worker.proofs.Places.{is_below, set_else}
 use Rattle.bd_node.proofs.gathering.hand_out_all.Goals as goal
 
 pub hand_out-part-requires : goal.hand_out-part-requires

@@ -1,8 +1,8 @@
 -- Those up to a place were handed out, and the others are as before.
 use Rattle.std.proofs.Common.{◌≡◌, ℕ, ◌+◌, ◌<◌, ◌≤◌, ◌++◌, Some, length, map, take, vec_capacity}
 use Rattle.std.specs.List.{slice_get}
-use Rattle.bd_node.specs.declared.seat.Seat.{Seat}
-use Rattle.bd_node.specs.Gathering.{part_in, IsHandedOut}
+use Rattle.bd_worker.specs.declared.seat.Seat.{Seat}
+use Rattle.bd_worker.specs.Seats.{part_in, IsHandedOut}
 use Rattle.bd_node.proofs.gathering.hand_out_all.Given as goal
 
 abbrev pub invariant-loop-place : goal.invariant-loop-place

@@ -1,6 +1,6 @@
 use Rattle.std.proofs.Common.{rules}
 use Rattle.std.proofs.lemmas.List.Sorted.{IsNonDecreasingBy-from_sort_by_key}
-use Rattle.bd_node.specs.Seats.{number_in}
+use Rattle.bd_worker.specs.Seats.{number_in}
 use Rattle.bd_node.proofs.sharing.gather.Goals as goal
 
 pub returns-clause-sorted : goal.returns-clause-sorted

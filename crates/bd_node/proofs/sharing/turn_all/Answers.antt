@@ -1,6 +1,6 @@
 use Rattle.std.proofs.Common.{◌∙◌}
 use Rattle.std.proofs.lemmas.List.Sorted.{length_permutation, All-permutation}
-use Rattle.bd_node.specs.Seats.{IsSitting}
+use Rattle.bd_worker.specs.Seats.{IsSitting}
 use Rattle.bd_node.specs.Disks.{disks_of}
 use Rattle.bd_node.proofs.Dealing.{still_seated}
 use Rattle.bd_node.proofs.Kept.{all_same, all_then, seats_kept, seats_reordered}

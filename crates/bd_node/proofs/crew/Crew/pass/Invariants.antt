@@ -1,5 +1,5 @@
 use Rattle.std.proofs.Common.{◌≡◌, length}
-use Rattle.bd_node.specs.Seats.{AllWentOn}
+use Rattle.bd_worker.specs.Seats.{AllWentOn}
 use Rattle.bd_node.proofs.crew.Crew.pass.Given as goal
 
 abbrev pub invariant-loop-place : goal.invariant-loop-place

@@ -5,8 +5,9 @@ use Rattle.bd_base.specs.declared.act.Entry.{Entry}
 use Rattle.bd_log.specs.Merge.{AreOfDifferentThreads}
 use Rattle.bd_report.specs.Counter.{HasCounted}
 use Rattle.bd_report.specs.declared.counter.Counter.{Counter}
-use Rattle.bd_node.specs.declared.seat.Seat.{Seat}
-use Rattle.bd_node.specs.Gathering.{part_in, Gathers}
+use Rattle.bd_worker.specs.declared.seat.Seat.{Seat}
+use Rattle.bd_node.specs.Gathering.{Gathers}
+use Rattle.bd_worker.specs.Seats.{part_in}
 use Rattle.bd_node.specs.Whole.{past_of}
 use Rattle.bd_node.proofs.Gathered.{any_room, counts_all, gathered_all, gathered_logs, gathered_node, gathers_so}
 use Rattle.bd_node.proofs.Kept.{gathers_disks, unchanged_disks}

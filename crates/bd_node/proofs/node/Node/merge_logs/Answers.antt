@@ -4,9 +4,8 @@ use Rattle.std.specs.List.{slice_get}
 use Rattle.std.specs.Vec.{with_items}
 use Rattle.std.proofs.lemmas.List.{with_items_is}
 use Rattle.bd_log.specs.Merge.{AreOfDifferentThreads, IsMerge, Part}
-use Rattle.bd_node.specs.declared.seat.Seat.{Seat}
-use Rattle.bd_node.specs.Gathering.{part_in}
-use Rattle.bd_node.specs.Seats.{made_by}
+use Rattle.bd_worker.specs.declared.seat.Seat.{Seat}
+use Rattle.bd_worker.specs.Seats.{part_in, made_by}
 use Rattle.bd_node.proofs.Telling.{sum_by_map}
 use Rattle.bd_node.proofs.node.Node.merge_logs.Goals as goal
 

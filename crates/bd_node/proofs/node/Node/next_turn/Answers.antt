@@ -1,5 +1,5 @@
 use Rattle.std.proofs.Common.{Bool, subst, sym}
-use Rattle.bd_node.specs.Seats.{HasMoved}
+use Rattle.bd_worker.specs.Seats.{HasMoved}
 use Rattle.bd_node.specs.Whole.{entries_made}
 use Rattle.bd_node.proofs.Telling.{moved_as_told}
 use Rattle.bd_node.proofs.node.Node.next_turn.Goals as goal

@@ -1,7 +1,7 @@
 use Rattle.std.proofs.Common.{ℕ, ap, sym, subst, length}
 use Rattle.bd_log.specs.Merge.{Part}
 use Rattle.std.specs.List.{sum_by}
-use Rattle.bd_node.specs.Seats.{HasMoved}
+use Rattle.bd_worker.specs.Seats.{HasMoved}
 use Rattle.bd_node.specs.Whole.{entries_made}
 use Rattle.bd_node.proofs.Histories.{keeps_disks_then}
 use Rattle.bd_node.proofs.Kept.{node_same, node_then}

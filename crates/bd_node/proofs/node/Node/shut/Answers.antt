@@ -3,11 +3,12 @@ use Rattle.std.specs.List.{slice_get}
 use Rattle.std.specs.Option.{MatchOption}
 use Rattle.std.specs.Vec.{with_item}
 use Rattle.std.proofs.lemmas.List.{set-get_or, with_items_is}
-use Rattle.bd_node.specs.declared.seat.Seat.{Seat}
+use Rattle.bd_worker.specs.declared.seat.Seat.{Seat}
 use Rattle.bd_disks.specs.Rows.{places}
 use Rattle.bd_disks.specs.Shelf.{places_of, AreAllThere}
 use Rattle.bd_node.specs.Disks.{disks_at, disks_of}
-use Rattle.bd_node.specs.Shutting.{AreToLearn, Shuts}
+use Rattle.bd_node.specs.Shutting.{AreToLearn}
+use Rattle.bd_worker.specs.Shutting.{Shuts}
 use Rattle.bd_node.specs.Whole.{disks_in, past_of, AreSeated}
 use Rattle.bd_node.proofs.Kept.{all_same, node_seats, seat_kept}
 use Rattle.bd_node.proofs.Marks.{each_adds, first_at, node_shuts, others_learn, AreAllShut}

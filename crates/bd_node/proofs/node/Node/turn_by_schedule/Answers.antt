@@ -1,6 +1,6 @@
 use Rattle.std.proofs.Common.{Bool, true, false, refl, sym, ◌∙◌, ap, subst}
 use Rattle.bd_node.specs.Schedule.{advance}
-use Rattle.bd_node.specs.Seats.{HasMoved}
+use Rattle.bd_worker.specs.Seats.{HasMoved}
 use Rattle.bd_node.specs.Whole.{entries_made}
 use Rattle.bd_node.proofs.Advancing.{advance_next, advance_none}
 use Rattle.bd_node.proofs.Histories.{keeps_disks_still, keeps_disks_then}

@@ -1,6 +1,6 @@
 use Rattle.std.proofs.Common.{◌≡◌}
 use Rattle.bd_node.specs.Schedule.{advance_by}
-use Rattle.bd_node.specs.Seats.{HasMoved}
+use Rattle.bd_worker.specs.Seats.{HasMoved}
 use Rattle.bd_node.specs.Whole.{entries_made, HasAllDisks, IsNode, KeepsDisks}
 use Rattle.bd_node.proofs.node.Node.turn_by_schedule.Given as goal
 

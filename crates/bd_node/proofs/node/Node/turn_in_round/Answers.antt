@@ -2,8 +2,8 @@ use Rattle.std.proofs.Common.{◌≡◌, true, All, List, ◌++◌, length, vec_
 use Rattle.std.specs.List.{list_all}
 use Rattle.std.specs.Vec.{with_items}
 use Rattle.std.proofs.lemmas.List.{with_items_is}
-use Rattle.bd_node.specs.declared.seat.Seat.{Seat}
-use Rattle.bd_node.specs.Seats.{IsSitting}
+use Rattle.bd_worker.specs.declared.seat.Seat.{Seat}
+use Rattle.bd_worker.specs.Seats.{IsSitting}
 use Rattle.bd_node.specs.Whole.{disks_in, past_of, seat_goes, AreSeated, StaySeated}
 use Rattle.bd_disks.specs.Shelf.{AreAllThere}
 use Rattle.bd_node.specs.Disks.{disks_of}

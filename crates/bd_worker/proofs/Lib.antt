@@ -1,0 +1,11 @@
+pub mod Places
+pub mod Lowest
+pub mod Over
+pub mod Workers
+pub mod Seats
+pub mod Departing
+pub mod Borrowing
+pub mod Lent
+pub mod Telling
+pub mod Waiting
+pub mod Shut

@@ -1,0 +1,76 @@
+-- What a seat waits for where its turn added no entry.
+use Rattle.std.specs.Prelude.{◌≡◌, ◌⊎◌, Option, Some, None, false}
+use Rattle.bd_registry.specs.State.{Registered}
+use Rattle.bd_ring.specs.Slots.{WasAway}
+use Rattle.bd_seat.specs.Incoming.{Fetched, HasFetchedAll}
+use Rattle.bd_seat.specs.Outgoing.{FlushedAll}
+use Rattle.bd_thread.specs.declared.turn.Turned.{Turned}
+use Rattle.bd_thread.specs.declared.turn.Turned.TheVariants.{Moved, Quiet}
+use Rattle.bd_thread.specs.Waits.{IsIdle, IsWaiting}
+use Rattle.bd_thread.specs.Work.{wants_registry, IsWaitingAlone}
+use Rattle.bd_worker.specs.declared.seat.Seat.{Seat}
+use Rattle.bd_worker.specs.declared.worker.Worker.{Worker}
+
+-- ---- a worker
+
+-- its thread and its links are as before, and it waits for all but what it would ask the registry
+abbrev pub IsIdleAlone : Worker → Worker → Type 0
+IsIdleAlone old new = IsIdle IsWaitingAlone old.thread old.links new.thread new.links
+
+-- the same, but that its registry is what the one is that it was lent, and with that it waits altogether
+pub record IsIdleWith (lent : Registered) (old new : Worker) : Type 0 where
+  pub thread : new.thread ≡ old.thread
+  pub links : new.links ≡ record old.links { registry = new.links.registry }
+  pub registry : new.links.registry.state ≡ lent.state
+  pub waits : IsWaiting new.thread new.links
+
+-- quiet is answered where it is so
+abbrev pub IdlesAlone : Worker → Worker → Turned → Type 0
+IdlesAlone old new Quiet = IsIdleAlone old new
+IdlesAlone old new (Moved n) = Unit {0}
+
+abbrev pub IdlesWith : Registered → Worker → Worker → Turned → Type 0
+IdlesWith lent old new Quiet = IsIdleWith lent old new
+IdlesWith lent old new (Moved n) = Unit {0}
+
+-- ---- a seat
+
+-- posts of its ring came, until its queue was full or the ring empty
+pub record Receives {D : Type 0} (old new : Seat D) : Type 0 where
+  pub fetched : Fetched old.worker.me old.passes.take old.worker.log old.worker.links.queues.items new.passes.take new.worker.log new.worker.links.queues.items
+  pub all : HasFetchedAll old.worker.me new.passes.take new.worker.links.queues.items
+  pub links : new.worker.links ≡ record old.worker.links { queues = new.worker.links.queues }
+  pub thread : new.worker.thread ≡ old.worker.thread
+
+-- what was in its queues to others went into their rings, as far as these took it
+pub record Sends {D : Type 0} (old new : Seat D) : Type 0 where
+  pub flushed : FlushedAll old.worker.me old.worker.log.last old.passes.sends.items old.worker.links.queues.items new.passes.sends.items new.worker.links.queues.items
+  pub links : new.worker.links ≡ record old.worker.links { queues = new.worker.links.queues }
+  pub thread : new.worker.thread ≡ old.worker.thread
+
+-- lent some registry, quiet is answered where it waits altogether; nothing changes where the registry was away
+abbrev pub IdlesIfLent : {D : Type 0} → Seat D → Seat D → Option Turned → Type 0
+IdlesIfLent old new None = (new ≡ old) × WasAway old.passes.slot
+IdlesIfLent old new (Some turned) = (lent : Registered) × IdlesWith lent old.worker new.worker turned
+
+-- it waits altogether, or, where it doesn't want the registry or that was away, for all but what it would ask it
+abbrev pub IsIdleSeat : {D : Type 0} → Seat D → Seat D → Type 0
+IsIdleSeat old new =
+    (((wants_registry old.worker.thread old.worker.links ≡ false) ⊎ WasAway old.passes.slot) × IsIdleAlone old.worker new.worker)
+    ⊎ ((lent : Registered) × IsIdleWith lent old.worker new.worker)
+
+abbrev pub Idles : {D : Type 0} → Seat D → Seat D → Turned → Type 0
+Idles old new Quiet = IsIdleSeat old new
+Idles old new (Moved n) = Unit {0}
+
+-- a quiet turn: posts came, there was nothing to do, and what was to be sent went
+pub record IsQuietTurn {D : Type 0} (old new : Seat D) : Type 0 where
+  pub came : Seat D
+  pub still : Seat D
+  pub receives : Receives old came
+  pub idle : IsIdleSeat came still
+  pub sends : Sends still new
+
+abbrev pub QuietTurns : {D : Type 0} → Seat D → Seat D → Turned → Type 0
+QuietTurns old new Quiet = IsQuietTurn old new
+QuietTurns old new (Moved n) = Unit {0}

@@ -1,0 +1,139 @@
+//! A seat's turns.
+ghost use Rattle.std.specs.Prelude.{◌≡◌, IfOk, OnOk};
+ghost use Rattle.bd_worker.specs.Seats.{made_by, Continues, HasSameDisks, HasSameEntries, IsSitting, IsWorking, KeepsOn, SitsOrHalts, Tells, TellsIfAny, WentOn};
+ghost use Rattle.bd_worker.specs.Waits.{Idles, IdlesAlone, IdlesIfLent, QuietTurns, Receives, Sends};
+
+use crate::seat::Seat;
+use bd_outside::Disk;
+use bd_seat::{SeatNo, fetch, flush_all};
+use bd_thread::Turned;
+use bd_wires::Wires;
+use std::alloc::Global;
+use std::sync::Wait;
+
+impl<'a, D: Disk> Seat<'a, D> {
+    // Posts of its ring come into its queue.
+    fn receive<W: Wait>(&mut self, rt: &W, wires: &Wires) -> Result<(), SeatNo>
+        requires { IsSitting D.state wires.now self.old }
+        ensures goes { OnOk result (Continues D.state wires.now self.old self.new) }
+        ensures entries { OnOk result (HasSameEntries self.old self.new) }
+        ensures came { OnOk result (Receives self.old self.new) }
+        ensures disks { self.new.disks ≡ self.old.disks }
+    {
+        let me = self.worker.me;
+        let worker = &mut self.worker;
+        fetch(
+            rt,
+            &wires.rings[me as usize],
+            &mut self.passes.take,
+            &mut worker.log,
+            &mut worker.links.queues,
+            me,
+        )?;
+        Ok(())
+    }
+
+    // What is in its queues to others goes into their rings.
+    fn send<W: Wait>(&mut self, rt: &W, wires: &Wires) -> Result<(), SeatNo>
+        requires { IsSitting D.state wires.now self.old }
+        ensures goes { OnOk result (Continues D.state wires.now self.old self.new) }
+        ensures entries { OnOk result (HasSameEntries self.old self.new) }
+        ensures went { OnOk result (Sends self.old self.new) }
+        ensures disks { self.new.disks ≡ self.old.disks }
+    {
+        let me = self.worker.me;
+        let worker = &mut self.worker;
+        flush_all(
+            rt,
+            wires.rings.as_slice(),
+            &mut self.passes.sends,
+            &mut worker.links.queues,
+            me as usize,
+            worker.log.last(),
+        )?;
+        Ok(())
+    }
+
+    // A turn with the registry, where it is in its slot.
+    fn borrow<W: Wait>(
+        &mut self,
+        rt: &W,
+        alloc: Global,
+        wires: &Wires,
+    ) -> Result<Option<Turned>, SeatNo>
+        requires { IsSitting D.state wires.now self.old }
+        ensures goes { OnOk result (Continues D.state wires.now self.old self.new) }
+        ensures turned { IfOk result (TellsIfAny (made_by self.old) (made_by self.new)) }
+        ensures quiet { IfOk result (IdlesIfLent self.old self.new) }
+        ensures kept { HasSameDisks D.state self.old self.new }
+    {
+        let Some(mut lent) = wires.slot.try_take(rt, &mut self.passes.slot) else {
+            return Ok(None);
+        };
+        let turned = self
+            .worker
+            .work_with(alloc, &mut self.disks, &mut lent, self.seen)?;
+        self.seen = lent.journal().len();
+        wires.slot.give(rt, &mut self.passes.slot, lent);
+        Ok(Some(turned))
+    }
+
+    // A turn without the registry.
+    fn work(&mut self, alloc: Global) -> Result<Turned, SeatNo>
+        requires { IsWorking self.old.worker }
+        ensures goes { OnOk result (KeepsOn D.state self.old self.new) }
+        ensures turned { IfOk result (Tells (made_by self.old) (made_by self.new)) }
+        ensures quiet { IfOk result (IdlesAlone self.old.worker self.new.worker) }
+        ensures kept { HasSameDisks D.state self.old self.new }
+    {
+        self.worker.work(alloc, &mut self.disks)
+    }
+
+    // A turn with the registry, where the thread wants it and it is in its slot; else one without.
+    fn act<W: Wait>(&mut self, rt: &W, alloc: Global, wires: &Wires) -> Result<Turned, SeatNo>
+        requires { IsSitting D.state wires.now self.old }
+        ensures goes { OnOk result (Continues D.state wires.now self.old self.new) }
+        ensures turned { IfOk result (Tells (made_by self.old) (made_by self.new)) }
+        ensures quiet { IfOk result (Idles self.old self.new) }
+        ensures kept { HasSameDisks D.state self.old self.new }
+    {
+        if !self.worker.wants_registry() {
+            return self.work(alloc);
+        }
+        match self.borrow(rt, alloc, wires)? {
+            Some(turned) => Ok(turned),
+            None => self.work(alloc),
+        }
+    }
+
+    /// A turn: what came in its ring, what the thread does, and what it put to others.
+    pub fn turn<W: Wait>(&mut self, rt: &W, alloc: Global, wires: &Wires) -> Result<Turned, SeatNo>
+        requires { IsSitting D.state wires.now self.old }
+        ensures goes { OnOk result (Continues D.state wires.now self.old self.new) }
+        ensures turned { IfOk result (Tells (made_by self.old) (made_by self.new)) }
+        ensures quiet { IfOk result (QuietTurns self.old self.new) }
+        ensures kept { HasSameDisks D.state self.old self.new }
+    {
+        self.receive(rt, wires)?;
+        let turned = self.act(rt, alloc, wires)?;
+        self.send(rt, wires)?;
+        Ok(turned)
+    }
+
+    /// A turn in a round, unless the seat has to halt; true where it moved. What halts it is kept.
+    pub fn step<W: Wait>(&mut self, rt: &W, alloc: Global, wires: &Wires) -> bool
+        requires { SitsOrHalts D.state wires.now self.old }
+        ensures { WentOn D.state wires.now self.old self.new }
+    {
+        if self.halted.is_some() {
+            return false;
+        }
+        match self.turn(rt, alloc, wires) {
+            Ok(turned) => turned != Turned::Quiet,
+            Err(no) => {
+                self.halted = Some(no);
+                false
+            }
+        }
+    }
+}
