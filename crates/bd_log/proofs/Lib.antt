@@ -1,6 +1,7 @@
-pub mod Groups
+pub mod Choice
 pub mod Order
 pub mod Parts
+pub mod SameStamp
 pub mod Stamping
 pub mod Taking
 pub mod Unique

@@ -3,7 +3,7 @@ ghost use Rattle.std.specs.Prelude.{◌≡◌, ◌+◌, ◌≤◌, length, map, 
 ghost use Rattle.bd_log.specs.Log.{log_part};
 ghost use Rattle.bd_log.specs.Merge.{AppendsMerge, AreOfDifferentThreads, IsMerge, MergeIsUnique, MergingByParts};
 
-use crate::firsts::{first_in, first_of, firsts_of};
+use crate::firsts::{by_thread_len, first_of};
 use crate::log::Log;
 use crate::part::LogPart;
 use bd_base::{Entry, OutOfMemory};
@@ -51,12 +51,18 @@ pub fn merge_onto(parts: Vec<LogPart>, trace: &mut Vec<Entry>)
     if left.is_empty() {
         return;
     }
-    let mut firsts = firsts_of(left);
-    let mut first = first_of(left, firsts);
+    let by_thread = by_thread_len(left);
+    let mut first = first_of(left);
     while let Some(entry) = left[first].take() {
+        let stamp = entry.stamp;
         trace.push_reserved(entry);
-        firsts[first % 4] = first_in(left, first % 4);
-        first = first_of(left, firsts);
+        // Where the parts stand in order of their threads, those behind it follow with their entries of this stamp.
+        for place in first + 1..by_thread {
+            if let Some(same) = left[place].take_at(stamp) {
+                trace.push_reserved(same);
+            }
+        }
+        first = first_of(left);
     }
 }
 

@@ -1,6 +1,6 @@
 //! What a log handed out.
-ghost use Rattle.std.specs.Prelude.{◌≡◌, ◌∷◌, [], drop, length, MatchOption};
-ghost use Rattle.bd_log.specs.FirstStamp.{first_stamp};
+ghost use Rattle.std.specs.Prelude.{◌≡◌, ◌∷◌, [], drop, length, IfSome, MatchOption};
+ghost use Rattle.bd_log.specs.FirstStamp.{first_stamp, BeginsElsewhere};
 ghost use Rattle.bd_log.specs.Merge.{IsPart, head_before};
 
 use bd_base::{Entry, ThreadId};
@@ -79,6 +79,19 @@ impl LogPart {
     {
         self.first_stamp = stamp_at(&self.entries, 1);
         self.entries.pop_front()
+    }
+
+    // Takes the first entry out, where it has this stamp.
+    pub(crate) fn take_at(&mut self, stamp: u128) -> Option<Entry>
+        ensures thread { self.new.thread ≡ self.old.thread }
+        ensures part { IsPart self.new }
+        ensures begins { MatchOption result ((self.new ≡ self.old) × BeginsElsewhere stamp self.old.entries) (λ x. x.stamp ≡ stamp) }
+        ensures entry { IfSome result (λ x. self.old.entries ≡ x ∷ self.new.entries) }
+    {
+        if self.first_stamp != stamp {
+            return None;
+        }
+        self.take()
     }
 }
 

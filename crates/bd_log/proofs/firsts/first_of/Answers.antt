@@ -1,9 +1,7 @@
-use Rattle.bd_log.proofs.Groups.{first_of_groups}
+use Rattle.bd_log.proofs.Choice.{first_more}
 use Rattle.bd_log.proofs.firsts.first_of.Goals as goal
 
-pub returns-clause-least : goal.returns-clause-least
-returns-clause-least c =
-    let one = c.sooner-one in
-    let other = c.sooner-other in
-    let all = c.sooner in
-    first_of_groups c.args.parts.now c.args.firsts one.result other.result all.result c.requires one.ensures.first one.ensures.second other.ensures.first other.ensures.second all.ensures.first all.ensures.second
+pub loop-place-preserved : goal.loop-place-preserved
+loop-place-preserved c =
+    let asked = c.sooner-first.ensures in
+    first_more c.args.parts.now c.loop-place.first c.loop-place.place c.sooner-first.result c.loop-place.invariant c.loop-place-test.true asked.either asked.first asked.second asked.part
