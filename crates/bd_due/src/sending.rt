@@ -3,17 +3,20 @@ ghost use Rattle.std.specs.Prelude.{◌≡◌, ◌<◌, ◌++◌, true, is_some,
 ghost use Rattle.bd_changes.specs.Begun.{begun};
 ghost use Rattle.bd_links.specs.Queues.{queues_of};
 ghost use Rattle.bd_machine.specs.Alone.{held_after};
+ghost use Rattle.bd_machine.specs.Messages.{sent};
 ghost use Rattle.bd_tokens.specs.Tokens.{here_in, Sets};
 ghost use Rattle.bd_due.specs.Sending.{bound_for, first_brought, first_due, goes_on, kept_on_way, sent_off, token_of};
 
 use bd_base::{OutOfMemory, Token, WalkId};
 use bd_blocks::first_of;
-use bd_changes::{is_at_end, news_of, sent};
+use bd_changes::{is_at_end, news_of, progress_put, trip_put};
 use bd_links::{Queue, is_full};
 use bd_machine::{Due, Id, Kept, News, OpenWalk};
+use bd_parcel::Parcel;
 use bd_rules::brings;
 use bd_tokens::Tokens;
 use bd_view::is_built_token;
+use std::alloc::Global;
 use std::collections::VecDeque;
 
 /// A walk is to be put to the least thread left, or back to the one that began it.
@@ -64,20 +67,38 @@ pub fn begin_walk(
     }
 }
 
+// What is kept of a token that is put.
+fn send(parcel: &mut Parcel)
+    ensures { parcel.new ≡ sent parcel.old }
+{
+    match parcel.get_mut() {
+        Kept::Request(r) => r.trip = trip_put(r.trip),
+        Kept::Piece(p) => p.progress = progress_put(p.progress),
+        Kept::Walk(_) => (),
+        Kept::Notice(_) => (),
+    }
+}
+
 /// The token leaves this thread: what is kept of it on its way.
-pub fn leave(tokens: &mut Tokens, id: Id, what: &Token) -> Result<Kept, OutOfMemory>
+pub fn leave(
+    alloc: Global,
+    tokens: &mut Tokens,
+    id: Id,
+    what: &Token,
+) -> Result<Parcel, OutOfMemory>
     requires { is_some (kept_on_way what.now (here_in tokens.old.items id)) ≡ true }
     ensures kept { IfOk result (λ kept. kept_on_way what.now (here_in tokens.old.items id) ≡ Some kept) }
     ensures gone { OnOk result (Sets tokens.old.items tokens.new.items id None) }
 {
     if let Some(told) = news_of(what)? {
         tokens.let_go(id);
-        return Ok(Kept::Notice(told));
+        return Parcel::new(alloc, Kept::Notice(told));
     }
-    match tokens.take_out(id) {
-        Some(kept) => Ok(sent(kept)),
-        None => unreachable!(),
-    }
+    let Some(mut parcel) = tokens.take_out(id)? else {
+        unreachable!()
+    };
+    send(&mut parcel);
+    Ok(parcel)
 }
 
 /// The same token once more.
@@ -134,7 +155,7 @@ pub fn may_take(queues: &[Queue], me: usize) -> bool
 {
     match queues[me].first() {
         Some(message) => {
-            is_built_token(&message.what) && brings(&message.what, Some(&message.kept))
+            is_built_token(&message.what) && brings(&message.what, Some(message.kept.get()))
         }
         None => false,
     }

@@ -32,9 +32,11 @@ fn device_of(kept: Option<&Kept>) -> Option<u32> {
 }
 
 // The device of a token that is taken out.
-fn taken(tokens: &mut Tokens, id: Id) -> Option<u32> {
-    let kept = tokens.take_out(id);
-    device_of(kept.as_ref())
+fn taken(tokens: &mut Tokens, id: Id) -> Result<Option<u32>, OutOfMemory> {
+    match tokens.take_out(id)? {
+        Some(parcel) => Ok(device_of(Some(parcel.get()))),
+        None => Ok(None),
+    }
 }
 
 // Each of 400 tokens is held with a device of its own.
@@ -60,13 +62,14 @@ fn let_odd_go(rt: &impl Abort, tokens: &mut Tokens) {
     }
 }
 
-fn take_all_out(rt: &impl Abort, tokens: &mut Tokens) {
+fn take_all_out(rt: &impl Abort, tokens: &mut Tokens) -> Result<(), OutOfMemory> {
     for number in 0..100u32 {
         for id in ids_of(number) {
             let expected = if number % 2 == 1 { None } else { Some(number) };
-            assert_eq!(rt; taken(tokens, id), expected);
+            assert_eq!(rt; taken(tokens, id)?, expected);
         }
     }
+    Ok(())
 }
 
 #[test]
@@ -75,7 +78,7 @@ fn each_token_is_found(rt: HostRuntime) -> Result<(), Fail> {
     hold_all(&mut tokens)?;
     assert_eq!(rt; tokens.len(), 400);
     let_odd_go(&rt, &mut tokens);
-    take_all_out(&rt, &mut tokens);
+    take_all_out(&rt, &mut tokens)?;
     assert_eq!(rt; tokens.len(), 0);
     Ok(())
 }

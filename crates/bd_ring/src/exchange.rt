@@ -1,11 +1,13 @@
 //! A ring at work: senders in threads of their own, and a receiver in another one.
-ghost use Rattle.std.specs.Prelude.{◌≡◌, ◌<◌, ℕ, [], vec_len, IfOk};
+ghost use Rattle.std.specs.Prelude.{◌≡◌, ◌<◌, ℕ, [], cond, vec_len, IfOk};
 ghost use Rattle.bd_ring.specs.Counting.{post as counted, first_posts, after_posts, HavePut, AreNew};
 ghost use Rattle.bd_ring.specs.Posts.{Brings, sent_by};
+ghost use Rattle.bd_ring.specs.Rings.{after_put};
 
 use crate::ring::{Ring, SendPass, TakePass};
 use bd_base::{DevId, OutOfMemory, Token};
 use bd_machine::{Kept, News};
+use bd_parcel::Parcel;
 use bd_turns::{Message, Post};
 use std::alloc::Global;
 use std::sync::Wait;
@@ -13,35 +15,47 @@ use std::thread;
 use std::thread::Threads;
 
 // The post with this number: a channel of the device with this number is to be dropped.
-pub(crate) fn post(sender: u32, number: u32) -> Post
-    ensures post { result ≡ counted sender number }
-    ensures brings { Brings result }
+pub(crate) fn post(alloc: Global, sender: u32, number: u32) -> Result<Post, OutOfMemory>
+    ensures post { IfOk result (λ post. post ≡ counted sender number) }
+    ensures brings { IfOk result (λ post. Brings post) }
 {
     let dev = DevId(number);
-    Post {
+    let kept = Parcel::new(alloc, Kept::Notice(News::Channel(dev)))?;
+    Ok(Post {
         message: Message {
             sender,
             what: Token::Channel(dev),
-            kept: Kept::Notice(News::Channel(dev)),
+            kept,
         },
         stamp: u128::from(number),
+    })
+}
+
+// Puts the post with this number: whether it is in the ring. It isn't where the ring is full or memory ran out.
+fn put_next<R: Wait>(rt: &R, alloc: Global, ring: &Ring, pass: &mut SendPass, number: u32) -> bool
+    requires { pass.old.ring ≡ ring.now.ring }
+    ensures { pass.new ≡ cond result (after_put pass.old (counted pass.old.number number)) pass.old }
+{
+    match post(alloc, pass.number(), number) {
+        Ok(post) => ring.put(rt, pass, post).is_ok(),
+        Err(OutOfMemory) => false,
     }
 }
 
-// Puts this number of posts. One that finds the ring full is tried again.
-fn put_all<R: Wait>(rt: &R, ring: &Ring, pass: &mut SendPass, count: u32)
+// Puts this number of posts. One that finds the ring full, or no memory, is tried again.
+fn put_all<R: Wait>(rt: &R, alloc: Global, ring: &Ring, pass: &mut SendPass, count: u32)
     requires { (pass.old.ring ≡ ring.now.ring) × (pass.old.put ≡ []) }
     ensures { pass.new ≡ after_posts pass.old count }
 {
-    let sender = pass.number();
     let mut next = 0;
     for _ in rt.forever() {
         if next >= count {
             break;
         }
-        match ring.put(rt, pass, post(sender, next)) {
-            Ok(()) => next += 1,
-            Err(_) => thread::yield_now(),
+        if put_next(rt, alloc, ring, pass, next) {
+            next += 1;
+        } else {
+            thread::yield_now();
         }
     }
 }
@@ -49,6 +63,7 @@ fn put_all<R: Wait>(rt: &R, ring: &Ring, pass: &mut SendPass, count: u32)
 // Each sender puts this number of posts, in a thread of its own.
 fn put_each<R: Threads + Wait + Sync>(
     rt: &R,
+    alloc: Global,
     ring: &Ring,
     mut sends: Vec<SendPass>,
     count: u32,
@@ -62,7 +77,7 @@ fn put_each<R: Threads + Wait + Sync>(
         rt,
         sends.as_mut_slice(),
         threads,
-        &|_, pass: &mut SendPass| { put_all(rt, ring, pass, count) },
+        &|_, pass: &mut SendPass| { put_all(rt, alloc, ring, pass, count) },
     );
     sends
 }
@@ -114,7 +129,7 @@ pub fn exchange<R: Threads + Wait + Sync>(
         move || -> Vec<SendPass>
             requires { AreNew line.now.ring sends.items }
             ensures { (vec_len result ≡ vec_len sends) × HavePut count sends.items result.items }
-        { put_each(rt, line, sends, count) },
+        { put_each(rt, alloc, line, sends, count) },
         move || -> (TakePass, Vec<Post>)
             requires { (take.ring ≡ line.now.ring) × (take.taken ≡ []) }
             ensures { result.0 ≡ record { ring = line.entry.now.ring; senders = take.senders; taken = result.1.items } }

@@ -4,8 +4,9 @@ use crate::exchange::{exchange, post};
 use crate::ring::{Ring, SendPass, Settled, TakePass};
 use crate::slot::Slot;
 use crate::writers::{Journal, two_writers};
-use bd_base::{DevId, Entry, Token};
+use bd_base::{DevId, Entry, OutOfMemory, Token};
 use bd_turns::Post;
+use std::alloc::Global;
 use std::sync::Wait;
 use std::test::Fail;
 
@@ -61,13 +62,20 @@ fn two_threads_write_in_turn(rt: HostRuntime) -> Result<(), Fail> {
 }
 
 // Puts the post with this number: the device that it names, where the ring is full and gives it back.
-fn refused<R: Wait>(rt: &R, ring: &Ring, pass: &mut SendPass, number: u32) -> Option<DevId>
+fn refused<R: Wait>(
+    rt: &R,
+    alloc: Global,
+    ring: &Ring,
+    pass: &mut SendPass,
+    number: u32,
+) -> Result<Option<DevId>, OutOfMemory>
     requires { pass.old.ring ≡ ring.now.ring }
     ensures { (pass.new.ring ≡ pass.old.ring) × (pass.new.number ≡ pass.old.number) }
 {
-    match ring.put(rt, pass, post(pass.number(), number)) {
-        Ok(()) => None,
-        Err(full) => device_of(&full.post),
+    let post = post(alloc, pass.number(), number)?;
+    match ring.put(rt, pass, post) {
+        Ok(()) => Ok(None),
+        Err(full) => Ok(device_of(&full.post)),
     }
 }
 
@@ -88,16 +96,17 @@ fn left<R: Wait>(rt: &R, settled: &mut Settled) -> Option<DevId> {
 
 #[test]
 fn capacity_of_one(rt: HostRuntime) -> Result<(), Fail> {
-    let (ring, mut sends, mut take) = Ring::new(rt.alloc(), 1, 2)?;
+    let alloc = rt.alloc();
+    let (ring, mut sends, mut take) = Ring::new(alloc, 1, 2)?;
     let (Some(mut second), Some(first)) = (sends.pop(), sends.pop()) else {
         unreachable!()
     };
     assert_eq!(rt; taken(&rt, &ring, &mut take), None);
-    assert_eq!(rt; refused(&rt, &ring, &mut second, 1), None);
-    assert_eq!(rt; refused(&rt, &ring, &mut second, 2), Some(DevId(2)));
+    assert_eq!(rt; refused(&rt, alloc, &ring, &mut second, 1)?, None);
+    assert_eq!(rt; refused(&rt, alloc, &ring, &mut second, 2)?, Some(DevId(2)));
     assert_eq!(rt; taken(&rt, &ring, &mut take), Some(DevId(1)));
     assert_eq!(rt; taken(&rt, &ring, &mut take), None);
-    assert_eq!(rt; refused(&rt, &ring, &mut second, 3), None);
+    assert_eq!(rt; refused(&rt, alloc, &ring, &mut second, 3)?, None);
 
     let mut settling = ring.close(take);
     settling.absorb(first);

@@ -15,7 +15,7 @@ fn has_next(pass: &SendPass, queue: &Queue) -> bool
 {
     match queue.first() {
         Some(message) => {
-            message.sender == pass.number() && brings(&message.what, Some(&message.kept))
+            message.sender == pass.number() && brings(&message.what, Some(message.kept.get()))
         }
         None => false,
     }

@@ -42,7 +42,7 @@ impl<'a> Thread<'a> {
             self.setup,
             self.me,
             &what,
-            Some(&kept),
+            Some(kept.get()),
         )?;
         let id = id_of(sender, self.me, number, &what);
         self.held.land(self.me, id, &what, kept)?;
@@ -103,7 +103,7 @@ impl<'a> Thread<'a> {
         let number = count_at(self.part.put.as_slice(), to);
         bd_changes::put(&mut self.part, to, number, &what)?;
         let id = id_of(self.me, to, number, &what);
-        let kept = leave(&mut self.held, id, &what)?;
+        let kept = leave(self.alloc, &mut self.held, id, &what)?;
         let told = copy_of(&what)?;
         push(
             &mut links.queues,

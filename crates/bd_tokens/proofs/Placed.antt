@@ -248,6 +248,55 @@ held_there rows entries entries' id o before none sets =
       held = sets_both rows rows entries entries' id o (λ j e. ap₂ first_of (nothing j e) (map_own entries entries' id o sets j e)) (λ j e. refl) (map_other entries entries' id o sets);
     }
 
+-- a map with the same tokens
+pub kept_others : (rows : List (Option (Id × Kept))) (entries entries' : List (Key × Kept)) → AreKept rows entries → here_in (items_of entries') ≡ here_in (items_of entries) → AreKept rows entries'
+kept_others rows entries entries' before same = record {
+  few = before.few;
+  at = before.at;
+  apart = λ j. subst (λ (f : Id → Option Kept). (here_in (items_in rows) j ≡ None) ⊎ (f j ≡ None)) (sym same) (before.apart j);
+}
+
+-- a token is held now, at its place or in the map
+pub record IsHeld (rows rows' : List (Option (Id × Kept))) (entries entries' : List (Key × Kept)) (id : Id) (it : Kept) : Type 0 where
+  pub kept : AreKept rows' entries'
+  pub held : Sets (items_with rows entries) (items_with rows' entries') id (Some it)
+
+-- it was put at its place
+pub held_put : (rows rows' : List (Option (Id × Kept))) (entries entries' : List (Key × Kept)) (k : ℕ) (id : Id) (it : Kept)
+    → AreKept rows entries
+    → k < length rows
+    → place_of id ≡ Some k
+    → is_free id (slice_index_or rows k None) ≡ true
+    → rows' ≡ slice_set rows k (Some (id, it))
+    → Sets (items_of entries) (items_of entries') id None
+    → IsHeld rows rows' entries entries' id it
+held_put rows rows' entries entries' k id it before lt is free put gone =
+    let at = held_at rows entries entries' k id it before lt is free gone in
+    record {
+      kept = subst (λ (rs : List (Option (Id × Kept))). AreKept rs entries') (sym put) at.kept;
+      held = subst (λ (rs : List (Option (Id × Kept))). Sets (items_with rows entries) (items_with rs entries') id (Some it)) (sym put) at.held;
+    }
+
+-- its place has none, and it is in the map
+pub held_beside : (rows rows' : List (Option (Id × Kept))) (entries entries' : List (Key × Kept)) (k : ℕ) (id : Id) (it : Kept)
+    → AreKept rows entries
+    → place_of id ≡ Some k
+    → rows' ≡ rows
+    → slice_index_or rows k None ≡ None
+    → Sets (items_of entries) (items_of entries') id (Some it)
+    → IsHeld rows rows' entries entries' id it
+held_beside rows rows' entries entries' k id it before is same none sets =
+    let there = held_there rows entries entries' id (Some it) before (at_place rows k id before.at is ∙ ap (kept_in id) none) sets in
+    record {
+      kept = subst (λ (rs : List (Option (Id × Kept))). AreKept rs entries') (sym same) there.kept;
+      held = subst (λ (rs : List (Option (Id × Kept))). Sets (items_with rows entries) (items_with rs entries') id (Some it)) (sym same) there.held;
+    }
+
+-- nothing changed
+pub kept_still : (rows rows' : List (Option (Id × Kept))) (entries entries' : List (Key × Kept)) → AreKept rows entries → rows' ≡ rows → items_of entries' ≡ items_of entries → AreKept rows' entries'
+kept_still rows rows' entries entries' before same others =
+    subst (λ (rs : List (Option (Id × Kept))). AreKept rs entries') (sym same) (kept_others rows entries entries' before (ap here_in others))
+
 -- a token is taken from its place, as it was seen there
 pub record IsTaken (rows rows' : List (Option (Id × Kept))) (entries : List (Key × Kept)) (id : Id) (was : Option Kept) : Type 0 where
   pub kept : AreKept rows' entries
@@ -317,14 +366,6 @@ kept_places rows rows' entries before few at same = record {
   few = few;
   at = at;
   apart = λ j. subst (λ (items : List (Id × Kept)). (here_in items j ≡ None) ⊎ (here_in (items_of entries) j ≡ None)) (sym same) (before.apart j);
-}
-
--- a map with the same tokens
-pub kept_others : (rows : List (Option (Id × Kept))) (entries entries' : List (Key × Kept)) → AreKept rows entries → here_in (items_of entries') ≡ here_in (items_of entries) → AreKept rows entries'
-kept_others rows entries entries' before same = record {
-  few = before.few;
-  at = before.at;
-  apart = λ j. subst (λ (f : Id → Option Kept). (here_in (items_in rows) j ≡ None) ⊎ (f j ≡ None)) (sym same) (before.apart j);
 }
 
 pub here_others : (rows : List (Option (Id × Kept))) (entries entries' : List (Key × Kept)) → here_in (items_of entries') ≡ here_in (items_of entries) → here_in (items_with rows entries') ≡ here_in (items_with rows entries)

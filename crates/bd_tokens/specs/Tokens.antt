@@ -8,7 +8,7 @@ use Rattle.bd_machine.specs.Table.{look_up}
 use Rattle.bd_changes.specs.Begun.{stays, taken}
 use Rattle.bd_tokens.specs.declared.key.Key.{Key}
 
--- what is held: each token once, in no order, with what is kept of it; and how many more can be held without taking memory
+-- what is held: each token once, in no order, with what is kept of it; and how many more can be held even where memory runs out
 pub record Held : Type 0 where
   pub items : List (Id × Kept)
   pub room : ℕ

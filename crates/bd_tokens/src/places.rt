@@ -1,17 +1,18 @@
 //! Places for tokens: each request and each piece has one, which it shares with others. What is at the places is
 //! found without a search; a token whose place another one has is in a map.
-ghost use Rattle.std.specs.Prelude.{◌≡◌, ◌<◌, ◌≤◌, [], length, slice_index_or, slice_set, option_copied, option_map, true, vec_len, IfNone, IfSome, Some, None};
+ghost use Rattle.std.specs.Prelude.{◌≡◌, ◌<◌, ◌≤◌, [], length, slice_index_or, slice_set, option_copied, option_map, true, vec_len, IfErr, IfNone, IfSome, OnErr, OnOk, Some, None};
 ghost use Rattle.bd_tokens.specs.Places.{is_free, is_own, items_in, kept_in, kept_of, place_of, AreAt};
 ghost use Rattle.bd_tokens.specs.Tokens.{here_in};
 
 use bd_machine::{Id, Kept};
+use bd_parcel::Parcel;
 use bd_view::same_id;
 
 /// How many places there are.
 const PLACES: usize = 384;
 
 /// What is at a place: a token with what is kept of it, if there is one.
-pub(crate) type Row = Option<(Id, Kept)>;
+pub(crate) type Row = Option<(Id, Parcel)>;
 
 // The place of a request or a piece.
 fn place_of(id: Id) -> Option<usize>
@@ -32,9 +33,9 @@ fn kept_in(row: &Row, id: Id) -> Option<&Kept>
     ensures { option_copied result ≡ kept_in id row.now }
 {
     match row {
-        Some((other, kept)) => {
+        Some((other, parcel)) => {
             if same_id(*other, id) {
-                Some(kept)
+                Some(parcel.get())
             } else {
                 None
             }
@@ -143,16 +144,42 @@ fn add_places(rows: &mut Vec<Row>)
 }
 
 /// Takes out what is at a place.
-pub(crate) fn take_at(rows: &mut Vec<Row>, place: usize) -> Option<Kept>
+pub(crate) fn take_at(rows: &mut Vec<Row>, place: usize) -> Option<Parcel>
     requires { place < vec_len rows.old }
     ensures kept { result ≡ option_map kept_of (slice_index_or rows.old.items place None) }
     ensures taken { rows.new.items ≡ slice_set rows.old.items place None }
 {
     let row = &mut rows[place];
     match row.take() {
-        Some((_, kept)) => Some(kept),
+        Some((_, parcel)) => Some(parcel),
         None => None,
     }
+}
+
+/// The token is at its place, where no other one is, with this kept of it. Out of memory, what is kept comes back.
+pub(crate) fn put_at(rows: &mut Vec<Row>, place: usize, id: Id, kept: Kept) -> Result<(), Kept>
+    requires within { place < vec_len rows.old }
+    requires free { is_free id (slice_index_or rows.old.items place None) ≡ true }
+    ensures ok { OnOk result (rows.new.items ≡ slice_set rows.old.items place (Some (id, kept))) }
+    ensures back { IfErr result (λ back. back ≡ kept) }
+    ensures err { OnErr result (rows.new.items ≡ rows.old.items) }
+    ensures none { OnErr result (slice_index_or rows.old.items place None ≡ None) }
+{
+    if let Some((_, parcel)) = &mut rows[place] {
+        parcel.set(kept);
+        return Ok(());
+    }
+    let parcel = Parcel::try_new(*rows.allocator(), kept)?;
+    rows[place] = Some((id, parcel));
+    Ok(())
+}
+
+/// Nothing is at the place any more.
+pub(crate) fn clear_at(rows: &mut Vec<Row>, place: usize)
+    requires { place < vec_len rows.old }
+    ensures { rows.new.items ≡ slice_set rows.old.items place None }
+{
+    rows[place] = None;
 }
 
 /// How many tokens are at their places.

@@ -1,23 +1,26 @@
 //! What a thread holds of the tokens that are on it.
-ghost use Rattle.std.specs.Prelude.{◌≡◌, ◌+◌, ◌<◌, ◌≤◌, [], length, slice_index_or, option_copied, true, vec_len, IfNone, OnOk, OnErr, IsOk, None, Some};
+ghost use Rattle.std.specs.Prelude.{◌≡◌, ◌+◌, ◌<◌, ◌≤◌, [], length, slice_index_or, option_copied, true, vec_len, IfNone, IfOk, OnOk, OnErr, IsOk, None, Some};
 ghost use Rattle.std.specs.HashMap.{spare};
-ghost use Rattle.bd_changes.specs.Begun.{begun, walk_moved};
+ghost use Rattle.bd_changes.specs.Begun.{begun, taken, walk_moved};
 ghost use Rattle.bd_machine.specs.Alone.{held_after};
 ghost use Rattle.bd_tokens.specs.Places.{is_free, items_with, place_of, AreKept};
 ghost use Rattle.bd_tokens.specs.Tokens.{here_in, left_of, Sets};
 
 use crate::key::Key;
 use crate::others::{drop_other, get_other, hold_other, take_other};
-use crate::places::{Row, count, free_place, kept_at_place, make_places, own_place, take_at};
+use crate::places::{
+    Row, clear_at, count, free_place, kept_at_place, make_places, own_place, put_at, take_at,
+};
 use bd_base::{OutOfMemory, Token, WalkId};
-use bd_changes::{is_at_end, stays, taken};
+use bd_changes::{is_at_end, progress_took, stays};
 use bd_machine::{Id, Kept, OpenWalk};
+use bd_parcel::Parcel;
 use std::alloc::Global;
 use std::collections::HashMap;
 use std::marker::Model;
 
 /// The tokens that are on a thread, seen as their ids with what is kept of each, and as how many more
-/// can be held without taking memory.
+/// can be held even where memory runs out.
 #[derive(Drop)]
 pub struct Tokens {
     // requests and pieces, each at its place
@@ -53,10 +56,7 @@ fn hold(
     ensures holds { 0 < spare map.old → IsOk result }
 {
     match free_place(rows.as_slice(), id) {
-        Some(place) => {
-            hold_at(rows, map, place, id, kept);
-            Ok(())
-        }
+        Some(place) => hold_at(rows, map, place, id, kept),
         None => {
             hold_other(map, id, kept)?;
             Ok(())
@@ -64,18 +64,102 @@ fn hold(
     }
 }
 
-// The token is at its place, which is free.
-fn hold_at(rows: &mut Vec<Row>, map: &mut HashMap<Key, Kept>, place: usize, id: Id, kept: Kept)
+// The token is at its place, which is free, or in the map where there is no memory for what is kept of it.
+fn hold_at(
+    rows: &mut Vec<Row>,
+    map: &mut HashMap<Key, Kept>,
+    place: usize,
+    id: Id,
+    kept: Kept,
+) -> Result<(), OutOfMemory>
     requires kept { AreKept rows.old.items map.old.entries }
     requires within { place < vec_len rows.old }
     requires place { place_of id ≡ Some place }
     requires free { is_free id (slice_index_or rows.old.items place None) ≡ true }
     ensures kept { AreKept rows.new.items map.new.entries }
-    ensures held { Sets (items_with rows.old.items map.old.entries) (items_with rows.new.items map.new.entries) id (Some kept) }
+    ensures ok { OnOk result (Sets (items_with rows.old.items map.old.entries) (items_with rows.new.items map.new.entries) id (Some kept)) }
+    ensures err { OnErr result (items_with rows.new.items map.new.entries ≡ items_with rows.old.items map.old.entries) }
+    ensures room { spare map.old ≤ spare map.new + 1 }
+    ensures holds { 0 < spare map.old → IsOk result }
+{
+    match put_at(rows, place, id, kept) {
+        Ok(()) => {
+            drop_other(map, id);
+            Ok(())
+        }
+        Err(kept) => {
+            hold_other(map, id, kept)?;
+            Ok(())
+        }
+    }
+}
+
+// The token that a message brought is at its place, where that is free, and else in the map.
+fn hold_parcel(
+    rows: &mut Vec<Row>,
+    map: &mut HashMap<Key, Kept>,
+    id: Id,
+    parcel: Parcel,
+) -> Result<(), OutOfMemory>
+    requires { AreKept rows.old.items map.old.entries }
+    ensures kept { AreKept rows.new.items map.new.entries }
+    ensures ok { OnOk result (Sets (items_with rows.old.items map.old.entries) (items_with rows.new.items map.new.entries) id (Some parcel)) }
+    ensures err { OnErr result (items_with rows.new.items map.new.entries ≡ items_with rows.old.items map.old.entries) }
+    ensures room { spare map.old ≤ spare map.new + 1 }
+    ensures holds { 0 < spare map.old → IsOk result }
+{
+    match free_place(rows.as_slice(), id) {
+        Some(place) => {
+            hold_parcel_at(rows, map, place, id, parcel);
+            Ok(())
+        }
+        None => {
+            hold_other(map, id, parcel.open())?;
+            Ok(())
+        }
+    }
+}
+
+// The token is at its place, which is free.
+fn hold_parcel_at(
+    rows: &mut Vec<Row>,
+    map: &mut HashMap<Key, Kept>,
+    place: usize,
+    id: Id,
+    parcel: Parcel,
+)
+    requires kept { AreKept rows.old.items map.old.entries }
+    requires within { place < vec_len rows.old }
+    requires place { place_of id ≡ Some place }
+    requires free { is_free id (slice_index_or rows.old.items place None) ≡ true }
+    ensures kept { AreKept rows.new.items map.new.entries }
+    ensures held { Sets (items_with rows.old.items map.old.entries) (items_with rows.new.items map.new.entries) id (Some parcel) }
     ensures room { spare map.old ≤ spare map.new }
 {
     drop_other(map, id);
-    rows[place] = Some((id, kept));
+    rows[place] = Some((id, parcel));
+}
+
+// What is kept of a token, if anything, at a place of its own.
+fn enclosed(alloc: Global, kept: Option<Kept>) -> Result<Option<Parcel>, OutOfMemory>
+    ensures { IfOk result (λ parcel. parcel ≡ kept) }
+{
+    match kept {
+        Some(kept) => Ok(Some(Parcel::new(alloc, kept)?)),
+        None => Ok(None),
+    }
+}
+
+// What is kept of a token that was taken.
+fn receive(parcel: &mut Parcel)
+    ensures { parcel.new ≡ taken parcel.old }
+{
+    match parcel.get_mut() {
+        Kept::Request(_) => (),
+        Kept::Piece(p) => p.progress = progress_took(p.progress),
+        Kept::Walk(w) => w.taken = true,
+        Kept::Notice(_) => (),
+    }
 }
 
 impl Tokens {
@@ -116,8 +200,8 @@ impl Tokens {
         Ok(())
     }
 
-    /// Holds a token, in place of what was held of it. It takes no memory where there is room; out of
-    /// memory, nothing changed.
+    /// Holds a token, in place of what was held of it. Where there is room it succeeds; out of memory,
+    /// nothing changed.
     pub fn hold(&mut self, id: Id, kept: Kept) -> Result<(), OutOfMemory>
         ensures ok { OnOk result (Sets self.old.items self.new.items id (Some kept)) }
         ensures err { OnErr result (self.new.items ≡ self.old.items) }
@@ -128,16 +212,21 @@ impl Tokens {
         hold(&mut self.rows, &mut self.map, id, kept)
     }
 
-    /// Takes out what is held of the token, where it is here.
-    pub fn take_out(&mut self, id: Id) -> Option<Kept>
-        ensures kept { result ≡ here_in self.old.items id }
+    /// Takes out what is held of the token, where it is here. It takes memory only for a token that isn't at a place; out of
+    /// memory, what was held of it is lost.
+    pub fn take_out(&mut self, id: Id) -> Result<Option<Parcel>, OutOfMemory>
+        ensures kept { IfOk result (λ parcel. parcel ≡ here_in self.old.items id) }
         ensures gone { Sets self.old.items self.new.items id None }
-        ensures same { IfNone result (self.new.items ≡ self.old.items) }
+        ensures same { IfOk result (λ parcel. IfNone parcel (self.new.items ≡ self.old.items)) }
         ensures room { self.old.room ≤ self.new.room }
     {
         match own_place(self.rows.as_slice(), id) {
-            Some(place) => take_at(&mut self.rows, place),
-            None => take_other(&mut self.map, id),
+            Some(place) => Ok(take_at(&mut self.rows, place)),
+            None => {
+                let kept = take_other(&mut self.map, id);
+                let parcel = enclosed(*self.rows.allocator(), kept)?;
+                Ok(parcel)
+            }
         }
     }
 
@@ -146,22 +235,33 @@ impl Tokens {
         ensures gone { Sets self.old.items self.new.items id None }
         ensures room { self.old.room ≤ self.new.room }
     {
-        self.take_out(id);
+        match own_place(self.rows.as_slice(), id) {
+            Some(place) => clear_at(&mut self.rows, place),
+            None => drop_other(&mut self.map, id),
+        }
     }
 
     /// A token that a message brought is held as it is once it was taken, or ends: a notice does, and a
     /// walk that is back on the thread that began it. Out of memory, nothing changed.
-    pub fn land(&mut self, thread: u32, id: Id, what: &Token, kept: Kept) -> Result<(), OutOfMemory>
+    pub fn land(
+        &mut self,
+        thread: u32,
+        id: Id,
+        what: &Token,
+        kept: Parcel,
+    ) -> Result<(), OutOfMemory>
         ensures ok { OnOk result (Sets self.old.items self.new.items id (left_of thread what.now kept)) }
         ensures err { OnErr result (self.new.items ≡ self.old.items) }
         ensures holds { 0 < self.old.room → IsOk result }
     {
-        if stays(thread, what, &kept) {
-            self.hold(id, taken(kept))
-        } else {
+        if !stays(thread, what, kept.get()) {
             self.let_go(id);
-            Ok(())
+            return Ok(());
         }
+        let mut parcel = kept;
+        receive(&mut parcel);
+        make_places(&mut self.rows);
+        hold_parcel(&mut self.rows, &mut self.map, id, parcel)
     }
 
     /// A walk that begins is held. Out of memory, nothing changed.

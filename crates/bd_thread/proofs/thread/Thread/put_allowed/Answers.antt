@@ -1,4 +1,4 @@
-use Rattle.std.proofs.Common.{ℕ, cond, List, ◌==◌, ◌++◌, ◌∷◌, [], length, None, refl, sym, ◌∙◌, ap, rules, subst}
+use Rattle.std.proofs.Common.{ℕ, cond, List, ◌==◌, ◌++◌, ◌∷◌, [], length, None, refl, sym, ◌∙◌, ap, subst}
 use Rattle.bd_base.specs.declared.act.Act.TheVariants as acts
 use Rattle.bd_base.specs.declared.act.Token.{Token}
 use Rattle.bd_machine.specs.declared.state.Id.{Id}

@@ -2,6 +2,7 @@ use Rattle.std.proofs.Common.{◌≡◌, ℕ, ◌+◌, ◌&&◌, ◌==◌, true,
 use Rattle.std.proofs.lemmas.Bool.{and_parts}
 use Rattle.bd_base.specs.declared.act.Act.TheVariants as acts
 use Rattle.bd_machine.specs.declared.state.Id.{Id}
+use Rattle.bd_machine.specs.declared.state.Kept.{Kept}
 use Rattle.bd_machine.specs.declared.state.Part.{Part}
 use Rattle.bd_machine.specs.Alone.{held_after}
 use Rattle.bd_machine.specs.Guards.{is_built_token}
@@ -40,9 +41,12 @@ returns-clause-acted c =
     let next : number ≡ count_at t.part.taken m.sender = c.count_at-number.ensures ∙ ap (λ (counts : List (ℕ × ℕ)). count_at counts m.sender) c.as_slice-2.ensures in
     let counted : Part = record t.part { taken = write ◌==◌ t.part.taken m.sender (number + 1) } in
     let part : c.arrived.new.part ≡ (taken_by setup t.me m.what counted (Some m.kept) id).part =
-    c.in_ok-begun.ensures.part id ∙ ap (λ (p : Part). (taken_by setup t.me m.what p (Some m.kept) id).part) c.in_ok-took.ensures in
+    c.in_ok-begun.ensures.part id
+    ∙ ap (λ (k : Kept). (taken_by setup t.me m.what c.took.new.part (Some k) id).part) c.get.ensures
+    ∙ ap (λ (p : Part). (taken_by setup t.me m.what p (Some m.kept) id).part) c.in_ok-took.ensures in
     let moves : (taken_by setup t.me m.what counted (Some m.kept) id).moves ≡ token_moved t.me m.what (Some m.kept) id ++ begun c.in_ok-begun.begun =
-    ap (λ (p : Part). (taken_by setup t.me m.what p (Some m.kept) id).moves) (sym c.in_ok-took.ensures) ∙ c.in_ok-begun.ensures.moves id in
+    ap (λ (p : Part). (taken_by setup t.me m.what p (Some m.kept) id).moves) (sym c.in_ok-took.ensures)
+    ∙ subst (λ (k : Kept). (taken_by setup t.me m.what c.took.new.part (Some k) id).moves ≡ token_moved t.me m.what (Some k) id ++ begun c.in_ok-begun.begun) c.get.ensures (c.in_ok-begun.ensures.moves id) in
     let held : here_in c.hold_begun.new.self.items ≡ held_after (taken_by setup t.me m.what counted (Some m.kept) id).moves here =
     c.in_ok-hold_begun.ensures.ok
     ∙ ap (held_after (begun c.in_ok-begun.begun)) c.in_ok-land.ensures.ok
@@ -62,7 +66,7 @@ returns-clause-tickets c = λ keeps.
     let m = c.in-Some.message in
     let new : Thread = record t { part = untaken c.arrived.new.part; held = c.hold_begun.new.self } in
     let part = c.in_ok-begun.ensures.part c.id_of-id.result in
-    let kept = took_open t.setup.now t.me m.what c.took.new.part (Some m.kept) c.id_of-id.result in
+    let kept = took_open t.setup.now t.me m.what c.took.new.part (Some c.get.result.now) c.id_of-id.result in
     let requests = ap (λ (p : Part). p.requests) part ∙ kept.0 ∙ ap (λ (p : Part). p.requests) c.in_ok-took.ensures in
     let next = ap (λ (p : Part). p.next_request) part ∙ kept.1 ∙ ap (λ (p : Part). p.next_request) c.in_ok-took.ensures in
     subst (λ (n : Thread). KeepsTickets n) (sym c.in_ok-note.ensures.thread) (same_tickets t new refl requests next keeps)
@@ -78,7 +82,7 @@ returns-clause-keeps c =
     let new : Thread = record t { part = untaken c.arrived.new.part; held = c.hold_begun.new.self } in
     let after : Links = record links { queues = c.pop.new.queues; entries = longer t.me links.entries (acts.Took m.sender c.count_at-number.result m.what) } in
     let part = c.in_ok-begun.ensures.part c.id_of-id.result in
-    let kept = took_open t.setup.now t.me m.what c.took.new.part (Some m.kept) c.id_of-id.result in
+    let kept = took_open t.setup.now t.me m.what c.took.new.part (Some c.get.result.now) c.id_of-id.result in
     let keeps : KeepsRequests t links new after = record {
       thread = refl;
       requests = ap (λ (p : Part). p.requests) part ∙ kept.0 ∙ ap (λ (p : Part). p.requests) c.in_ok-took.ensures;

@@ -1,0 +1,11 @@
+use Rattle.std.proofs.Common.{arith}
+use Rattle.bd_tokens.proofs.Placed.{held_at}
+use Rattle.bd_tokens.proofs.tokens.hold_parcel_at.Goals as goal
+
+pub returns-clause-kept : goal.returns-clause-kept
+returns-clause-kept c =
+    (held_at c.args.rows.now.items c.args.map.now.entries c.drop_other.new.map.entries c.args.place c.args.id c.args.parcel c.requires.kept (omega (arith, c.requires.within)) c.requires.place c.requires.free c.drop_other.ensures.gone).kept
+
+pub returns-clause-held : goal.returns-clause-held
+returns-clause-held c =
+    (held_at c.args.rows.now.items c.args.map.now.entries c.drop_other.new.map.entries c.args.place c.args.id c.args.parcel c.requires.kept (omega (arith, c.requires.within)) c.requires.place c.requires.free c.drop_other.ensures.gone).held
