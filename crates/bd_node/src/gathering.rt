@@ -34,8 +34,7 @@ fn count_left<'a, D>(seats: &[Seat<'a, D>]) -> Option<usize>
     Some(total)
 }
 
-// What is in the logs of all seats, in their order; they all meet this stamp. It takes no memory: there is room
-// for the parts.
+// What is in the logs of all seats, in their order; they all meet this stamp. There is room for the parts.
 fn hand_out_all<'a, D>(seats: &mut [Seat<'a, D>], stamp: u128, parts: &mut Vec<LogPart>)
     requires below { All (λ s. s.worker.log.last ≤ stamp) seats.old }
     requires room { vec_len parts.old + length seats.old ≤ vec_capacity parts.old }

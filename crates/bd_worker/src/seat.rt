@@ -12,6 +12,7 @@ use bd_wires::Passes;
 /// A thread of a setup with all that it has.
 pub struct Seat<'a, D> {
     pub worker: Worker<'a>,
+    /// Its passes for the rings and for the registry's slot.
     pub passes: Passes,
     /// How many rows of the registry's journal it saw.
     pub seen: usize,
@@ -47,14 +48,17 @@ impl<'a, D> Seat<'a, D> {
         passes
     }
 
-    /// What is in its log, which meets this stamp, so that all that comes later is above it. The log is empty then. It
-    /// takes no memory.
+    /// What is in its log, which meets this stamp, so that all that comes later is above it. The log is empty then, with
+    /// room for as many entries, where there is memory for them: else it takes memory as it is filled.
     pub fn hand_out(&mut self, stamp: u128) -> LogPart
         requires { self.old.worker.log.last ≤ stamp }
         ensures handed { result ≡ log_part self.old.worker.log }
         ensures out { IsHandedOut stamp self.old self.new }
     {
         self.worker.log.meet(stamp);
-        self.worker.log.hand_out()
+        let part = self.worker.log.hand_out();
+        let room = u32::try_from(part.len()).unwrap_or(0);
+        let _reserved = self.worker.log.reserve(room);
+        part
     }
 }
