@@ -65,20 +65,20 @@ pub enum Act {
     },
     /// A request was accepted: its range is in blocks of the handle's device.
     Accept {
-        req: ReqId,
         dev: DevId,
-        handle: HandleId,
-        op: Op,
         lba: u64,
+        handle: HandleId,
+        req: ReqId,
+        op: Op,
         count: u64,
     },
     /// A submission was refused; a name that is not bound gives no handle.
     Refuse {
+        errno: Errno,
+        lba: u64,
         handle: Option<HandleId>,
         op: Op,
-        lba: u64,
         count: u64,
-        errno: Errno,
     },
     /// A request took this decision of an error device.
     Inject {

@@ -37,20 +37,4 @@ impl<T> Boxed<T> {
     {
         &self.place
     }
-
-    /// The value, out of its place.
-    pub fn into_value(self) -> T
-        ensures { result ≡ self }
-    {
-        Box::into_inner(self.place)
-    }
-}
-
-impl<T: Drop> Boxed<T> {
-    /// Another value, at the same place.
-    pub fn set(&mut self, value: T)
-        ensures { self.new ≡ value }
-    {
-        *self.place = value;
-    }
 }

@@ -240,7 +240,7 @@ module _ (reset : ReqId) where
 
   -- what is accepted under the reset's id is a reset
   abbrev pub AcceptsReset : Act → Type 0
-  AcceptsReset (acts.Accept req dev handle op lba count) = req ≡ reset → is_reset op ≡ true
+  AcceptsReset (acts.Accept dev lba handle req op count) = req ≡ reset → is_reset op ≡ true
   AcceptsReset _ = Unit {0}
 
   module _ (setup : Setup) (t : ℕ) (v : View) (came : Came) where
@@ -305,7 +305,7 @@ module _ (reset : ReqId) where
         cut_bare req n (Some r) e h = ((λ o. absurd (no_range r.op (here req r e o).0 (h r refl))), made_bare setup req r 0 (extents_of setup r))
 
         go : (act : Act) → ((source number : ℕ) (kept : Kept) → act ≡ acts.Took source number (tokens.Request reset) → came.message ≡ Some kept → KeptBare kept) → AcceptsReset act → Passes (guards setup t v act came) → BareMoves (change setup t v act came).moves
-        go (acts.Accept req dev handle op lba count) m a h = ((λ o. (a o, refl, refl, refl)), tt)
+        go (acts.Accept dev lba handle req op count) m a h = ((λ o. (a o, refl, refl, refl)), tt)
         go (acts.Put to number (tokens.Request req)) m a h = put_bare to number req (v.here (Request req)) (kept_here req)
         go (acts.Put to number (tokens.Piece req k)) m a h = piece_bare to number req k (v.here (Piece req k))
         go (acts.Put to number (tokens.Walk walk)) m a h = walk_bare to number walk (v.here (Walk walk))

@@ -271,7 +271,7 @@ module _ (setup : Setup) (t : ℕ) (d : DevId) where
     moves_old v act came h = go act h.brought h.begins
       where
         go : (act : Act) → ((source number : ℕ) (what : Token) (kept : Kept) → act ≡ acts.Took source number what → came.message ≡ Some kept → OnlyIf kept (Old (id_of source u number what))) → BeginsOld act v came → AreOld (change setup u v act came).moves
-        go (acts.Accept req dev handle op lba count) b x = (tt, tt)
+        go (acts.Accept dev lba handle req op count) b x = (tt, tt)
         go (acts.Put to number (tokens.Request req)) b x = put_old to number (Request req) (v.here (Request req)) (h.here (Request req))
         go (acts.Put to number (tokens.Piece req k)) b x = put_old to number (Piece req k) (v.here (Piece req k)) (h.here (Piece req k))
         go (acts.Put to number (tokens.Walk walk)) b x = put_old to number (Walk walk) (v.here (Walk walk)) (h.here (Walk walk))

@@ -714,8 +714,8 @@ module _ (reset : ReqId) (D : DevId → Type 0) (busy : ℕ → Bool) where
           go what h = record { rows = k.rows; due = due_left to (news_of what) v.part.due k.due; moves = news_fine v.part to number (Notice t to number) (news_of what) h k.due }
       act_fine (acts.Took source number what) k = taken_fine setup what (taken_before v.part source number) came.message (id_of source t number what) k.rows k.due k.begun k.brought k.owns
       act_fine (acts.Reg event a) k = reg_fine event a k
-      act_fine (acts.Accept req d handle op lba count) k = record { rows = k.rows; due = k.due; moves = (tt, tt) }
-      act_fine (acts.Refuse handle op lba count errno) k = record { rows = k.rows; due = k.due; moves = tt }
+      act_fine (acts.Accept d lba handle req op count) k = record { rows = k.rows; due = k.due; moves = (tt, tt) }
+      act_fine (acts.Refuse errno lba handle op count) k = record { rows = k.rows; due = k.due; moves = tt }
       act_fine (acts.Inject req d decision) k = record { rows = k.rows; due = k.due; moves = edited_fine req (injected decision) (request_here v req) }
       act_fine (acts.Pend req) k = record { rows = k.rows; due = k.due; moves = edited_fine req pended (request_here v req) }
       act_fine (acts.Let req d now) k = record { rows = k.rows; due = k.due; moves = edited_fine req let_pass (request_here v req) }

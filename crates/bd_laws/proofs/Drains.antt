@@ -70,7 +70,7 @@ module _ (setup : Setup) (told : Told) (reset : ReqId) (dev : DevId) (before : L
   accept_is = go accept.act c.accepts
     where
       go : (act : Act) → is_reset_accept reset dev act ≡ true → is_accept_of reset act ≡ true
-      go (acts.Accept req d handle op lba count) h = (and_parts (same_request req reset) (same_dev d dev) (and_parts (same_request req reset && same_dev d dev) (is_reset op) h).0).0
+      go (acts.Accept d lba handle req op count) h = (and_parts (same_request req reset) (same_dev d dev) (and_parts (same_request req reset && same_dev d dev) (is_reset op) h).0).0
       go _ h = cc
 
   count_most : (is : Act → Bool) → count_of is (before ++ accept ∷ between) ≡ count_of is before + (one_if (is accept.act) + count_of is between)
@@ -140,17 +140,17 @@ module _ (setup : Setup) (told : Told) (reset : ReqId) (dev : DevId) (before : L
 
     -- the entry that accepts the reset
     accepts_dev : (act : Act) → is_reset_accept reset dev act ≡ true → Accepting reset (There dev) act × AcceptsReset reset act
-    accepts_dev (acts.Accept req d handle op lba count) h =
+    accepts_dev (acts.Accept d lba handle req op count) h =
         let p = and_parts (same_request req reset && same_dev d dev) (is_reset op) h in
         ((λ o. dev_exact d dev (and_parts (same_request req reset) (same_dev d dev) p.0).1), (λ o. p.1))
     accepts_dev _ h = cc
 
     not_named : (act : Act) → is_reset_accept reset dev act ≡ true → (busy : ℕ → Bool) → Named reset (There dev) busy act
-    not_named (acts.Accept req d handle op lba count) h busy = tt
+    not_named (acts.Accept d lba handle req op count) h busy = tt
     not_named _ h busy = cc
 
     not_completing : (act : Act) → is_reset_accept reset dev act ≡ true → Completes reset act → ⊥
-    not_completing (acts.Accept req d handle op lba count) h o = o
+    not_completing (acts.Accept d lba handle req op count) h o = o
     not_completing _ h o = cc
 
     pub held2 : Held reset (There dev) (busy_in setup dev before at (after setup (after_all setup (start setup told) before) accept)) (after setup (after_all setup (start setup told) before) accept)
@@ -196,7 +196,7 @@ module _ (setup : Setup) (told : Told) (reset : ReqId) (dev : DevId) (before : L
         above (e ∷ es) = more (is_accept_above setup dev r e.act) (is_accept_of r e.act) (λ h. accept_of e.act h) (above es)
           where
             accept_of : (act : Act) → is_accept_above setup dev r act ≡ true → is_accept_of r act ≡ true
-            accept_of (acts.Accept req d handle op lba count) h = (and_parts (same_request req r) (not (is_reset op)) (and_parts (same_request req r && not (is_reset op)) (is_below setup d dev) h).0).0
+            accept_of (acts.Accept d lba handle req op count) h = (and_parts (same_request req r) (not (is_reset op)) (and_parts (same_request req r && not (is_reset op)) (is_below setup d dev) h).0).0
             accept_of _ h = cc
 
             more : (a b : Bool) {n m : ℕ} → (a ≡ true → b ≡ true) → n ≤ m → one_if a + n ≤ one_if b + m

@@ -270,7 +270,7 @@ reg_holds setup t v came (events.Destructed dev) a =
 
 -- the open requests after an act
 abbrev pub requests_after : Act → List Open → List Open
-requests_after (acts.Accept req dev handle op lba count) rows = rows ++ record { id = req; handle = handle; dev = dev; op = op } ∷ []
+requests_after (acts.Accept dev lba handle req op count) rows = rows ++ record { id = req; handle = handle; dev = dev; op = op } ∷ []
 requests_after (acts.Complete req status shown) rows = filter (λ r. not (same_request r.id req)) rows
 requests_after _ rows = rows
 

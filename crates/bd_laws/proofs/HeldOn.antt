@@ -41,14 +41,14 @@ registry_is setup s e = refl
 
 -- what an Accept of the reset says of its device
 abbrev pub Accepting : ReqId → (DevId → Type 0) → Act → Type 0
-Accepting reset D (acts.Accept req d handle op lba count) = req ≡ reset → D d
+Accepting reset D (acts.Accept d lba handle req op count) = req ≡ reset → D d
 Accepting reset D _ = Unit {0}
 
 own_after : (setup : Setup) (reset : ReqId) (D : DevId → Type 0) (t : ℕ) (v : View) (act : Act) (came : Came) → Passes (guards setup t v act came) → Accepting reset D act → (rows : List Open) → OwnFine reset D t rows → OwnFine reset D t (requests_after act rows)
-own_after setup reset D t v (acts.Accept req d handle op lba count) came h accepting rows own = push rows own
+own_after setup reset D t v (acts.Accept d lba handle req op count) came h accepting rows own = push rows own
   where
     at : req.thread ≡ t
-    at = (new_id t v req (passed (guards setup t v (acts.Accept req d handle op lba count) came) h).1.1.0).0
+    at = (new_id t v req (passed (guards setup t v (acts.Accept d lba handle req op count) came) h).1.1.0).0
 
     push : (rows : List Open) → OwnFine reset D t rows → OwnFine reset D t (rows ++ record { id = req; handle = handle; dev = d; op = op } ∷ [])
     push [] own = ((at, accepting), tt)

@@ -112,11 +112,11 @@ asked_in setup s t act f h = record {
 
 -- a request that is accepted isn't there yet
 told_before : (setup : Setup) (s : State) (t : ℕ) (act : Act) (f : ReqId → Option Accepted) → IsFresh s → Passes (guards_in setup s t act) → AreTold s.tokens f → AreTold s.tokens (requests_by act f)
-told_before setup s t (acts.Accept req dev handle op lba count) f fresh h told = λ r. go r (same_request req r) refl
+told_before setup s t (acts.Accept dev lba handle req op count) f fresh h told = λ r. go r (same_request req r) refl
   where
     none : look_up same_id s.tokens (Request req) ≡ None
     none =
-        let p = new_id t (view s t) req (passed (guards_in setup s t (acts.Accept req dev handle op lba count)) h).1.1.0 in
+        let p = new_id t (view s t) req (passed (guards_in setup s t (acts.Accept dev lba handle req op count)) h).1.1.0 in
         fresh.requests req (subst (λ (u : ℕ). (part_of s u).next_request ≤ req.seq) (sym p.0) p.1)
 
     go : (r : ReqId) (b : Bool) → same_request req r ≡ b → AsTold (look_up same_id s.tokens (Request r)) (cond b (Some (record { dev = dev; op = op; count = count })) (f r))

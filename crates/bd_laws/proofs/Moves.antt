@@ -218,7 +218,7 @@ moves_alike f setup t v act came h = go act h.brought
     asked req r e = h.here req (keeps.Request r) (request_is (v.here (Request req)) r e)
 
     go : (act : Act) → ((source number : ℕ) (req : ReqId) (kept : Kept) → act ≡ acts.Took source number (tokens.Request req) → came.message ≡ Some kept → asked_of kept ≡ f req) → AreAlike (requests_by act f) (change setup t v act came).moves
-    go (acts.Accept req dev handle op lba count) b =
+    go (acts.Accept dev lba handle req op count) b =
         let new : Option Accepted = Some (record { dev = dev; op = op; count = count }) in
         (sym (ap (λ c. cond c new (f req)) (request_same.same_self req)), tt)
     go (acts.Put to number (tokens.Request req)) b = put_alike f to number req (v.here (Request req)) (h.here req)

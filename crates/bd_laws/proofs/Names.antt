@@ -445,8 +445,8 @@ module _ (setup : Setup) (t : ℕ) where
       tame_then v.part (taken_before v.part source number) _ (tame_same _ _ refl refl refl)
       (tame_then (taken_before v.part source number) (taken_by setup t what (taken_before v.part source number) came.message (id_of source t number what)).part _ (taken_tame t what (taken_before v.part source number) came.message (id_of source t number what)) (tame_same _ _ refl refl refl))
   act_tame v (acts.Reg event x) came a n = tame_then v.part (change_reg setup t v came event x).part _ (reg_tame v came event x a) (tame_same _ _ refl refl refl)
-  act_tame v (acts.Accept req dev handle op lba count) came a n = record { fine = λ f. (f.0, tt, f.2); puts_less = λ d. le_refl (puts v.part d) }
-  act_tame v (acts.Refuse handle op lba count errno) came a n = record { fine = λ f. (f.0, tt, f.2); puts_less = λ d. le_refl (puts v.part d) }
+  act_tame v (acts.Accept dev lba handle req op count) came a n = record { fine = λ f. (f.0, tt, f.2); puts_less = λ d. le_refl (puts v.part d) }
+  act_tame v (acts.Refuse errno lba handle op count) came a n = record { fine = λ f. (f.0, tt, f.2); puts_less = λ d. le_refl (puts v.part d) }
   act_tame v (acts.Apply req k dev end) came a n = tame_then v.part (change_applied v req k dev end (size_of setup dev) (piece_here v req k) (base_here v dev)).part _ (applied_tame v req k dev end (size_of setup dev) (piece_here v req k) (base_here v dev)) (tame_same _ _ refl refl refl)
   act_tame v (acts.Abort req cause) came a n = tame_then v.part (stopped setup v.part req (request_here v req)) _ (stopped_tame v.part req (request_here v req)) (tame_same _ _ refl refl refl)
   act_tame v (acts.Visit walk dev kind) came a n = by kind n

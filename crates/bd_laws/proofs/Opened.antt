@@ -198,10 +198,10 @@ module _ (setup : Setup) where
           ap (λ b. b || list_any (λ (h : Handle). same_handle h.id id && same_dev h.dev dev) hs) (and_from (same_handle h.id id) (same_dev h.dev dev) f (subst (λ (y : Handle). same_dev y.dev dev ≡ true) (sym same) d))
       go false f e rest = or_right (same_handle h.id id && same_dev h.dev dev) (rest e)
 
-  accept_has : (t : ℕ) (v : View) (came : Came) (req : ReqId) (dev : DevId) (handle : HandleId) (op : Op) (lba count : ℕ) → FineNames setup t v.part → Passes (guards setup t v (acts.Accept req dev handle op lba count) came)
+  accept_has : (t : ℕ) (v : View) (came : Came) (req : ReqId) (dev : DevId) (handle : HandleId) (op : Op) (lba count : ℕ) → FineNames setup t v.part → Passes (guards setup t v (acts.Accept dev lba handle req op count) came)
       → HasHandle v.handles (record { id = req; handle = handle; dev = dev; op = op })
   accept_has t v came req dev handle op lba count f h =
-      let ok = passed (guards setup t v (acts.Accept req dev handle op lba count) came) h in
+      let ok = passed (guards setup t v (acts.Accept dev lba handle req op count) came) h in
       let p = and_parts (asks_submission setup t v came (Some handle) op lba count) (is_device_of dev (handle_of v.handles handle)) ok.0 in
       let q = and_parts (not came.shut) (is_job_submit v.part (Some handle) op lba count (undecided_job setup t v.part)) p.0 in
       (go (handle_of v.handles handle) refl p.1 (admitted (is_removed_handle setup v handle) ok.1.0), submit_bound t v.part handle op lba count (undecided_job setup t v.part) f.0 q.1)
@@ -259,8 +259,8 @@ module _ (setup : Setup) where
   -- an act leaves each open request its handle
   pub rows_act : (s : State) (t : ℕ) (act : Act) → FineNames setup t (view s t).part → Passes (guards_in setup s t act) → RowsOpen (view s t).handles (view s t).part.requests
       → RowsOpen (own_handles_after t (view s t).handles (asked act)) (requests_after act (view s t).part.requests)
-  rows_act s t (acts.Accept req dev handle op lba count) f p h =
-      rows_push (view s t).handles (view s t).part.requests (record { id = req; handle = handle; dev = dev; op = op }) h (accept_has t (view s t) (came_for setup s t (acts.Accept req dev handle op lba count)) req dev handle op lba count f p)
+  rows_act s t (acts.Accept dev lba handle req op count) f p h =
+      rows_push (view s t).handles (view s t).part.requests (record { id = req; handle = handle; dev = dev; op = op }) h (accept_has t (view s t) (came_for setup s t (acts.Accept dev lba handle req op count)) req dev handle op lba count f p)
   rows_act s t (acts.Complete req status shown) f p h = rows_filter (view s t).handles (λ r. not (same_request r.id req)) (view s t).part.requests h
   rows_act s t (acts.Reg event a) f p h = rows_event s t (came_for setup s t (acts.Reg event a)) event a f (passed (guards_in setup s t (acts.Reg event a)) p).1.0 h
   rows_act s t _ f p h = h

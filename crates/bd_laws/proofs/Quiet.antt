@@ -152,7 +152,7 @@ module _ (setup : Setup) where
         abbrev_is o = same_request o.id r && is_kept_waiting setup dev o
 
         by_act : (act : Act) → is_complete_of r act ≡ false → (rows : List Open) → list_any (λ (o : Open). same_request o.id r && is_kept_waiting setup dev o) rows ≡ true → list_any (λ (o : Open). same_request o.id r && is_kept_waiting setup dev o) (requests_after act rows) ≡ true
-        by_act (acts.Accept req d handle op lba count) c rows h =
+        by_act (acts.Accept d lba handle req op count) c rows h =
             any_push (λ (o : Open). same_request o.id r && is_kept_waiting setup dev o) rows (record { id = req; handle = handle; dev = d; op = op })
             ∙ ap (λ b. b || (same_request req r && is_kept_waiting setup dev (record { id = req; handle = handle; dev = d; op = op }))) h
         by_act (acts.Complete req status shown) c rows h =
@@ -191,7 +191,7 @@ module _ (setup : Setup) where
         or_true false = refl
 
         by_act : (act : Act) → is_accept_above setup dev r act ≡ true → (rows : List Open) → list_any (λ (o : Open). same_request o.id r && is_kept_waiting setup dev o) (requests_after act rows) ≡ true
-        by_act (acts.Accept req d handle op lba count) h rows =
+        by_act (acts.Accept d lba handle req op count) h rows =
             let p = and_parts (same_request req r && not (is_reset op)) (is_below setup d dev) h in
             let q = and_parts (same_request req r) (not (is_reset op)) p.0 in
             let one : (same_request req r && is_kept_waiting setup dev (record { id = req; handle = handle; dev = d; op = op })) ≡ true =
@@ -201,7 +201,7 @@ module _ (setup : Setup) where
         by_act _ h rows = cc
 
         accept_of : (act : Act) → is_accept_above setup dev r act ≡ true → is_accept_of r act ≡ true
-        accept_of (acts.Accept req d handle op lba count) h = (and_parts (same_request req r) (not (is_reset op)) (and_parts (same_request req r && not (is_reset op)) (is_below setup d dev) h).0).0
+        accept_of (acts.Accept d lba handle req op count) h = (and_parts (same_request req r) (not (is_reset op)) (and_parts (same_request req r && not (is_reset op)) (is_below setup d dev) h).0).0
         accept_of _ h = cc
 
     pub row_of_accepted : (s : State) (es : List Entry) → IsFresh s → IsRunFrom setup s es → NoneOf (is_complete_of r) es → 0 < count_of (is_accept_above setup dev r) es → HasRow (after_all setup s es)
@@ -241,7 +241,7 @@ module _ (setup : Setup) (dev : DevId) (before : List Entry) (at : ℕ → Bool)
   busy s u = busy_in setup dev before at s u
 
   fewer_rows : (act : Act) → ((r : ReqId) → is_accept_of r act ≡ true → was_accepted before r ≡ false) → (rows : List Open) → list_any (is_older setup dev before) (requests_after act rows) ≡ true → list_any (is_older setup dev before) rows ≡ true
-  fewer_rows (acts.Accept req d handle op lba count) new rows h = go (list_any (is_older setup dev before) rows) (sym (any_push (is_older setup dev before) rows (record { id = req; handle = handle; dev = d; op = op })) ∙ h)
+  fewer_rows (acts.Accept d lba handle req op count) new rows h = go (list_any (is_older setup dev before) rows) (sym (any_push (is_older setup dev before) rows (record { id = req; handle = handle; dev = d; op = op })) ∙ h)
     where
       no : (is_older setup dev before) (record { id = req; handle = handle; dev = d; op = op }) ≡ false
       no = ap (λ b. b && is_kept_waiting setup dev (record { id = req; handle = handle; dev = d; op = op })) (new req (request_same.same_self req))
@@ -310,7 +310,7 @@ completes_is reset (acts.Complete req status shown) h o = differ (subst (λ (q :
 completes_is reset _ h o = o
 
 pub accepting_none : (reset : ReqId) (D : DevId → Type 0) (act : Act) → is_accept_of reset act ≡ false → Accepting reset D act × AcceptsReset reset act
-accepting_none reset D (acts.Accept req d handle op lba count) h =
+accepting_none reset D (acts.Accept d lba handle req op count) h =
     let no : req ≡ reset → ⊥ = λ o. differ (subst (λ (q : ReqId). same_request q reset ≡ true) (sym o) (request_same.same_self reset)) h in
     ((λ o. absurd (no o)), (λ o. absurd (no o)))
 accepting_none reset D _ h = (tt, tt)

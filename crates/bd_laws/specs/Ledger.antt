@@ -34,7 +34,7 @@ first_ledger setup dev = record { requests = λ req. None; left = one_quota (quo
 
 -- the requests that were accepted, after an act
 abbrev pub requests_by : Act → (ReqId → Option Accepted) → ReqId → Option Accepted
-requests_by (acts.Accept req dev handle op lba count) requests r = cond (same_request req r) (Some (record { dev = dev; op = op; count = count })) (requests r)
+requests_by (acts.Accept dev lba handle req op count) requests r = cond (same_request req r) (Some (record { dev = dev; op = op; count = count })) (requests r)
 requests_by _ requests r = requests r
 
 -- a read or write is charged, once and with all its bytes

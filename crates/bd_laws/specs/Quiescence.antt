@@ -23,12 +23,12 @@ use Rattle.bd_laws.specs.Standing.{StandsOnEarlier}
 
 -- a reset of the device is accepted
 abbrev pub is_reset_accept : ReqId → DevId → Act → Bool
-is_reset_accept reset dev (acts.Accept req d handle op lba count) = same_request req reset && same_dev d dev && is_reset op
+is_reset_accept reset dev (acts.Accept d lba handle req op count) = same_request req reset && same_dev d dev && is_reset op
 is_reset_accept reset dev _ = false
 
 -- the request is accepted, isn't a reset, and has the device below its own
 abbrev pub is_accept_above : Setup → DevId → ReqId → Act → Bool
-is_accept_above setup dev r (acts.Accept req d handle op lba count) = same_request req r && not (is_reset op) && is_below setup d dev
+is_accept_above setup dev r (acts.Accept d lba handle req op count) = same_request req r && not (is_reset op) && is_below setup d dev
 is_accept_above setup dev r _ = false
 
 -- a reset was accepted after these entries, and is completed after those that came between

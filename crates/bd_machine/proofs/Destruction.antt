@@ -217,10 +217,10 @@ none_of_any is (d ∷ ds) dev any lower = go (same_dev dev d) refl lower (first 
     go false e l f rest = rest l
 
 unmarked_by : (setup : Setup) (s : State) (t : ℕ) (act : Act) (dev : DevId) → Passes (guards_in setup s t act) → is_accept_over setup dev act ≡ true → is_removed (part_of s t) dev ≡ false
-unmarked_by setup s t (acts.Accept req d handle op lba count) dev h e =
+unmarked_by setup s t (acts.Accept d lba handle req op count) dev h e =
     let v : View = view s t in
-    let came : Came = came_for setup s t (acts.Accept req d handle op lba count) in
-    let ok = passed (guards_in setup s t (acts.Accept req d handle op lba count)) h in
+    let came : Came = came_for setup s t (acts.Accept d lba handle req op count) in
+    let ok = passed (guards_in setup s t (acts.Accept d lba handle req op count)) h in
     let own = (and_parts (asks_submission setup t v came (Some handle) op lba count) (is_device_of d (handle_of v.handles handle)) ok.0).1 in
     let b : Bool = is_removed_handle setup v handle in
     on (handle_of v.handles handle) own (admitted b ok.1.0) (later (is_gone v.part handle) (is_on_removed setup v.part (handle_of v.handles handle)) (none b ok.1.0))

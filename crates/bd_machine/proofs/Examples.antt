@@ -53,7 +53,7 @@ first_path =
     at 1 0 (acts.Reg (events.Open (codes "Malloc0") true) (answers.Opened (handle 0) (dev 0))) ∷
     at 2 0 (acts.Reg (events.GetChannel (dev 0)) (answers.Got true [])) ∷
     at 3 0 (acts.Script 1 outcomes.Done) ∷
-    at 4 0 (acts.Accept (req 0 0) (dev 0) (handle 0) (write 5) 0 1) ∷
+    at 4 0 (acts.Accept (dev 0) 0 (handle 0) (req 0 0) (write 5) 1) ∷
     at 5 0 (acts.Cut (req 0 0) 1) ∷
     at 6 0 (acts.Script 2 (outcomes.Accepted (req 0 0))) ∷
     at 7 0 (acts.Put 0 0 (tokens.Piece (req 0 0) 0)) ∷
@@ -63,7 +63,7 @@ first_path =
     at 11 0 (acts.Took 0 1 (tokens.Piece (req 0 0) 0)) ∷
     at 12 0 (acts.Complete (req 0 0) statuses.Success None) ∷
     at 13 0 (acts.Script 3 outcomes.Done) ∷
-    at 14 0 (acts.Accept (req 0 1) (dev 0) (handle 0) ops.Read 0 1) ∷
+    at 14 0 (acts.Accept (dev 0) 0 (handle 0) (req 0 1) ops.Read 1) ∷
     at 15 0 (acts.Cut (req 0 1) 1) ∷
     at 16 0 (acts.Script 4 (outcomes.Accepted (req 0 1))) ∷
     at 17 0 (acts.Put 0 2 (tokens.Piece (req 0 1) 0)) ∷
@@ -113,7 +113,7 @@ after_first n = after_all first_path_setup (start first_path_setup []) (take n f
 
 -- not built as yet: a request that is kept without an answer, a reset
 not_built : (refusal first_path_setup (after_first 0) (at 100 0 (acts.Pend (req 0 0))) ≡ Some 0)
-    × (refusal first_path_setup (after_first 3) (at 100 0 (acts.Accept (req 0 0) (dev 0) (handle 0) ops.Reset 0 0)) ≡ Some 0)
+    × (refusal first_path_setup (after_first 3) (at 100 0 (acts.Accept (dev 0) 0 (handle 0) (req 0 0) ops.Reset 0)) ≡ Some 0)
 unfolding after
 not_built = (refl, refl)
 

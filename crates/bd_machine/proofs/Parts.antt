@@ -327,7 +327,7 @@ reg_grows setup t v came (events.Destructed dev) a =
 -- an act other than Put, Accept, Apply, Destruct and Tick
 abbrev pub is_plain : Act → Bool
 is_plain (acts.Put to number what) = false
-is_plain (acts.Accept req dev handle op lba count) = false
+is_plain (acts.Accept dev lba handle req op count) = false
 is_plain (acts.Apply req k dev end) = false
 is_plain (acts.Destruct dev digest) = false
 is_plain (acts.Tick dev now slices) = false
@@ -359,7 +359,7 @@ counted act p = record p { taken = taken_by_act act p.taken; next = next_by_act 
 
 pub plain_grows : (setup : Setup) (t : ℕ) (v : View) (act : Act) (came : Came) → is_plain act ≡ true → Grows (counted act v.part) (change_by setup t v act came).part
 plain_grows setup t v (acts.Put to number what) came h = cc
-plain_grows setup t v (acts.Accept req dev handle op lba count) came h = cc
+plain_grows setup t v (acts.Accept dev lba handle req op count) came h = cc
 plain_grows setup t v (acts.Apply req k dev end) came h = cc
 plain_grows setup t v (acts.Destruct dev digest) came h = cc
 plain_grows setup t v (acts.Tick dev now slices) came h = cc

@@ -150,7 +150,7 @@ timing_kept setup t v act came dev h = go (is_plain act) refl
 
     others : (act : Act) → is_tick_of dev act ≡ false → is_plain act ≡ false → timing dev (change setup t v act came).part ≡ timing dev v.part
     others (acts.Put to number what) h e = refl
-    others (acts.Accept req d handle op lba count) h e = refl
+    others (acts.Accept d lba handle req op count) h e = refl
     others (acts.Destruct d digest) h e = refl
     others (acts.Apply req k d end) h e = applied req k d end (size_of setup d) (piece_here v req k) (base_here v d)
     others (acts.Tick d now slices) h e = other_row d dev (ticked setup v.part.moments now slices) (ticked_dev setup v.part.moments now slices) h v.part.limited

@@ -44,7 +44,7 @@ named _ = None
 
 -- a request was accepted on a device that has this one below
 abbrev pub is_accept_over : Setup → DevId → Act → Bool
-is_accept_over setup dev (acts.Accept req d handle op lba count) = is_below setup d dev
+is_accept_over setup dev (acts.Accept d lba handle req op count) = is_below setup d dev
 is_accept_over setup dev _ = false
 
 -- ---- the laws

@@ -49,8 +49,8 @@ abbrev pub is_built_as_yet : Act → Bool
 is_built_as_yet (acts.Put to number what) = is_built_token what
 is_built_as_yet (acts.Took source number what) = is_built_token what
 is_built_as_yet (acts.Reg event answer) = is_built_event event
-is_built_as_yet (acts.Accept req dev handle op lba count) = has_range op
-is_built_as_yet (acts.Refuse handle op lba count errno) = has_range op
+is_built_as_yet (acts.Accept dev lba handle req op count) = has_range op
+is_built_as_yet (acts.Refuse errno lba handle op count) = has_range op
 is_built_as_yet (acts.Cut req pieces) = true
 is_built_as_yet (acts.Apply req k dev end) = true
 is_built_as_yet (acts.NoMem req k dev) = true
@@ -72,8 +72,8 @@ abbrev pub guards : Setup → ℕ → View → Act → Came → List (ℕ × Boo
 guards setup t v (acts.Put to number what) came = guards_put setup t v to number what
 guards setup t v (acts.Took source number what) came = guards_took v came source number what
 guards setup t v (acts.Reg event answer) came = guards_reg setup t v came event answer
-guards setup t v (acts.Accept req dev handle op lba count) came = guards_accept setup t v came req dev handle op lba count
-guards setup t v (acts.Refuse handle op lba count errno) came = guards_refuse setup t v came handle op lba count errno
+guards setup t v (acts.Accept dev lba handle req op count) came = guards_accept setup t v came req dev handle op lba count
+guards setup t v (acts.Refuse errno lba handle op count) came = guards_refuse setup t v came handle op lba count errno
 guards setup t v (acts.Inject req dev decision) came = guards_inject v req dev decision
 guards setup t v (acts.Pend req) came = guards_pend t v req
 guards setup t v (acts.Let req dev now) came = guards_let setup t v req dev now
@@ -95,8 +95,8 @@ abbrev pub change_by : Setup → ℕ → View → Act → Came → Change
 change_by setup t v (acts.Put to number what) came = change_put setup t v to number what
 change_by setup t v (acts.Took source number what) came = change_took setup t v came source number what
 change_by setup t v (acts.Reg event answer) came = change_reg setup t v came event answer
-change_by setup t v (acts.Accept req dev handle op lba count) came = change_accept setup t v req dev handle op lba count
-change_by setup t v (acts.Refuse handle op lba count errno) came = change_refuse v errno
+change_by setup t v (acts.Accept dev lba handle req op count) came = change_accept setup t v req dev handle op lba count
+change_by setup t v (acts.Refuse errno lba handle op count) came = change_refuse v errno
 change_by setup t v (acts.Inject req dev decision) came = change_inject v req decision
 change_by setup t v (acts.Pend req) came = change_pend v req
 change_by setup t v (acts.Let req dev now) came = change_let setup v req dev now

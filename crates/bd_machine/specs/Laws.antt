@@ -24,7 +24,7 @@ use Rattle.bd_machine.specs.View.{view, part_of, asked}
 -- ---- acts in a list of entries
 
 abbrev pub is_accept_of : ReqId → Act → Bool
-is_accept_of r (acts.Accept req dev handle op lba count) = same_request req r
+is_accept_of r (acts.Accept dev lba handle req op count) = same_request req r
 is_accept_of r _ = false
 
 abbrev pub is_complete_of : ReqId → Act → Bool

@@ -75,8 +75,8 @@ moves_taken side m what kept = token_moved side.thread what kept (id_of m.peer s
 
 -- an act on a request of its own thread
 abbrev pub is_of_request : Act → Bool
-is_of_request (acts.Accept req dev handle op lba count) = true
-is_of_request (acts.Refuse handle op lba count errno) = true
+is_of_request (acts.Accept dev lba handle req op count) = true
+is_of_request (acts.Refuse errno lba handle op count) = true
 is_of_request (acts.Cut req pieces) = true
 is_of_request (acts.Complete req status shown) = true
 is_of_request _ = false
@@ -110,6 +110,6 @@ is_of_course _ = false
 
 -- what a submission asks for; nothing for any other act
 abbrev pub submission_of : Act → Submission
-submission_of (acts.Accept req dev handle op lba count) = record { op = op; lba = lba; count = count }
-submission_of (acts.Refuse handle op lba count errno) = record { op = op; lba = lba; count = count }
+submission_of (acts.Accept dev lba handle req op count) = record { op = op; lba = lba; count = count }
+submission_of (acts.Refuse errno lba handle op count) = record { op = op; lba = lba; count = count }
 submission_of _ = record { op = ops.Reset; lba = 0; count = 0 }

@@ -46,7 +46,7 @@ pub fn refused_accept(
     handle: HandleId,
     what: Submission,
 ) -> Option<u32>
-    ensures { result ≡ refused side.now (acts.Accept req dev handle what.op what.lba what.count) }
+    ensures { result ≡ refused side.now (acts.Accept dev what.lba handle req what.op what.count) }
 {
     let shut = side.state.shut;
     let asks = asks_submission(side, side.setup, side.thread, shut, Some(handle), what);
@@ -72,7 +72,7 @@ pub fn accept(
     handle: HandleId,
     what: Submission,
 ) -> Result<State, OutOfMemory>
-    ensures { IfOk result (λ s. s ≡ changed side.now (made_by side.now (acts.Accept req dev handle what.op what.lba what.count))) }
+    ensures { IfOk result (λ s. s ≡ changed side.now (made_by side.now (acts.Accept dev what.lba handle req what.op what.count))) }
 {
     let mut next = side.state.duplicate(alloc)?;
     let kept = Kept::Request(new_request(handle, dev, what));
@@ -108,7 +108,7 @@ pub fn refused_refuse(
     what: Submission,
     errno: Errno,
 ) -> Option<u32>
-    ensures { result ≡ refused side.now (acts.Refuse handle what.op what.lba what.count errno) }
+    ensures { result ≡ refused side.now (acts.Refuse errno what.lba handle what.op what.count) }
 {
     if !asks_submission(side, side.setup, side.thread, side.state.shut, handle, what) {
         return Some(LINE_ASKS);

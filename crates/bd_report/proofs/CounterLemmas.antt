@@ -111,8 +111,8 @@ pub record Adds (nothing : Act) : Type 0 where
   pub successes : (request : ReqId) → is_success_of request nothing ≡ false
 
 pub not_counted : (act : Act) → is_counted act ≡ false → Adds act
-not_counted (acts.Accept req dev handle op lba count) e = absurd (let x : true ≡ false = e in cc)
-not_counted (acts.Refuse handle op lba count errno) e = absurd (let x : true ≡ false = e in cc)
+not_counted (acts.Accept dev lba handle req op count) e = absurd (let x : true ≡ false = e in cc)
+not_counted (acts.Refuse errno lba handle op count) e = absurd (let x : true ≡ false = e in cc)
 not_counted (acts.Complete req status shown) e = absurd (let x : true ≡ false = e in cc)
 not_counted _ e = record { counts = λ counts. refl; submitted = refl; successes = λ request. refl }
 

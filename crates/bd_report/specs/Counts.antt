@@ -23,12 +23,12 @@ count_acts test thread entries = count_by (λ entry. is_meant thread entry.threa
 
 -- a request was accepted
 abbrev pub is_accept : Act → Bool
-is_accept (acts.Accept req dev handle op lba count) = true
+is_accept (acts.Accept dev lba handle req op count) = true
 is_accept _ = false
 
 -- a submission was refused
 abbrev pub is_refusal : Act → Bool
-is_refusal (acts.Refuse handle op lba count errno) = true
+is_refusal (acts.Refuse errno lba handle op count) = true
 is_refusal _ = false
 
 -- whether two statuses are the same
@@ -45,8 +45,8 @@ is_end status _ = false
 
 -- an act that counts: an accept, a completion or a refusal
 abbrev pub is_counted : Act → Bool
-is_counted (acts.Accept req dev handle op lba count) = true
-is_counted (acts.Refuse handle op lba count errno) = true
+is_counted (acts.Accept dev lba handle req op count) = true
+is_counted (acts.Refuse errno lba handle op count) = true
 is_counted (acts.Complete req status shown) = true
 is_counted _ = false
 

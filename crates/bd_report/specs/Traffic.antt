@@ -25,7 +25,7 @@ way_of _ = None
 
 -- the read or write that the act accepts
 abbrev pub submitted_in_act : Act → Option Submitted
-submitted_in_act (acts.Accept req dev handle op lba count) =
+submitted_in_act (acts.Accept dev lba handle req op count) =
     option_map (λ way. record { request = req; device = dev; way = way; blocks = count }) (way_of op)
 submitted_in_act _ = None
 

@@ -51,7 +51,7 @@ refusal t links handle asked = refusal_of t.setup.now (view_of t links) handle a
 -- ---- what it leaves
 
 abbrev pub refuse_act : Option HandleId → Submission → Errno → Act
-refuse_act handle asked errno = acts.Refuse handle asked.op asked.lba asked.count errno
+refuse_act handle asked errno = acts.Refuse errno asked.lba handle asked.op asked.count
 
 -- the part with the line refused by this errno
 abbrev pub refused : Errno → Part → Part
@@ -78,7 +78,7 @@ Refuses refusals.Full handle asked old before new after = IsFull handle asked ol
 Refuses refusals.OutOfMemory handle asked old before new after = Unit {0}
 
 abbrev pub accept_act : ReqId → DevId → HandleId → Submission → Act
-accept_act req dev handle asked = acts.Accept req dev handle asked.op asked.lba asked.count
+accept_act req dev handle asked = acts.Accept dev asked.lba handle req asked.op asked.count
 
 -- a request that was accepted, and no more
 abbrev pub opened : DevId → HandleId → Submission → Kept

@@ -55,7 +55,7 @@ entries =
     at 1 0 (acts.Reg (events.Open (codes "Aio0") true) (answers.Opened (handle 0) (dev 0))) ∷
     at 2 0 (acts.Reg (events.GetChannel (dev 0)) (answers.Got true [])) ∷
     at 3 0 (acts.Script 1 outcomes.Done) ∷
-    at 4 0 (acts.Accept (req 0 0) (dev 0) (handle 0) ops.Zeroes 0 1) ∷
+    at 4 0 (acts.Accept (dev 0) 0 (handle 0) (req 0 0) ops.Zeroes 1) ∷
     at 5 0 (acts.Cut (req 0 0) 1) ∷
     at 6 0 (acts.Script 2 (outcomes.Accepted (req 0 0))) ∷
     at 7 0 (acts.Put 0 0 (tokens.Piece (req 0 0) 0)) ∷
@@ -65,7 +65,7 @@ entries =
     at 11 0 (acts.Took 0 1 (tokens.Piece (req 0 0) 0)) ∷
     at 12 0 (acts.Complete (req 0 0) Success None) ∷
     at 13 0 (acts.Script 3 outcomes.Done) ∷
-    at 14 0 (acts.Accept (req 0 1) (dev 0) (handle 0) ops.Read 0 2) ∷
+    at 14 0 (acts.Accept (dev 0) 0 (handle 0) (req 0 1) ops.Read 2) ∷
     at 15 0 (acts.Cut (req 0 1) 1) ∷
     at 16 0 (acts.Script 4 (outcomes.Accepted (req 0 1))) ∷
     at 17 0 (acts.Put 0 2 (tokens.Piece (req 0 1) 0)) ∷

@@ -66,7 +66,7 @@ plain_stay setup t v act came dev h =
 pub bases_stay : (setup : Setup) (t : ℕ) (v : View) (act : Act) (came : Came) (dev : DevId)
     → count_by (is_base dev) (change setup t v act came).part.bases ≡ count_by (is_base dev) v.part.bases
 bases_stay setup t v (acts.Put to number what) came dev = refl
-bases_stay setup t v (acts.Accept req d handle op lba count) came dev = refl
+bases_stay setup t v (acts.Accept d lba handle req op count) came dev = refl
 bases_stay setup t v (acts.Destruct d digest) came dev = refl
 bases_stay setup t v (acts.Tick d now slices) came dev = refl
 bases_stay setup t v (acts.Apply req k d end) came dev = apply_count dev v req k d end (size_of setup d) (piece_here v req k) (base_here v d)

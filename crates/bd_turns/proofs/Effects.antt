@@ -171,7 +171,7 @@ pub data Kind (setup : Setup) (t : ℕ) (v : View) (came : Came) (act : Act) : T
 pub kind_of : (setup : Setup) (t : ℕ) (v : View) (came : Came) (act : Act) → Kind setup t v came act
 kind_of setup t v came (acts.Put to number what) = Puts to number what refl
 kind_of setup t v came (acts.Took source number what) = Tooks source number what refl
-kind_of setup t v came (acts.Accept req dev handle op lba count) = Quiet (record { put_is = refl; taken_is = refl; none_taken = λ a n h. h; homes = ((tt, refl), tt); queue_is = λ r q. refl })
+kind_of setup t v came (acts.Accept dev lba handle req op count) = Quiet (record { put_is = refl; taken_is = refl; none_taken = λ a n h. h; homes = ((tt, refl), tt); queue_is = λ r q. refl })
 kind_of setup t v came (acts.Destruct dev digest) = Quiet (record { put_is = refl; taken_is = refl; none_taken = λ a n h. h; homes = tt; queue_is = λ r q. refl })
 kind_of setup t v came (acts.Apply req k dev end) =
     let p = applied_quiet setup t v req k dev end (size_of setup dev) (piece_here v req k) (base_here v dev) in
@@ -187,7 +187,7 @@ kind_of setup t v came (acts.Release req now) = Quiet (quiet_if setup t v came (
 kind_of setup t v came (acts.Abort req cause) = Quiet (quiet_if setup t v came (acts.Abort req cause) (record { plain = refl; taken = λ l. refl; none_taken = λ a n h. h; queue_is = λ ms r q. refl }) (edited_home req (aborted cause) (request_here v req)))
 kind_of setup t v came (acts.Complete req status shown) = Quiet (quiet_if setup t v came (acts.Complete req status shown) (record { plain = refl; taken = λ l. refl; none_taken = λ a n h. h; queue_is = λ ms r q. refl }) (closed_home v req (request_here v req)))
 kind_of setup t v came (acts.Visit walk dev kind) = Quiet (quiet_if setup t v came (acts.Visit walk dev kind) (record { plain = refl; taken = λ l. refl; none_taken = λ a n h. h; queue_is = λ ms r q. refl }) (walked_if_home t walk (marked_by setup t v dev kind) (walk_here v walk)))
-kind_of setup t v came (acts.Refuse handle op lba count errno) = Quiet (quiet_if setup t v came (acts.Refuse handle op lba count errno) (record { plain = refl; taken = λ l. refl; none_taken = λ a n h. h; queue_is = λ ms r q. refl }) (tt))
+kind_of setup t v came (acts.Refuse errno lba handle op count) = Quiet (quiet_if setup t v came (acts.Refuse errno lba handle op count) (record { plain = refl; taken = λ l. refl; none_taken = λ a n h. h; queue_is = λ ms r q. refl }) (tt))
 kind_of setup t v came (acts.Tick dev now slices) = Quiet (record { put_is = refl; taken_is = refl; none_taken = λ a n h. h; homes = tt; queue_is = λ r q. refl })
 kind_of setup t v came (acts.Script line outcome) = Quiet (quiet_if setup t v came (acts.Script line outcome) (record { plain = refl; taken = λ l. refl; none_taken = λ a n h. h; queue_is = λ ms r q. refl }) (tt))
 kind_of setup t v came acts.Shutdown = Quiet (quiet_if setup t v came acts.Shutdown (record { plain = refl; taken = λ l. refl; none_taken = λ a n h. h; queue_is = λ ms r q. refl }) (tt))

@@ -47,7 +47,7 @@ turns =
     at 1 1 (acts.Reg (events.Open (codes "Null0") true) (answers.Opened (handle 0) (dev 0))) ∷
     at 2 1 (acts.Reg (events.GetChannel (dev 0)) (answers.Got true [])) ∷
     at 3 1 (acts.Script 1 outcomes.Done) ∷
-    at 4 1 (acts.Accept (req 1 0) (dev 0) (handle 0) (write 5) 0 1) ∷
+    at 4 1 (acts.Accept (dev 0) 0 (handle 0) (req 1 0) (write 5) 1) ∷
     at 5 1 (acts.Script 2 (outcomes.Accepted (req 1 0))) ∷
     at 6 1 (acts.Cut (req 1 0) 1) ∷
     at 7 1 (acts.Put 0 0 (tokens.Piece (req 1 0) 0)) ∷

@@ -1,9 +1,9 @@
 -- Above 16 neither set has a bit.
-use Rattle.std.proofs.Common.{◌≡◌, ◌≢◌, ◌<◌, ◌≤◌, ℕ, ◌-◌, ◌*◌, ◌^◌, ◌%◌, ◌⊎◌, inl, inr, sym, ◌∙◌, arith, min}
+use Rattle.std.proofs.Common.{◌≡◌, ◌≢◌, ◌<◌, ◌≤◌, ℕ, ◌-◌, ◌*◌, ◌^◌, ◌%◌, ◌⊎◌, inl, inr, arith}
 use Rattle.std.specs.Int.{w16, bit_at}
 use Rattle.std.specs.Prelude.{bit_and}
 use Rattle.std.proofs.lemmas.Bool.{cases_lt}
-use Rattle.std.proofs.lemmas.Nat.Bits.{bit_at_clear_same, bit_at_clear_other, bit_at_above, bit_at_and, bit_at-lt}
+use Rattle.std.proofs.lemmas.Nat.Bits.{bit_at_clear_same, bit_at_clear_other, bit_at_above, bit_at_and}
 use Rattle.bd_base.proofs.thread_set.ThreadSet.remove.Goals as goal
 
 clears_others : (n t : ℕ) → n < 2 ^ 16 → t < 16 → (k : ℕ) → k ≢ t → (k < 16) ⊎ (16 ≤ k) → bit_at (bit_and n (65535 - 1 * 2 ^ t % 65536)) k ≡ bit_at n k
