@@ -1,3 +1,4 @@
+pub mod ByPlaces
 pub mod Choice
 pub mod Order
 pub mod Parts

@@ -2,3 +2,4 @@ pub mod FirstStamp
 pub mod Firsts
 pub mod Log
 pub mod Merge
+pub mod Places

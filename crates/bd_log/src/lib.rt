@@ -5,6 +5,7 @@ mod firsts;
 mod log;
 mod merging;
 mod part;
+mod places;
 
 pub use log::{Log, LogNo};
 pub use merging::{merge, merge_is_unique, merge_onto, merging_by_parts};

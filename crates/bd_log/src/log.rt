@@ -1,5 +1,5 @@
 //! A thread's log: what it did, each act with a stamp.
-ghost use Rattle.std.specs.Prelude.{◌≡◌, ◌+◌, ◌≤◌, ◌<◌, ◌++◌, ◌∷◌, [], length, max, vec_len, IfOk, IfErr, OnOk, OnErr};
+ghost use Rattle.std.specs.Prelude.{◌≡◌, ◌+◌, ◌≤◌, ◌<◌, ◌++◌, ◌∷◌, [], length, max, vec_len, vec_capacity, IfOk, IfErr, OnOk, OnErr};
 ghost use Rattle.bd_log.specs.Log.{stamped};
 ghost use Rattle.bd_log.specs.Merge.{IsPart};
 
@@ -37,6 +37,8 @@ pub struct Log {
     thread: u32,
     last: u128,
     entries: Vec<Entry>,
+    // how many entries were handed out last: the next ones are mostly as many
+    handed: usize,
 }
 
 impl Model for Log {
@@ -63,6 +65,7 @@ impl Log {
             thread: thread.0,
             last: 0,
             entries: Vec::new(alloc),
+            handed: 0,
         }
     }
 
@@ -107,6 +110,7 @@ impl Log {
             return Err(LogNo::StampsSpent(self.last));
         };
         stamp_all(entries.as_mut_slice(), self.thread, self.last);
+        make_room(&mut self.entries, self.handed);
         if self.entries.append(&mut entries).is_err() {
             return Err(LogNo::OutOfMemory);
         }
@@ -174,13 +178,15 @@ impl Log {
     }
 
     /// Hands the entries so far out, with the memory reserved for them, and keeps the last stamp: so
-    /// each entry of a later part has a greater stamp than all of this one. It takes no memory.
+    /// each entry of a later part has a greater stamp than all of this one. It takes no memory. The next `push_all` takes
+    /// memory for as many entries, where there is some.
     pub fn hand_out(&mut self) -> LogPart
         ensures handed { result ≡ log_part self.old }
         ensures within { IsWithin self.old.last self.old.entries }
         ensures left { self.new ≡ record self.old { entries = []; capacity = self.new.capacity } }
     {
         let alloc = *self.entries.allocator();
+        self.handed = self.entries.len();
         let entries = mem::replace(&mut self.entries, Vec::new(alloc));
         LogPart::of(self.thread, entries)
     }
@@ -193,8 +199,19 @@ impl Log {
             thread,
             last: _,
             entries,
+            handed: _,
         } = self;
         LogPart::of(thread, entries)
+    }
+}
+
+// Takes memory for this number of entries, where there is none for any.
+fn make_room(entries: &mut Vec<Entry>, count: usize)
+    ensures same { entries.new.items ≡ entries.old.items }
+    ensures capacity { vec_capacity entries.old ≤ vec_capacity entries.new }
+{
+    if entries.capacity() == 0 {
+        let _reserved = entries.reserve(count);
     }
 }
 

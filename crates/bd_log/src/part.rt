@@ -1,5 +1,5 @@
 //! What a log handed out.
-ghost use Rattle.std.specs.Prelude.{◌≡◌, ◌∷◌, [], drop, length, IfSome, MatchOption};
+ghost use Rattle.std.specs.Prelude.{◌≡◌, ◌∷◌, ◌++◌, [], drop, length, IfSome, MatchOption};
 ghost use Rattle.bd_log.specs.FirstStamp.{first_stamp, BeginsElsewhere};
 ghost use Rattle.bd_log.specs.Merge.{IsPart, head_before};
 
@@ -69,6 +69,27 @@ impl LogPart {
             (false, true) => true,
             (false, false) => self.thread < other.thread,
         }
+    }
+
+    // The stamp of its first entry; the greatest number where there is none.
+    pub(crate) fn first_stamp(&self) -> u128 {
+        self.first_stamp
+    }
+
+    // The stamp of its last entry, or 0.
+    pub(crate) fn last_stamp(&self) -> u128 {
+        match self.entries.back() {
+            Some(entry) => entry.stamp,
+            None => 0,
+        }
+    }
+
+    // Its entries, as two slices of which the second goes on.
+    pub(crate) fn slices(&self) -> (&[Entry], &[Entry])
+        ensures entries { result.0.now ++ result.1.now ≡ self.now.entries }
+        ensures part { IsPart self.now }
+    {
+        self.entries.as_slices()
     }
 
     // Takes the first entry out.

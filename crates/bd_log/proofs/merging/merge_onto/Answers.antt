@@ -36,13 +36,13 @@ pub loop-place-init : goal.loop-place-init
 loop-place-init c =
     let is = c.loop-entry.invariant in
     let out : List Entry = is.so_far.0 in
-    let x : Entry = c.in-Some.entry in
+    let x : Entry = c.in-Some-take.entry in
     let left : List Part = c.loop-entry.left in
     let first : ℕ = c.loop-entry.first in
     let now : Part = c.take.new.self in
     let count : ℕ = c.by_thread_len-by_thread.result in
     let apart = left_different c.args.parts.items left out is.so_far.2 c.requires.threads in
-    let takes : TakesFirst left x (set left first now) = took left first c.index-left-first.result now (Some x) apart is.within is.parts is.least c.take.ensures.thread c.in-Some.ensures.entry in
+    let takes : TakesFirst left x (set left first now) = took left first c.index-left-first.result now (Some x) apart is.within is.parts is.least c.take.ensures.thread c.in-Some-take.ensures.entry in
     let parts : All IsPart (set left first now) = parts_kept left first now is.parts is.within c.take.ensures.part in
     let by_thread : AreByThread count left = still_by_thread c.args.parts.items left out count is.so_far.2 (subst (AreByThread count) c.as_mut_slice-left.ensures.value c.by_thread_len-by_thread.ensures.threads) in
     let fewer = left_fewer left (set left first now) x takes in
@@ -57,7 +57,7 @@ loop-place-init c =
       room = omega arith;
       parts = parts;
       fewer = omega arith;
-      past = past_start left first count c.index-left-first.result now x is.within by_thread (is.parts first c.index-left-first.result is.within) parts c.take.ensures.thread c.in-Some.ensures.entry takes.first;
+      past = past_start left first count c.index-left-first.result now x is.within by_thread (is.parts first c.index-left-first.result is.within) parts c.take.ensures.thread c.in-Some-take.ensures.entry takes.first;
     }
 
 pub loop-place-preserved : goal.loop-place-preserved
@@ -68,7 +68,7 @@ loop-place-preserved c =
     let place : ℕ = c.loop-place.place in
     let now : Part = c.take_at.new.self in
     let left' : List Part = set left place now in
-    let stamp : ℕ = c.in-Some.entry.stamp in
+    let stamp : ℕ = c.in-Some-take.entry.stamp in
     let count : ℕ = c.by_thread_len-by_thread.result in
     let old : Part = get_or left place c.index-left-place.result in
     let listed : place < count = c.loop-place-test.true in
@@ -130,9 +130,9 @@ loop-entry-preserved c =
     let is = c.loop-place.invariant in record {
       so_far = is.so_far;
       room = is.room;
-      parts = c.first_of-first-in-Some.ensures.parts;
-      within = c.first_of-first-in-Some.ensures.within;
-      least = c.first_of-first-in-Some.ensures.least;
+      parts = c.first_of-first-in-Some-take.ensures.parts;
+      within = c.first_of-first-in-Some-take.ensures.within;
+      least = c.first_of-first-in-Some-take.ensures.least;
     }
 
 pub returns : goal.returns
@@ -140,5 +140,5 @@ returns c =
     let is = c.loop-entry.invariant in
     let left : List Part = c.loop-entry.left in
     let apart = left_different c.args.parts.items left is.so_far.0 is.so_far.2 c.requires.threads in
-    let none = took left c.loop-entry.first c.index-left-first.result c.take.new.self None apart is.within is.parts is.least c.take.ensures.thread c.in_default.ensures.entry in
+    let none = took left c.loop-entry.first c.index-left-first.result c.take.new.self None apart is.within is.parts is.least c.take.ensures.thread c.in_default-take.ensures.entry in
     record { merged = is.so_far.0; is = is.so_far.1; is_merge = merges_end c.args.parts.items left is.so_far.0 none is.so_far.2 }
