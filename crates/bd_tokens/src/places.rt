@@ -1,15 +1,20 @@
 //! Places for tokens: each request and each piece has one, which it shares with others. What is at the places is
 //! found without a search; a token whose place another one has is in a map.
-ghost use Rattle.std.specs.Prelude.{◌≡◌, ◌<◌, ◌≤◌, [], length, slice_index_or, slice_set, option_copied, option_map, true, vec_len, IfErr, IfNone, IfSome, OnErr, OnOk, Some, None};
+ghost use Rattle.std.specs.Prelude.{◌≡◌, ◌<◌, ◌≤◌, [], length, slice_index_or, slice_set, option_copied, option_map, true, vec_len, IfErr, IfNone, IfOk, IfSome, OnErr, OnOk, Some, None};
 ghost use Rattle.bd_tokens.specs.Places.{is_free, is_own, items_in, kept_in, kept_of, place_of, AreAt};
 ghost use Rattle.bd_tokens.specs.Tokens.{here_in};
 
-use bd_machine::{Id, Kept};
+use bd_base::DevId;
+use bd_machine::{Id, Kept, News};
 use bd_parcel::Parcel;
 use bd_view::same_id;
+use std::alloc::Global;
 
 /// How many places there are.
 const PLACES: usize = 384;
+
+/// How many parcels are kept for tokens to come.
+const SPARES: usize = 16;
 
 /// What is at a place: a token with what is kept of it, if there is one.
 pub(crate) type Row = Option<(Id, Parcel)>;
@@ -156,8 +161,45 @@ pub(crate) fn take_at(rows: &mut Vec<Row>, place: usize) -> Option<Parcel>
     }
 }
 
-/// The token is at its place, where no other one is, with this kept of it. Out of memory, what is kept comes back.
-pub(crate) fn put_at(rows: &mut Vec<Row>, place: usize, id: Id, kept: Kept) -> Result<(), Kept>
+// What a spare has in it, which takes no memory of its own.
+fn nothing() -> Kept {
+    Kept::Notice(News::Device(DevId(0)))
+}
+
+// A parcel of what is kept: a spare, where there is one, else a new one. Out of memory, what is kept comes back.
+fn parcel_of(alloc: Global, spares: &mut Vec<Parcel>, kept: Kept) -> Result<Parcel, Kept>
+    ensures ok { IfOk result (λ parcel. parcel ≡ kept) }
+    ensures err { IfErr result (λ back. back ≡ kept) }
+{
+    match spares.pop() {
+        Some(mut spare) => {
+            spare.set(kept);
+            Ok(spare)
+        }
+        None => Parcel::try_new(alloc, kept),
+    }
+}
+
+// Keeps a parcel as a spare, without what is in it. It is dropped where there are spares enough, or no memory for one more.
+fn keep_spare(spares: &mut Vec<Parcel>, parcel: Parcel)
+    ensures few { vec_len spares.old ≤ 16 → vec_len spares.new ≤ 16 }
+{
+    if spares.len() < SPARES {
+        let mut spare = parcel;
+        spare.set(nothing());
+        let _ = spares.push(spare);
+    }
+}
+
+/// The token is at its place, where no other one is, with this kept of it, in a spare if there is one. Out of memory, what is
+/// kept comes back.
+pub(crate) fn put_at(
+    rows: &mut Vec<Row>,
+    spares: &mut Vec<Parcel>,
+    place: usize,
+    id: Id,
+    kept: Kept,
+) -> Result<(), Kept>
     requires within { place < vec_len rows.old }
     requires free { is_free id (slice_index_or rows.old.items place None) ≡ true }
     ensures ok { OnOk result (rows.new.items ≡ slice_set rows.old.items place (Some (id, kept))) }
@@ -169,17 +211,19 @@ pub(crate) fn put_at(rows: &mut Vec<Row>, place: usize, id: Id, kept: Kept) -> R
         parcel.set(kept);
         return Ok(());
     }
-    let parcel = Parcel::try_new(*rows.allocator(), kept)?;
+    let parcel = parcel_of(*rows.allocator(), spares, kept)?;
     rows[place] = Some((id, parcel));
     Ok(())
 }
 
-/// Nothing is at the place any more.
-pub(crate) fn clear_at(rows: &mut Vec<Row>, place: usize)
+/// Nothing is at the place any more. The parcel that was there becomes a spare, without what was in it.
+pub(crate) fn clear_at(rows: &mut Vec<Row>, spares: &mut Vec<Parcel>, place: usize)
     requires { place < vec_len rows.old }
     ensures { rows.new.items ≡ slice_set rows.old.items place None }
 {
-    rows[place] = None;
+    if let Some(parcel) = take_at(rows, place) {
+        keep_spare(spares, parcel);
+    }
 }
 
 /// How many tokens are at their places.

@@ -25,6 +25,8 @@ use std::marker::Model;
 pub struct Tokens {
     // requests and pieces, each at its place
     rows: Vec<Row>,
+    // parcels of tokens that were let go, for tokens to come: what is in them means nothing
+    spares: Vec<Parcel>,
     // walks and notices, and tokens whose place another one has
     map: HashMap<Key, Kept>,
 }
@@ -44,6 +46,7 @@ impl Model for Tokens {
 // The token is at its place, where that is free, and else in the map.
 fn hold(
     rows: &mut Vec<Row>,
+    spares: &mut Vec<Parcel>,
     map: &mut HashMap<Key, Kept>,
     id: Id,
     kept: Kept,
@@ -56,7 +59,7 @@ fn hold(
     ensures holds { 0 < spare map.old → IsOk result }
 {
     match free_place(rows.as_slice(), id) {
-        Some(place) => hold_at(rows, map, place, id, kept),
+        Some(place) => hold_at(rows, spares, map, place, id, kept),
         None => {
             hold_other(map, id, kept)?;
             Ok(())
@@ -67,6 +70,7 @@ fn hold(
 // The token is at its place, which is free, or in the map where there is no memory for what is kept of it.
 fn hold_at(
     rows: &mut Vec<Row>,
+    spares: &mut Vec<Parcel>,
     map: &mut HashMap<Key, Kept>,
     place: usize,
     id: Id,
@@ -82,7 +86,7 @@ fn hold_at(
     ensures room { spare map.old ≤ spare map.new + 1 }
     ensures holds { 0 < spare map.old → IsOk result }
 {
-    match put_at(rows, place, id, kept) {
+    match put_at(rows, spares, place, id, kept) {
         Ok(()) => {
             drop_other(map, id);
             Ok(())
@@ -169,6 +173,7 @@ impl Tokens {
     {
         Tokens {
             rows: Vec::new(alloc),
+            spares: Vec::new(alloc),
             map: HashMap::new(alloc),
         }
     }
@@ -209,7 +214,7 @@ impl Tokens {
         ensures holds { 0 < self.old.room → IsOk result }
     {
         make_places(&mut self.rows);
-        hold(&mut self.rows, &mut self.map, id, kept)
+        hold(&mut self.rows, &mut self.spares, &mut self.map, id, kept)
     }
 
     /// Takes out what is held of the token, where it is here. It takes memory only for a token that isn't at a place; out of
@@ -230,13 +235,13 @@ impl Tokens {
         }
     }
 
-    /// Lets the token go, where it is here.
+    /// Lets the token go, where it is here. What was kept of it is dropped; the place of that may stay, for a token to come.
     pub fn let_go(&mut self, id: Id)
         ensures gone { Sets self.old.items self.new.items id None }
         ensures room { self.old.room ≤ self.new.room }
     {
         match own_place(self.rows.as_slice(), id) {
-            Some(place) => clear_at(&mut self.rows, place),
+            Some(place) => clear_at(&mut self.rows, &mut self.spares, place),
             None => drop_other(&mut self.map, id),
         }
     }
