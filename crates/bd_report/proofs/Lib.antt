@@ -3,4 +3,5 @@ pub mod HandleLemmas
 pub mod IndexLemmas
 pub mod OrderLemmas
 pub mod ReportLemmas
+pub mod SuccessLemmas
 pub mod WritingLemmas

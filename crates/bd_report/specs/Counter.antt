@@ -23,4 +23,4 @@ pub record HasCounted (setup : Setup) (entries : List Entry) (counter : Counter)
 abbrev pub HasRoom : List Entry → Counter → Type 0
 HasRoom entries counter =
     (vec_len counter.submitted + count_acts is_accept None entries ≤ vec_capacity counter.submitted) ×
-    (count_acts (is_end Success) None entries ≤ spare counter.successes)
+    (count_acts (is_end Success) None entries ≤ spare counter.successes.others)

@@ -1,5 +1,5 @@
 -- What the index of a trace says: at each key, what the trace says first.
-use Rattle.std.specs.Prelude.{◌≡◌, ℕ, Bool, ◌&&◌, nat_eq, List, Option}
+use Rattle.std.specs.Prelude.{◌≡◌, ℕ, Bool, false, ◌&&◌, ◌||◌, nat_eq, List, [], Option, slice_index_or}
 use Rattle.std.specs.List.{list_any}
 use Rattle.std.specs.HashMap.{HashMap, get}
 use Rattle.std.specs.HashSet.{HashSet, contains}
@@ -8,6 +8,7 @@ use Rattle.bd_base.specs.declared.act.Outcome.{Outcome}
 use Rattle.bd_base.specs.declared.id.ReqId.{ReqId}
 use Rattle.bd_base.specs.declared.request.Shown.{Shown}
 use Rattle.bd_base.specs.declared.request.Status.{Status}
+use Rattle.bd_report.specs.declared.successes.Successes.{Successes}
 use Rattle.bd_report.specs.Report.{first_found, outcome_in, completion_in, digest_in, is_closed, was_told}
 use Rattle.bd_report.specs.Traffic.{has_succeeded}
 
@@ -19,6 +20,15 @@ same_pair a b = nat_eq a.0 b.0 && nat_eq a.1 b.1
 abbrev pub key_of : ReqId → ℕ × ℕ
 key_of request = (request.thread, request.seq)
 
+-- whether the request was noted: by its thread and number, or among the others
+abbrev pub has_noted : Successes → ReqId → Bool
+has_noted s request =
+    slice_index_or (slice_index_or s.by_number request.thread []) request.seq false || contains same_pair s.others (key_of request)
+
+-- whether each request succeeded
+abbrev pub TellsSuccesses : Successes → List Entry → Type 0
+TellsSuccesses s trace = (request : ReqId) → has_noted s request ≡ has_succeeded trace request
+
 module _ {S : Type 0} where
   -- at each thread and line number, the first outcome
   abbrev pub TellsOutcomes : HashMap (ℕ × ℕ) Outcome S → List Entry → Type 0
@@ -27,10 +37,6 @@ module _ {S : Type 0} where
   -- at each request, the first completion
   abbrev pub TellsCompletions : HashMap (ℕ × ℕ) (Status × Option Shown) S → List Entry → Type 0
   TellsCompletions m trace = (request : ReqId) → get same_pair m (key_of request) ≡ first_found (completion_in request) trace
-
-  -- whether each request succeeded
-  abbrev pub TellsSuccesses : HashSet (ℕ × ℕ) S → List Entry → Type 0
-  TellsSuccesses s trace = (request : ReqId) → contains same_pair s (key_of request) ≡ has_succeeded trace request
 
   -- at each device, the first digest
   abbrev pub TellsDigests : HashMap ℕ (List ℕ) S → List Entry → Type 0

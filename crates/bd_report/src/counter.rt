@@ -15,7 +15,6 @@ use crate::successes::{Successes, note_success};
 use crate::traffic::{Traffic, TrafficList, note_if_moved};
 use bd_base::{DevRow, Entry, OutOfMemory, Rows, Setup};
 use std::alloc::Global;
-use std::collections::HashSet;
 
 /// Counts the entries of a run as they come. Contracts see it by the entries that it has counted.
 #[derive(Drop)]
@@ -38,7 +37,7 @@ impl Counter {
             all: Counts::new(),
             sizes: sizes_of(alloc, setup.devices.as_slice())?,
             submitted: Vec::new(alloc),
-            successes: HashSet::new(alloc),
+            successes: Successes::new(alloc, setup.threads)?,
         })
     }
 
@@ -95,7 +94,7 @@ impl Counter {
         let mut devices = no_traffic(*self.submitted.allocator(), sizes.len())?;
         for submitted in self.submitted.as_slice() {
             let request = submitted.request;
-            let has_succeeded = self.successes.contains(&(request.thread, request.seq));
+            let has_succeeded = self.successes.has(request);
             note_if_moved(&mut devices, sizes, submitted, has_succeeded);
         }
         Ok(devices)

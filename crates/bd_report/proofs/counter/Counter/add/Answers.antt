@@ -16,11 +16,11 @@ loop-entry-init c =
             all = before.all;
             sizes = before.sizes;
             submitted = c.reserve.ensures.items ∙ before.submitted;
-            successes = λ request. c.reserve-2.ensures.keys.2 (request.thread, request.seq) ∙ before.successes request;
+            successes = λ request. c.reserve-2.ensures.same request ∙ before.successes request;
           });
       room = (
         omega (arith, c.in_ok-reserve.ensures.ok, ap (λ counts. counts.accepted) c.counts_in-counts.ensures, few_acts is_accept part),
-        omega (arith, c.in_ok-reserve-2.ensures.ok, ap (λ counts. counts.success) c.counts_in-counts.ensures, few_acts (is_end Success) part),
+        omega (arith, c.in_ok-reserve-2.ensures.room, ap (λ counts. counts.success) c.counts_in-counts.ensures, few_acts (is_end Success) part),
       );
     }
 

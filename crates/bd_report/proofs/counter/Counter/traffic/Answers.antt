@@ -30,7 +30,7 @@ loop-submitted-preserved c =
       moved = λ trace tells.
           traffic_step trace items c.args.self.now.sizes i nothing (get_or read i nothing) low
           (ap (λ xs. get_or xs i nothing) c.as_slice-submitted-items.ensures.value) c.as_slice-sizes.ensures
-          (c.contains-has_succeeded.ensures ∙ tells (get_or read i nothing).request) c.note_if_moved.ensures (c.loop-submitted.invariant.moved trace tells);
+          (c.has-has_succeeded.ensures ∙ tells (get_or read i nothing).request) c.note_if_moved.ensures (c.loop-submitted.invariant.moved trace tells);
     }
 
 pub returns : goal.returns
