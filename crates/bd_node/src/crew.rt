@@ -11,9 +11,9 @@ use std::sync::Wait;
 use std::sync::atomic::{AtomicU32, Ordering};
 use std::thread;
 
-/// How many passes in which something moved a reactor makes in a round, at most: what a round did is in the logs until
-/// its end, so a round is short.
-const PASSES: u32 = 16;
+/// After how many turns that moved something a reactor ends a round, once it has ended its pass: what a round did is in
+/// the logs until its end, so a round is short, and it is no longer for a reactor with more seats.
+const MOVES: u32 = 64;
 
 /// What the reactors of a round share: the gate that they pass, how threads are dealt to them, and how many of
 /// them are at work.
@@ -55,9 +55,9 @@ impl<'g, G: Gate> Watch<'g, G> {
 struct Crew<'w, 'g, G> {
     watch: &'w Watch<'g, G>,
     reactor: u32,
-    // how many turns it gave, and how many passes in which something moved it made
+    // how many turns it gave, and in how many of them something moved
     turns: u32,
-    passes: u32,
+    moves: u32,
     // whether it is counted among those at work
     working: bool,
 }
@@ -97,6 +97,7 @@ impl<'w, 'g, G: Gate> Crew<'w, 'g, G> {
         let moved = seats[place].step(rt, alloc, wires);
         if moved {
             self.begin();
+            self.moves = self.moves.saturating_add(1);
         }
         moved
     }
@@ -153,8 +154,7 @@ impl<'w, 'g, G: Gate> Crew<'w, 'g, G> {
         ensures { AllWentOn D.state wires.now seats.old seats.new }
     {
         if self.pass(rt, alloc, wires, seats) {
-            self.passes = self.passes.saturating_add(1);
-            return self.passes < PASSES;
+            return self.moves < MOVES;
         }
         self.rest();
         thread::yield_now();
@@ -182,8 +182,8 @@ impl<'w, 'g, G: Gate> Crew<'w, 'g, G> {
 }
 
 /// The turns that a reactor gives its seats in a round: passes over all of them, until one in which none moved
-/// while no other reactor was at work, or until 16 in which some moved. It gives turns also while it has nothing
-/// to do itself and others have, so that what they send is taken at once.
+/// while no other reactor was at work, or until 64 turns in which something moved, and the end of that pass. It gives
+/// turns also while it has nothing to do itself and others have, so that what they send is taken at once.
 pub(crate) fn give_turns<W: Wait, G: Gate, D: Disk>(
     rt: &W,
     alloc: Global,
@@ -198,7 +198,7 @@ pub(crate) fn give_turns<W: Wait, G: Gate, D: Disk>(
         watch,
         reactor: watch.reactor_of(seats),
         turns: 0,
-        passes: 0,
+        moves: 0,
         working: false,
     };
     crew.begin();

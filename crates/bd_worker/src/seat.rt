@@ -48,17 +48,14 @@ impl<'a, D> Seat<'a, D> {
         passes
     }
 
-    /// What is in its log, which meets this stamp, so that all that comes later is above it. The log is empty then, with
-    /// room for as many entries, where there is memory for them: else it takes memory as it is filled.
+    /// What is in its log, which meets this stamp, so that all that comes later is above it. The log is empty then, and takes
+    /// memory for as many entries with the next ones.
     pub fn hand_out(&mut self, stamp: u128) -> LogPart
         requires { self.old.worker.log.last ≤ stamp }
         ensures handed { result ≡ log_part self.old.worker.log }
         ensures out { IsHandedOut stamp self.old self.new }
     {
         self.worker.log.meet(stamp);
-        let part = self.worker.log.hand_out();
-        let room = u32::try_from(part.len()).unwrap_or(0);
-        let _reserved = self.worker.log.reserve(room);
-        part
+        self.worker.log.hand_out()
     }
 }

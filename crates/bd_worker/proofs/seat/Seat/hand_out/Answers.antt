@@ -4,19 +4,17 @@ use Rattle.bd_log.specs.Log.{log_part, IsWithin, Written}
 use Rattle.bd_worker.proofs.seat.Seat.hand_out.Goals as goal
 
 pub returns-clause-handed : goal.returns-clause-handed
-returns-clause-handed g c = c.hand_out-part.ensures.handed ∙ ap log_part c.meet.ensures
+returns-clause-handed g c = c.hand_out.ensures.handed ∙ ap log_part c.meet.ensures
 
 pub returns-clause-out : goal.returns-clause-out
 returns-clause-out g c =
     let old = c.args.self.now in
     let top : max old.worker.log.last c.args.stamp ≡ c.args.stamp = omega (arith, c.requires) in
     let met : c.meet.new.self ≡ record old.worker.log { last = c.args.stamp } = c.meet.ensures ∙ ap (λ (n : ℕ). record old.worker.log { last = n }) top in
-    let handed = c.hand_out-part.new.self in
-    let log = c.reserve-reserved.new.self in
+    let handed = c.hand_out.new.self in
     record {
       is =
           ap (λ (l : Written). record old { worker = record old.worker { log = l } })
-          (c.reserve-reserved.ensures.same
-          ∙ ap (λ (l : Written). record l { capacity = log.capacity }) (c.hand_out-part.ensures.left ∙ ap (λ (l : Written). record l { entries = []; capacity = handed.capacity }) met));
-      within = subst (λ (l : Written). IsWithin l.last l.entries) met c.hand_out-part.ensures.within;
+          (c.hand_out.ensures.left ∙ ap (λ (l : Written). record l { entries = []; capacity = handed.capacity }) met);
+      within = subst (λ (l : Written). IsWithin l.last l.entries) met c.hand_out.ensures.within;
     }
