@@ -214,13 +214,16 @@ def stacks(dice):
     names = ["M", "N", "P", "Q", "Mp0", "Mp1", "Pp0", "Mp1p0"]
     calls = []
     for _ in range(2 + dice.below(7)):
-        kind = dice.below(4)
+        kind = dice.below(5)
         if kind == 0:
             calls.append(malloc(dice.of(names[:3]), num_blocks=dice.of([1, 2, 3, 64, 65, 2048, 4097, 2097152]), optimal_io_boundary=dice.of([0, 8, 9])))
         elif kind == 3:
             calls.append(null(dice.of(names[:3]), num_blocks=dice.of([1, 3, 65, 2048, 1 << 40, 1 << 40, (1 << 40) - 1]), optimal_io_boundary=dice.of([0, 8])))
         elif kind == 1:
             calls.append({"method": "bdev_passthru_create", "params": {"base_bdev_name": dice.of(names), "name": dice.of(names)}})
+        elif kind == 4:
+            latencies = {"%s_%s_latency" % (of, way): dice.of([0, 1, 2] if of == "avg" else [1, 2, 3]) for way in ("read", "write") for of in ("avg", "p99")}
+            calls.append({"method": "bdev_delay_create", "params": {"base_bdev_name": dice.of(names), "name": dice.of(names), **latencies}})
         else:
             params = {"base_bdev": dice.of(names), "split_count": dice.of([1, 2, 3, 64]), "split_size_mb": dice.of([0, 0, 1, 2, 1048576])}
             calls.append({"method": "bdev_split_create", "params": params})

@@ -294,9 +294,8 @@ def split(call):
 
 
 def delay(call):
-    call.name("base_bdev_name"), call.name("name")
-    for key in ("avg_read_latency", "p99_read_latency", "avg_write_latency", "p99_write_latency"):
-        call.whole(key, 0, U64)
+    ways = [[call.whole("%s_%s_latency" % (of, way), 0, U64) for of in ("avg", "p99")] for way in ("read", "write")]
+    return ("delay", call.name("base_bdev_name"), call.name("name"), all(average <= p99 for average, p99 in ways))
 
 
 def error(call):
@@ -412,7 +411,7 @@ class Devices:
         if command[0] == "aio":
             return [(command[1], (disk_blocks(command[2], command[3]), command[3], 1))]
         blocks, size, layers = self.made[command[1]][:3]
-        if command[0] == "passthru":
+        if command[0] in ("passthru", "delay"):
             return [(command[2], (blocks, size, layers + 1))]
         count, megabytes = command[2], command[3]
         each = (megabytes << 20) // size if megabytes else blocks // count
@@ -428,6 +427,8 @@ class Devices:
             raise Refused(CLAIMED)
         memory = self.memory + (command[2] * command[3] if command[0] == "malloc" else 0)
         names_fit = all(len(name) <= MOST_NAME for name, _ in rows)
+        if command[0] == "delay" and not command[3]:
+            raise Refused(TOO_MUCH)
         if command[0] == "aio" and not 1 <= rows[0][1][0] <= 1 << 40:
             raise Refused(TOO_MUCH)
         if not rows or not names_fit or memory > MOST_MEMORY or len(self.made) + len(rows) > MOST_DEVICES or rows[0][1][2] > MOST_LAYERS:
@@ -510,7 +511,7 @@ SHAPES = {
     b"gone": [is_name],
 }
 SUBMITS = (b"read", b"write", b"zeroes", b"unmap", b"flush", b"reset", b"abort")
-UNBUILT = (b"reset", b"abort", b"sleep")
+UNBUILT = (b"reset", b"abort")
 
 
 def is_command(word, rest, thread, submitted):

@@ -14,7 +14,7 @@ Made = namedtuple("Made", "text threads devices plan exact")
 Device = namedtuple("Device", "name blocks size kind base", defaults=("malloc", None))
 
 MOST_BYTES = 262144
-# All requests of a script together move at most so many bytes, but for one block each.
+# The bytes that all requests of a script together move at most, but for one block each.
 BYTES_IN_ALL = 1 << 20
 # How many pieces the queue of a device takes. What a report may say doesn't depend on it.
 DEPTHS = (1, 128, 2, 3, 1, 8, 1024)

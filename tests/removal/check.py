@@ -21,7 +21,7 @@ import re
 PERM, BADF, BUSY, EXIST, NODEV, INVAL = 1, 9, 16, 17, 19, 22
 MOST_BYTES = 262144
 MOST_OPEN = 1024
-# Blocks that several orders leave different are tried in so many ways at most, and over so many bytes.
+# In how many ways at most, and over how many bytes, blocks are tried that several orders leave different.
 MOST_WAYS = 1 << 14
 MOST_HASHED = 1 << 26
 # An order of opens, claims and closes is looked for in at most so many steps.
@@ -781,7 +781,7 @@ class Check:
         """What a block may hold for a read, or at the end, where `read` is None."""
         had_ended = lambda line: line.ended is not None and (read is None or self.is_before(line.ended, read))
         is_later = lambda line: read is not None and read.ended is not None and self.is_before(read.ended, line)
-        # Of each thread, so many lines had certainly come before a write that had ended before the read.
+        # Of each thread, how many lines had certainly come before a write that had ended before the read.
         covered, is_written = [0] * self.threads, False
         for lines, _ in writes.values():
             last = next((line for line in reversed(lines) if had_ended(line)), None)

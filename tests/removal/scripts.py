@@ -21,7 +21,7 @@ MOST_LAYERS = 8
 MOST_OPEN = 1024
 MOST_BYTES = 262144
 MOST_LINES = 20000
-# All requests of a script together move at most so many bytes, but for one block each.
+# The bytes that all requests of a script together move at most, but for one block each.
 BYTES_IN_ALL = 4 << 20
 # How many pieces the queue of a base device takes; where it isn't said, 128. What a report may say doesn't depend on it.
 DEPTHS = (1, None, 2, 3, 1, 8, 1024)

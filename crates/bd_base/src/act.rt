@@ -7,7 +7,7 @@ use crate::request::{AbortCause, Decision, Errno, Op, Shown, Status, WalkKind};
 use crate::thread_set::ThreadSet;
 
 /// What a message brings.
-#[derive(Debug, Drop)]
+#[derive(Drop)]
 pub enum Token {
     Request(ReqId),
     /// A piece of a request, by its place from 0.
@@ -26,7 +26,7 @@ pub enum Token {
 }
 
 /// How the home ended a piece.
-#[derive(Clone, Copy, Debug, PartialEq, Eq)]
+#[derive(Clone, Copy, PartialEq, Eq)]
 pub enum ApplyEnd {
     Done,
     /// The disk failed.
@@ -34,7 +34,7 @@ pub enum ApplyEnd {
 }
 
 /// The outcome of a script's line.
-#[derive(Clone, Copy, Debug, PartialEq, Eq)]
+#[derive(Clone, Copy, PartialEq, Eq)]
 pub enum Outcome {
     Done,
     Errno(Errno),
@@ -44,7 +44,7 @@ pub enum Outcome {
 }
 
 /// What a thread did.
-#[derive(Debug, Drop)]
+#[derive(Drop)]
 pub enum Act {
     /// A message left for a thread's ring. Messages are numbered from 0 by sender and receiver.
     Put {
@@ -161,7 +161,7 @@ pub enum Act {
 }
 
 /// A line of a thread's log. Stamps rise in each log, beginning at 1 or above.
-#[derive(Debug, Drop)]
+#[derive(Drop)]
 pub struct Entry {
     pub stamp: u128,
     pub thread: u32,

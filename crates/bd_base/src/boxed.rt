@@ -7,7 +7,7 @@ use std::alloc::Global;
 use std::marker::Model;
 
 /// A value with a place of its own, seen as the value: what holds it is as narrow as a pointer.
-#[derive(Debug, Drop)]
+#[derive(Drop)]
 pub struct Boxed<T> {
     place: Box<T>,
 }

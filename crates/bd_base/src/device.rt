@@ -6,7 +6,7 @@ use crate::id::DevId;
 use crate::name::Name;
 
 /// What a device is. Malloc, null and aio devices are bases; the others stand on one.
-#[derive(Clone, Copy, Debug, PartialEq, Eq)]
+#[derive(Clone, Copy, PartialEq, Eq)]
 pub enum Kind {
     /// Memory, zeros at first.
     Malloc,
@@ -48,7 +48,7 @@ impl Kind {
 }
 
 /// A device.
-#[derive(Debug, Drop)]
+#[derive(Drop)]
 pub struct DevRow {
     pub name: Name,
     pub kind: Kind,
@@ -69,7 +69,7 @@ pub struct DevRow {
 }
 
 /// The limits of a device, by SPDK's names; 0 is no limit.
-#[derive(Clone, Copy, Debug, PartialEq, Eq)]
+#[derive(Clone, Copy, PartialEq, Eq)]
 pub struct Rates {
     /// Reads and writes per second, at most 1,000,000,000.
     pub rw_ios_per_sec: u64,
@@ -80,7 +80,7 @@ pub struct Rates {
 }
 
 /// Limits to set; none leaves a limit as it was.
-#[derive(Clone, Copy, Debug, PartialEq, Eq)]
+#[derive(Clone, Copy, PartialEq, Eq)]
 pub struct RateSet {
     pub rw_ios_per_sec: Option<u64>,
     pub rw_mbytes_per_sec: Option<u64>,
@@ -100,7 +100,7 @@ pub enum ErrKind {
 }
 
 /// Types of request, for an injection.
-#[derive(Clone, Copy, Debug, PartialEq, Eq)]
+#[derive(Clone, Copy, PartialEq, Eq)]
 pub struct IoSet {
     pub read: bool,
     pub write: bool,
@@ -110,14 +110,14 @@ pub struct IoSet {
 }
 
 /// An injected error, and for how many requests it is left.
-#[derive(Clone, Copy, Debug, PartialEq, Eq)]
+#[derive(Clone, Copy, PartialEq, Eq)]
 pub struct Injection {
     pub kind: ErrKind,
     pub left: u32,
 }
 
 /// What an error device injects, by the type of the request.
-#[derive(Clone, Copy, Debug, PartialEq, Eq)]
+#[derive(Clone, Copy, PartialEq, Eq)]
 pub struct Injections {
     pub read: Injection,
     pub write: Injection,

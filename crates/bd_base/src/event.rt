@@ -30,7 +30,7 @@ pub enum Dropped {
 }
 
 /// What is asked of the registry.
-#[derive(Debug, Drop)]
+#[derive(Drop)]
 pub enum RegEvent {
     Open { name: Name, write: bool },
     Close { handle: HandleId },
@@ -48,7 +48,7 @@ pub enum RegEvent {
 }
 
 /// What the registry answers.
-#[derive(Debug, Drop)]
+#[derive(Drop)]
 pub enum Answer {
     Opened {
         handle: HandleId,

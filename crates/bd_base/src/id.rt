@@ -1,7 +1,7 @@
 //! What names a thread, a device, a handle, a request and a walk.
 
 /// A thread, by its number: 0 and on, below the number of threads of the run (at most 16).
-#[derive(Clone, Copy, Debug, PartialEq, Eq)]
+#[derive(Clone, Copy, PartialEq, Eq)]
 pub struct ThreadId(pub u32);
 
 /// A device, by its place in the order of making: 0 and on, at most 256 devices.

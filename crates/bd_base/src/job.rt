@@ -8,7 +8,7 @@ use crate::request::Op;
 use crate::rows::{NameList, Rows};
 
 /// What a script's line asks.
-#[derive(Debug, Drop)]
+#[derive(Drop)]
 pub enum Job {
     /// Opens a device, for reading or for writing too, and binds the name to the handle.
     Open {
@@ -84,21 +84,21 @@ fn submit_word(op: &Op) -> &'static str
 }
 
 /// A line with its number in the file, from 1.
-#[derive(Debug, Drop)]
+#[derive(Drop)]
 pub struct Line {
     pub number: u32,
     pub job: Job,
 }
 
 /// The lines of one thread, in the order of their numbers.
-#[derive(Debug, Drop)]
+#[derive(Drop)]
 pub struct Script {
     pub thread: u32,
     pub lines: Rows<Line>,
 }
 
 /// What a script's next move goes by, as its thread sees it at one moment.
-#[derive(Debug, Drop)]
+#[derive(Drop)]
 pub struct View {
     /// This moment, in microseconds.
     pub now: u64,

@@ -3,7 +3,7 @@ use crate::device::{DevRow, Injections, Rates};
 use crate::rows::Rows;
 
 /// That from which a journal begins.
-#[derive(Debug, Drop)]
+#[derive(Drop)]
 pub struct Start {
     pub threads: u32,
     pub devices: Rows<DevRow>,

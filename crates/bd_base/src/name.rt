@@ -11,7 +11,7 @@ use std::marker::Model;
 const SHORT: usize = 7;
 
 /// A name, seen as its list of bytes. One of at most 7 bytes lies in the value itself.
-#[derive(Debug, Drop)]
+#[derive(Drop)]
 pub struct Name {
     // how many bytes of the short part are the name's; where there is a long part, none is
     len: u8,

@@ -84,7 +84,7 @@ pub enum Op {
 }
 
 /// The two ways that limits and latencies count.
-#[derive(Clone, Copy, Debug, PartialEq, Eq)]
+#[derive(Clone, Copy, PartialEq, Eq)]
 pub enum Way {
     Read,
     Write,
@@ -113,7 +113,7 @@ pub enum WalkKind {
 }
 
 /// Why a request was aborted.
-#[derive(Clone, Copy, Debug, PartialEq, Eq)]
+#[derive(Clone, Copy, PartialEq, Eq)]
 pub enum AbortCause {
     /// A device under it is being reset.
     Frozen(DevId),
@@ -124,7 +124,7 @@ pub enum AbortCause {
 }
 
 /// What a read showed: its first 8 bytes, and the SHA-256 of all its data.
-#[derive(Clone, Copy, Debug, PartialEq, Eq)]
+#[derive(Clone, Copy, PartialEq, Eq)]
 pub struct Shown {
     pub first: [u8; 8],
     pub digest: [u8; 32],

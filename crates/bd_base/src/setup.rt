@@ -5,7 +5,7 @@ use crate::name::Name;
 use crate::rows::Rows;
 
 /// A command whose base never came, by its place among the commands.
-#[derive(Debug, Drop)]
+#[derive(Drop)]
 pub struct Waiting {
     pub index: u32,
     pub method: Name,
@@ -14,7 +14,7 @@ pub struct Waiting {
 
 /// What a configuration and a script mean together. Devices, rates and injections go by device
 /// number; scripts are of different threads.
-#[derive(Debug, Drop)]
+#[derive(Drop)]
 pub struct Setup {
     pub threads: u32,
     pub devices: Rows<DevRow>,

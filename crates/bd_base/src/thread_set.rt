@@ -6,7 +6,7 @@ ghost use Rattle.bd_base.specs.ThreadSet.{Has, IsFirst};
 use crate::id::ThreadId;
 
 /// A set of threads below 16: bit t is thread t.
-#[derive(Clone, Copy, Debug, PartialEq, Eq)]
+#[derive(Clone, Copy, PartialEq, Eq)]
 pub struct ThreadSet(pub u16);
 
 impl ThreadSet {

@@ -1,5 +1,4 @@
 pub mod Left
-pub mod Moving
 pub mod Cutting
 pub mod Starting
 pub mod Kept
@@ -8,3 +7,4 @@ pub mod Places
 pub mod Runs
 pub mod Bits
 pub mod Written
+pub mod Same

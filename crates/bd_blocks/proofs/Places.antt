@@ -1,7 +1,7 @@
--- The first item of a list that passes a test, by its place: found, and changed.
-use Rattle.std.proofs.Common.{◌≡◌, ℕ, suc, ◌+◌, ◌<◌, ◌≤◌, Bool, true, false, cond, not, List, [], ◌∷◌, length, get_or, set, nat_lt, ltb-true, ltb-false, Some, None, refl, sym, ◌∙◌, ap, subst, arith}
+-- The first item of a list that passes a test, by its place: found, changed, and taken out.
+use Rattle.std.proofs.Common.{◌≡◌, ℕ, suc, ◌+◌, ◌<◌, ◌≤◌, Bool, true, false, cond, not, List, [], ◌∷◌, ◌++◌, length, get_or, set, take, drop, nat_lt, ltb-true, ltb-false, Some, None, refl, sym, ◌∙◌, ap, subst, arith}
 use Rattle.std.specs.List.{find, position, position_or_len}
-use Rattle.bd_machine.specs.Table.{change_first}
+use Rattle.bd_machine.specs.Table.{change_first, without_first}
 
 module _ {X : Type 0} (is : X → Bool) where
   -- how many items stand before the first that passes
@@ -108,3 +108,35 @@ module _ {X : Type 0} (is : X → Bool) where
   -- where there is no place none is changed
   pub not_found : (f : X → X) (xs : List X) → position is xs ≡ None → xs ≡ change_first is f xs
   not_found f xs e = kept_before f xs (is_past xs e)
+
+  removed_before : (xs : List X) → before xs < length xs → take (before xs) xs ++ drop (suc (before xs)) xs ≡ without_first is xs
+  removed_before [] h = absurd (omega arith)
+  removed_before (x ∷ xs) h = go (is x) h (removed_before xs)
+    where
+      go : (b : Bool) → cond (not b) (suc (before xs)) 0 < suc (length xs)
+          → (before xs < length xs → take (before xs) xs ++ drop (suc (before xs)) xs ≡ without_first is xs)
+          → take (cond (not b) (suc (before xs)) 0) (x ∷ xs) ++ drop (suc (cond (not b) (suc (before xs)) 0)) (x ∷ xs) ≡ cond b xs (x ∷ without_first is xs)
+      go true l ih = refl
+      go false l ih = ap (λ zs. x ∷ zs) (ih (low (before xs) (length xs) l))
+
+  -- what stands at the place is taken out: the first that passes is
+  pub remove_found : (xs : List X) (i : ℕ) → position is xs ≡ Some i → take i xs ++ drop (suc i) xs ≡ without_first is xs
+  remove_found xs i e =
+      let p = placed xs i e in
+      subst (λ (n : ℕ). take n xs ++ drop (suc n) xs ≡ without_first is xs) p.0 (removed_before xs p.1)
+
+  all_left_before : (xs : List X) → length xs ≤ before xs → xs ≡ without_first is xs
+  all_left_before [] h = refl
+  all_left_before (x ∷ xs) h = go (is x) h (all_left_before xs)
+    where
+      go : (b : Bool) → suc (length xs) ≤ cond (not b) (suc (before xs)) 0 → (length xs ≤ before xs → xs ≡ without_first is xs) → x ∷ xs ≡ cond b xs (x ∷ without_first is xs)
+      go true l ih = absurd (none (length xs) l)
+      go false l ih = ap (λ zs. x ∷ zs) (ih (low_le (length xs) (before xs) l))
+
+  -- where there is no place none is taken out
+  pub none_to_remove : (xs : List X) → position is xs ≡ None → xs ≡ without_first is xs
+  none_to_remove xs e = all_left_before xs (is_past xs e)
+
+  -- the place is one of the list's
+  pub found_below : (xs : List X) (i : ℕ) → position is xs ≡ Some i → i < length xs
+  found_below xs i e = let p = placed xs i e in subst (λ (n : ℕ). n < length xs) p.0 p.1

@@ -1,9 +1,9 @@
 //! The limits of devices.
 ghost use Rattle.std.specs.Prelude.{◌≡◌};
 ghost use Rattle.bd_machine.specs.Budget.{bytes_in_slice, one_quota, quotas_of, requests_in_slice};
-ghost use Rattle.bd_machine.specs.Limits.{counts_both, counts_way, is_limited, rates_of};
+ghost use Rattle.bd_machine.specs.Limits.{counts_both, counts_way, is_limited, rates_of, way_of};
 
-use bd_base::{DevId, Rates, Setup, Way};
+use bd_base::{DevId, Op, Rates, Setup, Way};
 use bd_machine::Left;
 
 const NO_LIMIT: Rates = Rates {
@@ -27,6 +27,17 @@ fn counts_both(rates: Rates) -> bool
     ensures { result ≡ counts_both rates }
 {
     rates.rw_ios_per_sec > 0 || rates.rw_mbytes_per_sec > 0
+}
+
+/// The way by which limits and latencies count a type; none but for reads and writes.
+pub fn way_of(op: Op) -> Option<Way>
+    ensures { result ≡ way_of op }
+{
+    match op {
+        Op::Read => Some(Way::Read),
+        Op::Write(_) => Some(Way::Write),
+        _ => None,
+    }
 }
 
 /// Whether some limit counts requests of this way.

@@ -7,7 +7,7 @@ use bd_config::Command;
 use bd_stack::{blocks_of, number_named, size_of};
 
 /// A device as a base: its number, its blocks and the bytes of each.
-#[derive(Clone, Copy, Debug, PartialEq, Eq)]
+#[derive(Clone, Copy, PartialEq, Eq)]
 pub(crate) struct Base {
     pub(crate) dev: DevId,
     pub(crate) blocks: u64,

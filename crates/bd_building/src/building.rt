@@ -4,13 +4,13 @@ ghost use Rattle.bd_base.specs.declared.request.Errno.{Errno as Cause};
 ghost use Rattle.bd_building.specs.Progress.{Progress, begun, finished, nothing_yet, ready, resumed, settled, stepped, with_setup};
 ghost use Rattle.bd_building.specs.Made.{made};
 ghost use Rattle.bd_devices.specs.Registered.{AreToldApart};
-ghost use Rattle.bd_laws.specs.Standing.{StandsOnEarlier};
+ghost use Rattle.bd_machine.specs.BlockMap.{StandsOnEarlier};
 
 use crate::made::make;
 use crate::waiter::{Waiter, all_waiting, must_wait};
 use bd_base::{Errno, OutOfMemory, Rows, Script, Setup};
 use bd_config::Command;
-use bd_devices::{Devices, RegisterNo};
+use bd_devices::{Devices, RegisterError};
 use std::alloc::Global;
 use std::error::Error;
 use std::fmt;
@@ -18,7 +18,7 @@ use std::marker::Model;
 
 /// Why commands weren't done.
 #[derive(Clone, Copy, Debug, PartialEq, Eq)]
-pub enum BuildNo {
+pub enum BuildError {
     /// There was no memory.
     OutOfMemory,
     /// The command of this index, from 0, is refused, with the first cause that holds: `Exists` where
@@ -28,27 +28,27 @@ pub enum BuildNo {
     Refused { index: u32, errno: Errno },
 }
 
-impl fmt::Display for BuildNo {
+impl fmt::Display for BuildError {
     fn fmt<W: fmt::Write>(&self, f: &mut fmt::Formatter<W>) -> fmt::Result {
         match self {
-            BuildNo::OutOfMemory => write!(f, "out of memory"),
-            BuildNo::Refused { index, errno } => {
+            BuildError::OutOfMemory => write!(f, "out of memory"),
+            BuildError::Refused { index, errno } => {
                 write!(f, "command {index} refused with errno {}", errno.number())
             }
         }
     }
 }
 
-impl Error for BuildNo {}
+impl Error for BuildError {}
 
-impl From<OutOfMemory> for BuildNo {
+impl From<OutOfMemory> for BuildError {
     ghost use Rattle.std.specs.Prelude.{◌≡◌};
-    ghost use Rattle.bd_building.specs.declared.building.BuildNo.TheVariants as causes;
+    ghost use Rattle.bd_building.specs.declared.building.BuildError.TheVariants as causes;
 
-    ghost from_gives = { λ _ no. no ≡ causes.OutOfMemory };
+    ghost from_gives = { λ _ error. error ≡ causes.OutOfMemory };
 
-    fn from(_e: OutOfMemory) -> BuildNo {
-        BuildNo::OutOfMemory
+    fn from(_e: OutOfMemory) -> BuildError {
+        BuildError::OutOfMemory
     }
 }
 
@@ -95,9 +95,9 @@ impl Building {
         index: u32,
         command: Command,
         disk: u64,
-    ) -> Result<Building, BuildNo>
+    ) -> Result<Building, BuildError>
         ensures ok { IfOk result (λ b. stepped self index command disk ≡ Ok b) }
-        ensures refused { (i : ℕ) (errno : Cause) → IsErrOf result (BuildNo.Refused i errno) → stepped self index command disk ≡ Err (i, errno) }
+        ensures refused { (i : ℕ) (errno : Cause) → IsErrOf result (BuildError.Refused i errno) → stepped self index command disk ≡ Err (i, errno) }
         ensures threads { IfOk result (λ b. b.setup.threads ≡ self.setup.threads) }
     {
         let mut building = self;
@@ -127,9 +127,9 @@ impl Building {
         index: u32,
         command: Command,
         disk: u64,
-    ) -> Result<(), BuildNo>
+    ) -> Result<(), BuildError>
         ensures ok { OnOk result (begun self.old index command disk ≡ Ok self.new) }
-        ensures refused { (i : ℕ) (errno : Cause) → IsErrOf result (BuildNo.Refused i errno) → begun self.old index command disk ≡ Err (i, errno) }
+        ensures refused { (i : ℕ) (errno : Cause) → IsErrOf result (BuildError.Refused i errno) → begun self.old index command disk ≡ Err (i, errno) }
     {
         if must_wait(self.devices.as_setup(), &command) {
             self.waiting.push(Waiter { index, command })?;
@@ -144,16 +144,16 @@ impl Building {
         index: u32,
         command: &Command,
         disk: u64,
-    ) -> Result<(), BuildNo>
+    ) -> Result<(), BuildError>
         ensures ok { OnOk result (with_setup self.old index (made self.old.setup command.now disk) ≡ Ok self.new) }
-        ensures refused { (i : ℕ) (errno : Cause) → IsErrOf result (BuildNo.Refused i errno)
+        ensures refused { (i : ℕ) (errno : Cause) → IsErrOf result (BuildError.Refused i errno)
             → with_setup self.old index (made self.old.setup command.now disk) ≡ Err (i, errno) }
         ensures waiting { OnOk result (self.new.waiting ≡ self.old.waiting) }
     {
         match make(alloc, &mut self.devices, command, disk) {
             Ok(()) => Ok(()),
-            Err(RegisterNo::OutOfMemory) => Err(BuildNo::OutOfMemory),
-            Err(RegisterNo::Refused(errno)) => Err(BuildNo::Refused { index, errno }),
+            Err(RegisterError::OutOfMemory) => Err(BuildError::OutOfMemory),
+            Err(RegisterError::Refused(errno)) => Err(BuildError::Refused { index, errno }),
         }
     }
 
@@ -170,10 +170,10 @@ impl Building {
     }
 
     // Does a command that waits, which waits no longer.
-    fn resume(&mut self, alloc: Global, place: usize) -> Result<(), BuildNo>
+    fn resume(&mut self, alloc: Global, place: usize) -> Result<(), BuildError>
         requires { place < length self.old.waiting }
         ensures ok { OnOk result (resumed self.old place (slice_get self.old.waiting place) ≡ Ok self.new) }
-        ensures refused { (i : ℕ) (errno : Cause) → IsErrOf result (BuildNo.Refused i errno)
+        ensures refused { (i : ℕ) (errno : Cause) → IsErrOf result (BuildError.Refused i errno)
             → resumed self.old place (slice_get self.old.waiting place) ≡ Err (i, errno) }
         ensures fewer { OnOk result (length self.new.waiting + 1 ≡ length self.old.waiting) }
     {
@@ -182,9 +182,9 @@ impl Building {
     }
 
     // Does the commands that wait, each once its base stands.
-    fn settle(&mut self, alloc: Global) -> Result<(), BuildNo>
+    fn settle(&mut self, alloc: Global) -> Result<(), BuildError>
         ensures ok { OnOk result (settled self.old ≡ Ok self.new) }
-        ensures refused { (i : ℕ) (errno : Cause) → IsErrOf result (BuildNo.Refused i errno) → settled self.old ≡ Err (i, errno) }
+        ensures refused { (i : ℕ) (errno : Cause) → IsErrOf result (BuildError.Refused i errno) → settled self.old ≡ Err (i, errno) }
     {
         while let Some(place) = self.ready() {
             self.resume(alloc, place)?;

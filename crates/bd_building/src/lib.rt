@@ -11,5 +11,5 @@ mod rows;
 mod served;
 mod waiter;
 
-pub use building::{BuildNo, Building};
+pub use building::{BuildError, Building};
 pub use served::{first_unserved, is_served};

@@ -5,7 +5,7 @@ ghost use Rattle.bd_building.specs.Served.{first_unserved, is_served};
 use bd_config::Command;
 
 /// Whether the program serves what a command asks for as yet: a malloc, a null or an aio device, one
-/// that stands on another and only hands on, or what is ignored.
+/// that stands on another and only hands on or delays, or what is ignored.
 pub fn is_served(command: &Command) -> bool
     ensures { result ≡ is_served command.now }
 {
@@ -15,6 +15,7 @@ pub fn is_served(command: &Command) -> bool
         | Command::Aio { .. }
         | Command::Passthru { .. }
         | Command::Split { .. }
+        | Command::Delay { .. }
         | Command::PassedOver => true,
         _ => false,
     }

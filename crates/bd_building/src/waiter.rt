@@ -9,7 +9,7 @@ use bd_stack::device_named;
 use std::alloc::Global;
 
 /// A command that waits, with its place among the commands.
-#[derive(Debug, Drop)]
+#[derive(Drop)]
 pub struct Waiter {
     pub(crate) index: u32,
     pub(crate) command: Command,

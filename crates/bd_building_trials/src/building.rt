@@ -5,7 +5,7 @@ use bd_base::{
     DevRow, ErrKind, Injections, IoSet, Kind, Name, OutOfMemory, RateSet, Rates, Rows, Setup,
     Waiting,
 };
-use bd_building::{BuildNo, Building, first_unserved};
+use bd_building::{BuildError, Building, first_unserved};
 use bd_config::Command;
 use std::alloc::Global;
 
@@ -97,7 +97,7 @@ fn commands(alloc: Global, steps: &str) -> Result<Vec<Command>, OutOfMemory> {
 }
 
 // What commands make one by one, where each file that is opened has this number of blocks.
-fn made(alloc: Global, disk: u64, commands: Vec<Command>) -> Result<Building, BuildNo> {
+fn made(alloc: Global, disk: u64, commands: Vec<Command>) -> Result<Building, BuildError> {
     let mut building = Building::new(alloc, 1);
     let mut index = 0u32;
     for command in commands {
@@ -128,11 +128,11 @@ fn served(alloc: Global, commands: &[Command]) -> Result<String, OutOfMemory> {
     }
 }
 
-fn told(alloc: Global, built: Result<Building, BuildNo>) -> Result<String, OutOfMemory> {
+fn told(alloc: Global, built: Result<Building, BuildError>) -> Result<String, OutOfMemory> {
     match built {
         Ok(building) => setup_told(alloc, &building.finish(alloc, Rows::new(alloc))?),
-        Err(BuildNo::OutOfMemory) => Err(OutOfMemory),
-        Err(BuildNo::Refused { index, errno }) => {
+        Err(BuildError::OutOfMemory) => Err(OutOfMemory),
+        Err(BuildError::Refused { index, errno }) => {
             let number = errno.number();
             Ok(format!(in alloc; "command {index} refused: -{number}")?)
         }

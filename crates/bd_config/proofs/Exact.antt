@@ -5,10 +5,10 @@ use Rattle.std.specs.List.{list_all}
 use Rattle.std.proofs.lemmas.Option.{none-some}
 use Rattle.serde_json.specs.Data.{Data}
 use Rattle.bd_config.specs.Shape.{subsystems_of, is_subsystem}
-use Rattle.bd_config.specs.Config.{IsJson, HasShape, first_outside, shape_fault, IsShapeNo, answers_of, AsksFor, IsConfig, first_refused, Refuses, IsMethodNo}
+use Rattle.bd_config.specs.Config.{IsJson, HasShape, first_outside, shape_fault, IsShapeError, answers_of, AsksFor, IsConfig, first_refused, Refuses, IsMethodError}
 use Rattle.bd_config.specs.declared.command.Command.{Command}
-use Rattle.bd_config.specs.declared.config.ConfigNo.{ConfigNo}
-use Rattle.bd_config.specs.declared.config.ConfigNo.TheVariants.{OutOfMemory, Text, Shape, Method}
+use Rattle.bd_config.specs.declared.config.ConfigError.{ConfigError}
+use Rattle.bd_config.specs.declared.config.ConfigError.TheVariants.{OutOfMemory, Text, Shape, Method}
 use Rattle.bd_config.proofs.CommandLemmas.{none_refused, commands_same}
 
 abbrev some_or : {X : Type 0} → X → Option X → X
@@ -48,24 +48,24 @@ config_once bytes a b p q =
     let e : answers_of p.asks.subsystems ≡ answers_of asks.subsystems = ap answers_of (same_subsystems p.value _ _ p.asks.shape asks.shape) in
     commands_same a b (sym p.asks.each ∙ e ∙ asks.each)
 
-pub config_has_shape : (bytes : List ℕ) (commands : List Command) (place : ℕ) → IsConfig bytes commands → IsShapeNo bytes place → ⊥
+pub config_has_shape : (bytes : List ℕ) (commands : List Command) (place : ℕ) → IsConfig bytes commands → IsShapeError bytes place → ⊥
 config_has_shape bytes commands place p q =
     let e : subsystems_of q.value ≡ Some p.asks.subsystems = ap subsystems_of (same_value bytes _ _ q.json p.json) ∙ p.asks.shape.found in
     none-some place (sym (none_outside 1 p.asks.subsystems p.asks.shape.each) ∙ sym (ap shape_fault e) ∙ q.first)
 
-pub config_has_commands : (bytes : List ℕ) (commands : List Command) (index : ℕ) (code : ℤ) → IsConfig bytes commands → IsMethodNo bytes index code → ⊥
+pub config_has_commands : (bytes : List ℕ) (commands : List Command) (index : ℕ) (code : ℤ) → IsConfig bytes commands → IsMethodError bytes index code → ⊥
 config_has_commands bytes commands index code p q =
     let refuses : Refuses p.value index code = subst (λ v. Refuses v index code) (same_value bytes _ _ q.json p.json) q.refuses in
     let e : answers_of p.asks.subsystems ≡ answers_of refuses.subsystems = ap answers_of (same_subsystems p.value _ _ p.asks.shape refuses.shape) in
     none-some (index, code) (sym (none_refused 0 commands) ∙ ap (first_refused 0) (sym p.asks.each ∙ e) ∙ refuses.first)
 
 -- commands that the answers give make the value a configuration that asks for them
-pub asks_if_read : {V : Type 0} (items : V → List Command) (r : Result V ConfigNo) (value : Data) (subsystems : List Data) → HasShape value subsystems → IfOk r (λ v. answers_of subsystems ≡ map Ok (items v)) → IfOk r (λ v. AsksFor value (items v))
+pub asks_if_read : {V : Type 0} (items : V → List Command) (r : Result V ConfigError) (value : Data) (subsystems : List Data) → HasShape value subsystems → IfOk r (λ v. answers_of subsystems ≡ map Ok (items v)) → IfOk r (λ v. AsksFor value (items v))
 asks_if_read items (Ok v) value subsystems shape each = record { subsystems = subsystems; shape = shape; each = each }
 asks_if_read items (Err fault) value subsystems shape each = tt
 
 -- whatever is read of a configuration is what it asks for, and only memory can be wanting
-pub reads_what_is_asked : {V : Type 0} (items : V → List Command) (bytes : List ℕ) (r : Result V ConfigNo) (value : Data) → IsJson bytes value → IfOk r (λ v. AsksFor value (items v)) → ¬ IsErrOf r Text → ((place : ℕ) → IsErrOf r (Shape place) → shape_fault (subsystems_of value) ≡ Some place) → ((index : ℕ) (code : ℤ) → IsErrOf r (Method index code) → Refuses value index code) → (asked : List Command) → IsConfig bytes asked → MatchResult r (λ v. items v ≡ asked) (λ fault. fault ≡ OutOfMemory)
+pub reads_what_is_asked : {V : Type 0} (items : V → List Command) (bytes : List ℕ) (r : Result V ConfigError) (value : Data) → IsJson bytes value → IfOk r (λ v. AsksFor value (items v)) → ¬ IsErrOf r Text → ((place : ℕ) → IsErrOf r (Shape place) → shape_fault (subsystems_of value) ≡ Some place) → ((index : ℕ) (code : ℤ) → IsErrOf r (Method index code) → Refuses value index code) → (asked : List Command) → IsConfig bytes asked → MatchResult r (λ v. items v ≡ asked) (λ fault. fault ≡ OutOfMemory)
 reads_what_is_asked items bytes (Ok v) value json ok text shape method asked config = config_once bytes (items v) asked (record { value = value; json = json; asks = ok }) config
 reads_what_is_asked items bytes (Err OutOfMemory) value json ok text shape method asked config = refl
 reads_what_is_asked items bytes (Err Text) value json ok text shape method asked config = absurd (text refl)
@@ -76,22 +76,22 @@ reads_what_is_asked items bytes (Err (Method index code)) value json ok text sha
 
 -- ---- the parts of a refusal
 
-abbrev code_in : {V : Type 0} → ℤ → Result V ConfigNo → ℤ
+abbrev code_in : {V : Type 0} → ℤ → Result V ConfigError → ℤ
 code_in other (Ok v) = other
 code_in other (Err OutOfMemory) = other
 code_in other (Err Text) = other
 code_in other (Err (Shape place)) = other
 code_in other (Err (Method index code)) = code
 
-pub method_code : {V : Type 0} (i j : ℕ) (a b : ℤ) → ◌≡◌ {A = Result V ConfigNo} (Err (Method i a)) (Err (Method j b)) → a ≡ b
-method_code {V = V} i j a b e = ap (λ (r : Result V ConfigNo). code_in a r) e
+pub method_code : {V : Type 0} (i j : ℕ) (a b : ℤ) → ◌≡◌ {A = Result V ConfigError} (Err (Method i a)) (Err (Method j b)) → a ≡ b
+method_code {V = V} i j a b e = ap (λ (r : Result V ConfigError). code_in a r) e
 
-abbrev index_in : {V : Type 0} → ℕ → Result V ConfigNo → ℕ
+abbrev index_in : {V : Type 0} → ℕ → Result V ConfigError → ℕ
 index_in other (Ok v) = other
 index_in other (Err OutOfMemory) = other
 index_in other (Err Text) = other
 index_in other (Err (Shape place)) = other
 index_in other (Err (Method index code)) = index
 
-pub method_index : {V : Type 0} (i j : ℕ) (a b : ℤ) → ◌≡◌ {A = Result V ConfigNo} (Err (Method i a)) (Err (Method j b)) → i ≡ j
-method_index {V = V} i j a b e = ap (λ (r : Result V ConfigNo). index_in i r) e
+pub method_index : {V : Type 0} (i j : ℕ) (a b : ℤ) → ◌≡◌ {A = Result V ConfigError} (Err (Method i a)) (Err (Method j b)) → i ≡ j
+method_index {V = V} i j a b e = ap (λ (r : Result V ConfigError). index_in i r) e

@@ -30,7 +30,7 @@ shape_fault None = Some 0
 shape_fault (Some subsystems) = first_outside 1 subsystems
 
 -- this is the first place where the value hasn't the shape
-pub record IsShapeNo (bytes : List ℕ) (place : ℕ) : Type 0 where
+pub record IsShapeError (bytes : List ℕ) (place : ℕ) : Type 0 where
   pub value : Data
   pub json : IsJson bytes value
   pub first : shape_fault (subsystems_of value) ≡ Some place
@@ -69,7 +69,7 @@ pub record Refuses (value : Data) (index : ℕ) (code : ℤ) : Type 0 where
   pub first : first_refused 0 (answers_of subsystems) ≡ Some (index, code)
 
 -- the bytes have the shape, and this call is the first that is refused, with this code
-pub record IsMethodNo (bytes : List ℕ) (index : ℕ) (code : ℤ) : Type 0 where
+pub record IsMethodError (bytes : List ℕ) (index : ℕ) (code : ℤ) : Type 0 where
   pub value : Data
   pub json : IsJson bytes value
   pub refuses : Refuses value index code

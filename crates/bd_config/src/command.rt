@@ -2,7 +2,7 @@
 use bd_base::{ErrKind, IoSet, Name, RateSet};
 
 /// One call with its parameters.
-#[derive(Debug, Drop)]
+#[derive(Drop)]
 pub enum Command {
     /// Makes a device in memory: 1 to 2^21 blocks.
     Malloc {

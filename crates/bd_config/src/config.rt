@@ -4,7 +4,7 @@ ghost use Rattle.serde_json.specs.Data.{Data};
 ghost use Rattle.serde_json.specs.View.{view};
 ghost use Rattle.bd_config.specs.Shape.{subsystems_of, calls_of};
 ghost use Rattle.bd_config.specs.Commands.{IsOpenable};
-ghost use Rattle.bd_config.specs.Config.{IsJson, IsConfig, IsShapeNo, IsMethodNo, AsksFor, Refuses, answers_of, first_outside, first_refused, shape_fault, commands_from};
+ghost use Rattle.bd_config.specs.Config.{IsJson, IsConfig, IsShapeError, IsMethodError, AsksFor, Refuses, answers_of, first_outside, first_refused, shape_fault, commands_from};
 ghost use Rattle.bd_config.specs.declared.command.Command.{Command as Asked};
 
 use crate::command::Command;
@@ -15,8 +15,8 @@ use serde_json::Value;
 use std::alloc::Global;
 
 /// Why bytes are no configuration.
-#[derive(Clone, Copy, Debug, PartialEq, Eq)]
-pub enum ConfigNo {
+#[derive(Clone, Copy, PartialEq, Eq)]
+pub enum ConfigError {
     OutOfMemory,
     /// They are no JSON text.
     Text,
@@ -26,14 +26,14 @@ pub enum ConfigNo {
     Method { index: u32, code: i32 },
 }
 
-impl From<OutOfMemory> for ConfigNo {
+impl From<OutOfMemory> for ConfigError {
     ghost use Rattle.std.specs.Prelude.{◌≡◌};
-    ghost use Rattle.bd_config.specs.declared.config.ConfigNo.TheVariants as nos;
+    ghost use Rattle.bd_config.specs.declared.config.ConfigError.TheVariants as errors;
 
-    ghost from_gives = { λ _ no. no ≡ nos.OutOfMemory };
+    ghost from_gives = { λ _ error. error ≡ errors.OutOfMemory };
 
-    fn from(_e: OutOfMemory) -> ConfigNo {
-        ConfigNo::OutOfMemory
+    fn from(_e: OutOfMemory) -> ConfigError {
+        ConfigError::OutOfMemory
     }
 }
 
@@ -107,38 +107,38 @@ fn read_subsystems(
 }
 
 // The commands of all calls of these subsystems.
-fn read_commands(alloc: Global, subsystems: &[Value]) -> Result<Vec<Command>, ConfigNo>
+fn read_commands(alloc: Global, subsystems: &[Value]) -> Result<Vec<Command>, ConfigError>
     ensures ok { IfOk result (λ commands. answers_of (map view subsystems.now) ≡ map Ok commands.items) }
-    ensures text { ¬ IsErrOf result ConfigNo.Text }
-    ensures shape { (place : ℕ) → ¬ IsErrOf result (ConfigNo.Shape place) }
-    ensures method { (index : ℕ) (code : ℤ) → IsErrOf result (ConfigNo.Method index code)
+    ensures text { ¬ IsErrOf result ConfigError.Text }
+    ensures shape { (place : ℕ) → ¬ IsErrOf result (ConfigError.Shape place) }
+    ensures method { (index : ℕ) (code : ℤ) → IsErrOf result (ConfigError.Method index code)
         → first_refused 0 (answers_of (map view subsystems.now)) ≡ Some (index, code) }
     ensures openable { IfOk result (λ commands. All IsOpenable commands.items) }
 {
     let mut commands = Vec::new(alloc);
     match read_subsystems(alloc, subsystems, &mut commands)? {
         None => Ok(commands),
-        Some(code) => Err(ConfigNo::Method {
+        Some(code) => Err(ConfigError::Method {
             index: place_of(commands.len())?,
             code,
         }),
     }
 }
 
-fn read_value(alloc: Global, value: &Value) -> Result<Vec<Command>, ConfigNo>
+fn read_value(alloc: Global, value: &Value) -> Result<Vec<Command>, ConfigError>
     ensures ok { IfOk result (λ commands. AsksFor (view value.now) commands.items) }
-    ensures text { ¬ IsErrOf result ConfigNo.Text }
-    ensures shape { (place : ℕ) → IsErrOf result (ConfigNo.Shape place)
+    ensures text { ¬ IsErrOf result ConfigError.Text }
+    ensures shape { (place : ℕ) → IsErrOf result (ConfigError.Shape place)
         → shape_fault (subsystems_of (view value.now)) ≡ Some place }
-    ensures method { (index : ℕ) (code : ℤ) → IsErrOf result (ConfigNo.Method index code)
+    ensures method { (index : ℕ) (code : ℤ) → IsErrOf result (ConfigError.Method index code)
         → Refuses (view value.now) index code }
     ensures openable { IfOk result (λ commands. All IsOpenable commands.items) }
 {
     let Some(subsystems) = subsystems_of(value) else {
-        return Err(ConfigNo::Shape(0));
+        return Err(ConfigError::Shape(0));
     };
     if let Some(place) = first_outside(subsystems) {
-        return Err(ConfigNo::Shape(place_of(place)?));
+        return Err(ConfigError::Shape(place_of(place)?));
     }
     read_commands(alloc, subsystems)
 }
@@ -146,20 +146,20 @@ fn read_value(alloc: Global, value: &Value) -> Result<Vec<Command>, ConfigNo>
 /// Reads a configuration: the commands of all calls of its subsystems `bdev`, in order. A refusal
 /// names the first cause: bytes that are no JSON text; then the first place of the wrong shape; then
 /// the first call that is refused, with its code.
-pub fn read_config(alloc: Global, bytes: &[u8]) -> Result<Vec<Command>, ConfigNo>
+pub fn read_config(alloc: Global, bytes: &[u8]) -> Result<Vec<Command>, ConfigError>
     ensures ok { IfOk result (λ commands. IsConfig bytes.now commands.items) }
-    ensures text { IsErrOf result ConfigNo.Text → (value : Data) → ¬ IsJson bytes.now value }
-    ensures shape { (place : ℕ) → IsErrOf result (ConfigNo.Shape place) → IsShapeNo bytes.now place }
-    ensures method { (index : ℕ) (code : ℤ) → IsErrOf result (ConfigNo.Method index code)
-        → IsMethodNo bytes.now index code }
+    ensures text { IsErrOf result ConfigError.Text → (value : Data) → ¬ IsJson bytes.now value }
+    ensures shape { (place : ℕ) → IsErrOf result (ConfigError.Shape place) → IsShapeError bytes.now place }
+    ensures method { (index : ℕ) (code : ℤ) → IsErrOf result (ConfigError.Method index code)
+        → IsMethodError bytes.now index code }
     ensures reads { (asked : List Asked) → IsConfig bytes.now asked
-        → MatchResult result (λ commands. commands.items ≡ asked) (λ no. no ≡ ConfigNo.OutOfMemory) }
+        → MatchResult result (λ commands. commands.items ≡ asked) (λ error. error ≡ ConfigError.OutOfMemory) }
     ensures openable { IfOk result (λ commands. All IsOpenable commands.items) }
 {
     let value = match Value::from_slice(alloc, bytes) {
         Ok(value) => value,
-        Err(e) if e.is_memory() => return Err(ConfigNo::OutOfMemory),
-        Err(_) => return Err(ConfigNo::Text),
+        Err(e) if e.is_memory() => return Err(ConfigError::OutOfMemory),
+        Err(_) => return Err(ConfigError::Text),
     };
     read_value(alloc, &value)
 }

@@ -11,4 +11,4 @@ mod shape;
 mod stacked;
 
 pub use command::Command;
-pub use config::{ConfigNo, read_config};
+pub use config::{ConfigError, read_config};

@@ -12,7 +12,7 @@ use std::marker::Model;
 
 /// A thread's channel of a delay device: its latencies in microseconds, and how many reads and
 /// writes it had.
-#[derive(Debug, Drop)]
+#[derive(Drop)]
 pub struct DelayChannel {
     kind: Kind,
     // Counted modulo 100.

@@ -7,7 +7,7 @@ use std::alloc::Global;
 use std::marker::Model;
 
 // A request that is held until a moment (microseconds).
-#[derive(Clone, Copy, Debug)]
+#[derive(Clone, Copy)]
 struct HeldRequest {
     id: ReqId,
     until: u64,
@@ -37,7 +37,7 @@ fn id_before(a: &ReqId, b: &ReqId) -> bool
 }
 
 /// The held requests of a thread, in the order in which they came.
-#[derive(Debug, Drop)]
+#[derive(Drop)]
 pub struct Held {
     rows: Vec<HeldRequest>,
 }

@@ -4,10 +4,8 @@ ghost use Rattle.bd_machine.specs.BlockMap.{below, is_delay};
 ghost use Rattle.bd_machine.specs.Delays.{counted_all, counted_if_any, counted_once, delayed_of, last_moment, latency, latency_after, latency_at, latency_of_kind};
 
 use bd_base::{DevId, Kind, OutOfMemory, Rows, Setup, Way};
-use bd_blocks::{below, is_delay, row_of};
+use bd_blocks::{below, is_delay, row_of, way_of, write_row};
 use bd_machine::{Delayed, OpenRequest, Part};
-use bd_rules::way_of;
-use bd_walks::write_row;
 
 // ---- latencies
 

@@ -19,8 +19,7 @@ use Rattle.bd_devices.specs.Devices.{has_base, is_claimed, layers_below, registe
 use Rattle.indexmap.specs.IndexMap.{insert_entry}
 use Rattle.bd_devices.specs.Names.{AreNamed, Gains, first_of, place_of_name}
 use Rattle.bd_devices.specs.Registered.{AreToldApart, IsRegistered}
-use Rattle.bd_laws.specs.Standing.{StandsOnEarlier}
-use Rattle.bd_machine.specs.BlockMap.{base_of_row}
+use Rattle.bd_machine.specs.BlockMap.{base_of_row, StandsOnEarlier}
 use Rattle.bd_machine.specs.Registry.{device_named}
 use Rattle.bd_machine.specs.Limits.{no_limit}
 use Rattle.bd_machine.specs.Start.{no_injections}

@@ -10,8 +10,8 @@ use Rattle.bd_base.specs.declared.id.DevId.{DevId}
 use Rattle.bd_base.specs.declared.request.Errno.{Errno}
 use Rattle.bd_base.specs.declared.request.Errno.TheVariants.{Perm, Exists, NoDev, Inval}
 use Rattle.bd_base.specs.declared.setup.Setup.{Setup}
-use Rattle.bd_devices.specs.declared.devices.RegisterNo.{RegisterNo}
-use Rattle.bd_devices.specs.declared.devices.RegisterNo.TheVariants.{OutOfMemory, Refused}
+use Rattle.bd_devices.specs.declared.devices.RegisterError.{RegisterError}
+use Rattle.bd_devices.specs.declared.devices.RegisterError.TheVariants.{OutOfMemory, Refused}
 use Rattle.bd_error.specs.Injected.{set_on}
 use Rattle.bd_machine.specs.BlockMap.{below, is_error, row_of}
 use Rattle.bd_machine.specs.Limits.{no_limit}
@@ -60,7 +60,7 @@ abbrev pub no_devices : ℕ → Setup
 no_devices threads = record { threads = threads; devices = []; rates = []; injections = []; waiting = []; scripts = [] }
 
 -- the error says why, or that there was no memory
-abbrev pub IsCause : RegisterNo → Option Errno → Type 0
+abbrev pub IsCause : RegisterError → Option Errno → Type 0
 IsCause OutOfMemory cause = Unit {0}
 IsCause (Refused errno) cause = cause ≡ Some errno
 

@@ -4,7 +4,7 @@ use Rattle.bd_base.specs.declared.device.DevRow.{DevRow}
 use Rattle.bd_base.specs.declared.setup.Setup.{Setup}
 use Rattle.bd_devices.specs.declared.names.Names.{Names}
 use Rattle.bd_devices.specs.Names.{AreNamed}
-use Rattle.bd_laws.specs.Standing.{StandsOnEarlier}
+use Rattle.bd_machine.specs.BlockMap.{StandsOnEarlier}
 use Rattle.bd_machine.specs.Registry.{device_named}
 
 -- each device is the one that its name finds: no two have one name

@@ -3,7 +3,7 @@ ghost use Rattle.std.specs.Prelude.{◌≡◌, ◌+◌, ◌++◌, ◌∷◌, [],
 ghost use Rattle.bd_base.specs.declared.device.DevRow.{DevRow};
 ghost use Rattle.bd_devices.specs.Devices.{IsCause, chosen, injected, injection_refusal, limit_refusal, limited, no_devices, register_refusal, with_device, with_limits};
 ghost use Rattle.bd_devices.specs.Registered.{AreToldApart};
-ghost use Rattle.bd_laws.specs.Standing.{StandsOnEarlier};
+ghost use Rattle.bd_machine.specs.BlockMap.{StandsOnEarlier};
 ghost use Rattle.bd_machine.specs.Limits.{no_limit};
 ghost use Rattle.bd_machine.specs.Registry.{device_named};
 ghost use Rattle.bd_machine.specs.Start.{no_injections};
@@ -42,7 +42,7 @@ const NO_INJECTIONS: Injections = Injections {
 
 /// Why a device wasn't registered.
 #[derive(Clone, Copy, Debug, PartialEq, Eq)]
-pub enum RegisterNo {
+pub enum RegisterError {
     /// There was no memory.
     OutOfMemory,
     /// The first cause that holds: `Exists` where the name stands; `NoDev` where its base doesn't; `Perm`
@@ -51,25 +51,25 @@ pub enum RegisterNo {
     Refused(Errno),
 }
 
-impl fmt::Display for RegisterNo {
+impl fmt::Display for RegisterError {
     fn fmt<W: fmt::Write>(&self, f: &mut fmt::Formatter<W>) -> fmt::Result {
         match self {
-            RegisterNo::OutOfMemory => write!(f, "out of memory"),
-            RegisterNo::Refused(errno) => write!(f, "refused with errno {}", errno.number()),
+            RegisterError::OutOfMemory => write!(f, "out of memory"),
+            RegisterError::Refused(errno) => write!(f, "refused with errno {}", errno.number()),
         }
     }
 }
 
-impl Error for RegisterNo {}
+impl Error for RegisterError {}
 
-impl From<OutOfMemory> for RegisterNo {
+impl From<OutOfMemory> for RegisterError {
     ghost use Rattle.std.specs.Prelude.{◌≡◌};
-    ghost use Rattle.bd_devices.specs.declared.devices.RegisterNo.TheVariants as causes;
+    ghost use Rattle.bd_devices.specs.declared.devices.RegisterError.TheVariants as causes;
 
-    ghost from_gives = { λ _ no. no ≡ causes.OutOfMemory };
+    ghost from_gives = { λ _ error. error ≡ causes.OutOfMemory };
 
-    fn from(_e: OutOfMemory) -> RegisterNo {
-        RegisterNo::OutOfMemory
+    fn from(_e: OutOfMemory) -> RegisterError {
+        RegisterError::OutOfMemory
     }
 }
 
@@ -130,20 +130,20 @@ impl Devices {
 
     /// Registers a device, without limits and injections, and gives its number. A refusal, and out of
     /// memory, change nothing.
-    pub fn register(&mut self, alloc: Global, row: DevRow) -> Result<DevId, RegisterNo>
+    pub fn register(&mut self, alloc: Global, row: DevRow) -> Result<DevId, RegisterError>
         ensures number { IfOk result (λ dev. dev.0 ≡ length self.old.devices) }
         ensures free { OnOk result (register_refusal self.old row ≡ None) }
         ensures ok { OnOk result (self.new ≡ with_device self.old row) }
-        ensures cause { IfErr result (λ no. IsCause no (register_refusal self.old row)) }
+        ensures cause { IfErr result (λ error. IsCause error (register_refusal self.old row)) }
         ensures err { OnErr result (self.new ≡ self.old) }
     {
         let taken = self.names.find(&row.name).is_some();
         if let Some(errno) = refusal(&self.setup, &row, taken) {
-            return Err(RegisterNo::Refused(errno));
+            return Err(RegisterError::Refused(errno));
         }
         let place = self.setup.devices.len();
         let Ok(number) = u32::try_from(place) else {
-            return Err(RegisterNo::OutOfMemory);
+            return Err(RegisterError::OutOfMemory);
         };
         self.add(alloc, row, place)?;
         Ok(DevId(number))

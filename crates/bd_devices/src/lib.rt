@@ -6,4 +6,4 @@ mod devices;
 mod names;
 mod refusals;
 
-pub use devices::{Devices, RegisterNo};
+pub use devices::{Devices, RegisterError};

@@ -1,3 +1,5 @@
+pub mod Contents
+pub mod Done
 pub mod Holding
 pub mod Rows
 pub mod Serving

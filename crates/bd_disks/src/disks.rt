@@ -43,7 +43,7 @@ impl<D> Disks<D> {
     pub fn add(&mut self, dev: DevId, disk: D) -> Result<(), (D, OutOfMemory)>
         ensures added { OnOk result (self.new ≡ self.old ++ (dev, disk) ∷ []) }
         ensures same { OnErr result (self.new ≡ self.old) }
-        ensures back { IfErr result (λ no. no.0 ≡ disk) }
+        ensures back { IfErr result (λ error. error.0 ≡ disk) }
     {
         match self.rows.push((dev, disk)) {
             Ok(()) => Ok(()),

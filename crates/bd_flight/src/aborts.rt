@@ -5,10 +5,10 @@ ghost use Rattle.bd_flight.specs.Due.{abort_due, cause_at, mark_below, may_stop}
 
 use bd_base::{AbortCause, DevId, ReqId, Setup};
 use bd_blocks::below;
-use bd_course::refused_abort;
 use bd_machine::{OpenRequest, Part};
-use bd_rules::{is_frozen, is_removed, request_here};
-use bd_view::Sees;
+use bd_rule_faults::refused_abort;
+use bd_rule_requests::{is_frozen, is_removed, request_here};
+use bd_rule_view::Sees;
 
 // The mark of a device as the cause of an abort; that of a removal where both stand.
 fn cause_at(part: &Part, dev: DevId) -> AbortCause

@@ -12,11 +12,11 @@ ghost use Rattle.bd_flight.specs.Due.{end_due, may_be_held};
 
 use bd_base::{ApplyEnd, ReqId, Setup, Status};
 use bd_machine::{Hold, OpenPiece, OpenRequest, Progress};
-use bd_rules::{
+use bd_rule_requests::{
     all_back, all_ended, any_faulted, has_range, is_at_own, is_delay_left, is_delayed, is_fail,
     is_walking, may_complete, piece_here, reset_of, status_due,
 };
-use bd_view::{PieceId, Sees};
+use bd_rule_view::{PieceId, Sees};
 
 /// What the pieces of a request come to, while none of them is out.
 #[derive(Clone, Copy)]

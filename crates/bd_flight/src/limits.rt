@@ -8,8 +8,8 @@ ghost use Rattle.bd_flight.specs.Due.{decision_due, limit_due};
 use bd_base::{DevId, ReqId, Setup, Token};
 use bd_blocks::{below, home, is_error};
 use bd_machine::OpenRequest;
-use bd_rules::{asks_injection, is_at_own, may_go, next_limited};
-use bd_view::Sees;
+use bd_rule_requests::{asks_injection, is_at_own, may_go, next_limited};
+use bd_rule_view::Sees;
 
 /// The next device whose limits count this request, which is here, where the rules let it go there.
 pub(crate) fn limit_due<S: Sees>(
@@ -32,7 +32,7 @@ pub(crate) fn limit_due<S: Sees>(
 }
 
 // The error device of this place, from 0, among those below.
-#[tactic(auto, using(bd_rules::proofs::Chosen::passes, bd_rules::proofs::Chosen::skips, bd_rules::proofs::Chosen::finds))]
+#[tactic(auto, using(bd_rule_requests::proofs::Chosen::passes, bd_rule_requests::proofs::Chosen::skips, bd_rule_requests::proofs::Chosen::finds))]
 fn error_at(setup: &Setup, dev: DevId, place: u32) -> Option<DevId>
     ensures { result ≡ slice_get (errors_below setup.now dev) place }
 {

@@ -11,13 +11,13 @@ use crate::aborts::abort_due;
 use crate::ends::{end_due, may_be_held};
 use crate::limits::{decision_due, limit_due};
 use bd_base::{AbortCause, Decision, DevId, ReqId, Setup, Status};
-use bd_course::refused_pend;
 use bd_machine::OpenRequest;
-use bd_rules::{may_cut, request_here};
-use bd_view::Sees;
+use bd_rule_faults::refused_pend;
+use bd_rule_requests::{may_cut, request_here};
+use bd_rule_view::Sees;
 
 /// What an open request does next.
-#[derive(Clone, Copy, Debug, PartialEq, Eq)]
+#[derive(Clone, Copy, PartialEq, Eq)]
 pub enum Step {
     /// It goes to the home of this device, whose limits count it.
     Limit(DevId),

@@ -12,19 +12,19 @@ use bd_base::{
     WalkKind,
 };
 use bd_blocks::{part_at_start, references, registry_at_start};
-use bd_course::{
-    refused_abort, refused_hold, refused_inject, refused_let, refused_pend, refused_release,
-    refused_tick,
-};
 use bd_machine::guard::{
     ABORT_CAUSE, DRAINED, FIRST_IN_LINE, HOLD_OVER, INJECTION_TAKEN, MAY_ABORT, MAY_HOLD, MAY_PEND,
     NEXT_VISIT, TICK_DUE, WITHIN_LIMITS,
 };
 use bd_machine::{Handle, Id, Kept, Marking, Open, OpenWalk, Part, Registry, Trip};
 use bd_reset::{first_in_line, first_waiting, may_leave};
-use bd_rules::new_request;
-use bd_view::{Sees, Submission, look_up, own_handle};
-use bd_walks::refused_visit;
+use bd_rule_faults::{
+    refused_abort, refused_hold, refused_inject, refused_let, refused_pend, refused_release,
+    refused_tick,
+};
+use bd_rule_requests::new_request;
+use bd_rule_view::{Sees, Submission, look_up, own_handle};
+use bd_rule_walks::refused_visit;
 use std::alloc::Global;
 use std::process::Abort;
 use std::test::Fail;

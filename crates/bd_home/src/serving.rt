@@ -124,7 +124,7 @@ pub fn serve(
 }
 
 /// What the disk of an aio device did with a piece: how that ended, and what the piece read of the disk.
-#[derive(Debug, Drop)]
+#[derive(Drop)]
 pub struct Given {
     pub end: ApplyEnd,
     pub read: ReadBytes,

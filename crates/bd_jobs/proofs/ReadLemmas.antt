@@ -9,8 +9,8 @@ use Rattle.bd_base.specs.declared.job.Job.{Job}
 use Rattle.bd_base.specs.declared.job.Line.{Line}
 use Rattle.bd_base.specs.declared.job.Script.{Script}
 use Rattle.bd_jobs.specs.declared.command.Command.{Command}
-use Rattle.bd_jobs.specs.declared.read.JobNo.{JobNo}
-use Rattle.bd_jobs.specs.declared.read.JobNo.TheVariants as nos
+use Rattle.bd_jobs.specs.declared.read.JobError.{JobError}
+use Rattle.bd_jobs.specs.declared.read.JobError.TheVariants as errors
 use Rattle.bd_jobs.specs.Words.{words_of, number_of}
 use Rattle.bd_jobs.specs.Commands.{command_job}
 use Rattle.bd_jobs.specs.Held.{all_scripts, lines_at, has_line}
@@ -165,10 +165,10 @@ refuses threads bytes scripts number left rest line known e after =
     }
 
 -- the line that a reader names
-same_line : {T : Type 0} → (at number : ℕ) → ◌≡◌ {A = Result T JobNo} (Err (nos.Line at)) (Err (nos.Line number)) → at ≡ number
+same_line : {T : Type 0} → (at number : ℕ) → ◌≡◌ {A = Result T JobError} (Err (errors.Line at)) (Err (errors.Line number)) → at ≡ number
 same_line at number e = cc
 
-pub names_first : {T : Type 0} → (threads : ℕ) (bytes : List ℕ) (at number : ℕ) → Refuses threads bytes at → ◌≡◌ {A = Result T JobNo} (Err (nos.Line at)) (Err (nos.Line number)) → IsFirstOutside threads bytes number
+pub names_first : {T : Type 0} → (threads : ℕ) (bytes : List ℕ) (at number : ℕ) → Refuses threads bytes at → ◌≡◌ {A = Result T JobError} (Err (errors.Line at)) (Err (errors.Line number)) → IsFirstOutside threads bytes number
 names_first {T} threads bytes at number refused e =
     let P : ℕ → Type 0 = λ n. IsFirstOutside threads bytes n in
     subst P (same_line {T = T} at number e) refused.first

@@ -8,7 +8,7 @@ use bd_base::{ClaimKind, Fill, Job, Line, Name, Op, OutOfMemory};
 use std::alloc::Global;
 
 /// A line's command and its thread.
-#[derive(Debug, Drop)]
+#[derive(Drop)]
 pub struct Command {
     pub thread: u32,
     pub line: Line,

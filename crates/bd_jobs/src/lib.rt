@@ -11,5 +11,5 @@ mod word;
 pub use command::Command;
 pub use generated::generated_scripts;
 pub use generator::generate;
-pub use read::{JobNo, read_jobs};
+pub use read::{JobError, read_jobs};
 pub use word::number;

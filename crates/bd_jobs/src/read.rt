@@ -15,21 +15,21 @@ use std::alloc::Global;
 const MAX_LINES: u32 = 20_000;
 
 /// Why a text gives no scripts.
-#[derive(Clone, Copy, Debug, PartialEq, Eq)]
-pub enum JobNo {
+#[derive(Clone, Copy, PartialEq, Eq)]
+pub enum JobError {
     OutOfMemory,
     /// The line of this number is the first that is outside the grammar.
     Line(u32),
 }
 
-impl From<OutOfMemory> for JobNo {
+impl From<OutOfMemory> for JobError {
     ghost use Rattle.std.specs.Prelude.{◌≡◌};
-    ghost use Rattle.bd_jobs.specs.declared.read.JobNo.TheVariants as nos;
+    ghost use Rattle.bd_jobs.specs.declared.read.JobError.TheVariants as errors;
 
-    ghost from_gives = { λ _ no. no ≡ nos.OutOfMemory };
+    ghost from_gives = { λ _ error. error ≡ errors.OutOfMemory };
 
-    fn from(_e: OutOfMemory) -> JobNo {
-        JobNo::OutOfMemory
+    fn from(_e: OutOfMemory) -> JobError {
+        JobError::OutOfMemory
     }
 }
 
@@ -145,20 +145,20 @@ fn with_lines(scripts: Vec<Script>) -> Rows<Script>
 /// Reads the scripts of `threads` threads: a line has no command, or one of a thread below that
 /// number. There is a script for each thread that has a line, by rising thread. `Line` comes exactly
 /// where that line is the first one outside the grammar.
-pub fn read_jobs(alloc: Global, bytes: &[u8], threads: u32) -> Result<Rows<Script>, JobNo>
+pub fn read_jobs(alloc: Global, bytes: &[u8], threads: u32) -> Result<Rows<Script>, JobError>
     ensures ok { IfOk result (λ scripts. scripts_of threads bytes.now ≡ Some scripts) }
-    ensures line { (number : ℕ) → result ≡ Err (JobNo.Line number) → IsFirstOutside threads bytes.now number }
-    ensures text { (number : ℕ) → result ≡ Err (JobNo.Line number) → scripts_of threads bytes.now ≡ None }
+    ensures line { (number : ℕ) → result ≡ Err (JobError.Line number) → IsFirstOutside threads bytes.now number }
+    ensures text { (number : ℕ) → result ≡ Err (JobError.Line number) → scripts_of threads bytes.now ≡ None }
 {
     let mut scripts = empty_scripts(alloc, threads)?;
     let mut at = 1u32;
     for line in bytes.lines() {
         if at > MAX_LINES {
-            return Err(JobNo::Line(at));
+            return Err(JobError::Line(at));
         }
         if !is_bare(line) {
             let Some(command) = line_command(alloc, scripts.as_slice(), threads, at, line)? else {
-                return Err(JobNo::Line(at));
+                return Err(JobError::Line(at));
             };
             add(&mut scripts, command)?;
         }

@@ -6,7 +6,7 @@ use bd_base::OutOfMemory;
 use std::alloc::Global;
 
 /// A line of the generated script; writes and reads are numbered.
-#[derive(Clone, Copy, Debug, PartialEq, Eq)]
+#[derive(Clone, Copy, PartialEq, Eq)]
 pub(crate) enum Step {
     Opens,
     Writes(u32),

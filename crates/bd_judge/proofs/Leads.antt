@@ -9,8 +9,8 @@ use Rattle.bd_machine.specs.Start.{start}
 use Rattle.bd_machine.specs.Step.{IsAllowed, IsStep, refusal, after}
 use Rattle.bd_play.specs.Play.{Play}
 use Rattle.bd_play.specs.Refusals.{Refuses}
-use Rattle.bd_play.specs.declared.machine.StepNo.{StepNo}
-use Rattle.bd_play.specs.declared.machine.StepNo.TheVariants.{Illegal}
+use Rattle.bd_play.specs.declared.machine.StepError.{StepError}
+use Rattle.bd_play.specs.declared.machine.StepError.TheVariants.{Illegal}
 use Rattle.bd_judge.specs.Judge.{IsStopped}
 
 -- the entries are a run, and lead to this state
@@ -53,7 +53,7 @@ split_at xs i e h is =
     ∙ append_assoc (take i xs) (e ∷ []) (drop (i + 1) xs)
 
 -- the machine refuses an entry
-pub stops_at : (setup : Setup) (xs : List Entry) (i : ℕ) (e : Entry) (m : Play) (why : StepNo) (guard stamp : ℕ) → i < length xs → e ≡ get_or xs i e → IsAt setup xs i m → Refuses m e why → why ≡ Illegal guard stamp → IsStopped setup xs guard stamp
+pub stops_at : (setup : Setup) (xs : List Entry) (i : ℕ) (e : Entry) (m : Play) (why : StepError) (guard stamp : ℕ) → i < length xs → e ≡ get_or xs i e → IsAt setup xs i m → Refuses m e why → why ≡ Illegal guard stamp → IsStopped setup xs guard stamp
 stops_at setup xs i e m why guard stamp h is at refuses illegal =
     let refused : Refuses m e (Illegal guard stamp) = subst (Refuses m e) illegal refuses in
     record {

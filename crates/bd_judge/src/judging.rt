@@ -3,7 +3,7 @@ ghost use Rattle.std.specs.Prelude.{IfOk};
 ghost use Rattle.bd_judge.specs.Judge.{IsVerdict};
 
 use bd_base::{Entry, OutOfMemory, Setup};
-use bd_play::{Machine, StepNo};
+use bd_play::{Machine, StepError};
 use std::alloc::Global;
 
 /// What the machine says of a history.
@@ -27,8 +27,11 @@ pub fn judge(alloc: Global, setup: &Setup, trace: &[Entry]) -> Result<Verdict, O
     for entry in trace {
         match machine.step(entry) {
             Ok(()) => {}
-            Err(StepNo::OutOfMemory) => return Err(OutOfMemory),
-            Err(StepNo::Illegal { guard, stamp }) => return Ok(Verdict::Illegal { guard, stamp }),
+            Err(StepError::OutOfMemory) => return Err(OutOfMemory),
+            Err(StepError::Illegal { guard, stamp }) => return Ok(Verdict::Illegal {
+                guard,
+                stamp,
+            }),
         }
     }
     if machine.is_complete()? {

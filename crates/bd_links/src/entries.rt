@@ -1,4 +1,4 @@
-//! The list of entries, to which every thread adds.
+//! The list of the entries of a thread's turn.
 ghost use Rattle.std.specs.Prelude.{◌≡◌, ◌<◌, IfSome, OnOk, length};
 ghost use Rattle.bd_links.specs.Entries.{longer, next_stamp};
 

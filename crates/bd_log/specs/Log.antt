@@ -3,8 +3,8 @@ use Rattle.std.specs.Prelude.{◌≡◌, ℕ, ◌+◌, ◌<◌, ◌≤◌, List,
 use Rattle.std.specs.List.{AllByRecursion}
 use Rattle.bd_base.specs.declared.act.Act.{Act}
 use Rattle.bd_base.specs.declared.act.Entry.{Entry}
-use Rattle.bd_log.specs.declared.log.LogNo.{LogNo}
-use Rattle.bd_log.specs.declared.log.LogNo.TheVariants.{OutOfMemory, StampsSpent}
+use Rattle.bd_log.specs.declared.log.LogError.{LogError}
+use Rattle.bd_log.specs.declared.log.LogError.TheVariants.{OutOfMemory, StampsSpent}
 use Rattle.bd_log.specs.Merge.{Part, IsPart}
 
 pub record Written : Type 0 where
@@ -33,7 +33,7 @@ abbrev pub entry_of : Written → Act → Entry
 entry_of log act = record { stamp = log.last + 1; thread = log.thread; act = act }
 
 -- why a push is refused: the room is spent, or the last stamp is the greatest number
-abbrev pub IsCause : LogNo → Written → Type 0
+abbrev pub IsCause : LogError → Written → Type 0
 IsCause OutOfMemory log = log.capacity ≤ length log.entries
 IsCause (StampsSpent n) log = (n ≡ log.last) × (log.last ≡ 340282366920938463463374607431768211455)
 
@@ -43,6 +43,6 @@ stamped thread last [] = []
 stamped thread last (x ∷ xs) = record { stamp = last + 1; thread = thread; act = x.act } ∷ stamped thread (last + 1) xs
 
 -- why a push of so many is refused: the room doesn't suffice, or they would pass the greatest stamp
-abbrev pub IsCauseOfMany : LogNo → Written → ℕ → Type 0
+abbrev pub IsCauseOfMany : LogError → Written → ℕ → Type 0
 IsCauseOfMany OutOfMemory log count = log.capacity < length log.entries + count
 IsCauseOfMany (StampsSpent n) log count = (n ≡ log.last) × (340282366920938463463374607431768211455 < log.last + count)

@@ -7,6 +7,6 @@ mod merging;
 mod part;
 mod places;
 
-pub use log::{Log, LogNo};
+pub use log::{Log, LogError};
 pub use merging::{merge, merge_is_unique, merge_onto, merging_by_parts};
 pub use part::LogPart;

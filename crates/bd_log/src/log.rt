@@ -12,27 +12,27 @@ use std::{fmt, mem};
 
 /// Why a push was refused.
 #[derive(Clone, Copy, Debug, PartialEq, Eq)]
-pub enum LogNo {
+pub enum LogError {
     /// There was no memory for the entry.
     OutOfMemory,
     /// The last stamp, which this carries, is the greatest number.
     StampsSpent(u128),
 }
 
-impl fmt::Display for LogNo {
+impl fmt::Display for LogError {
     fn fmt<W: fmt::Write>(&self, f: &mut fmt::Formatter<W>) -> fmt::Result {
         match self {
-            LogNo::OutOfMemory => write!(f, "out of memory"),
-            LogNo::StampsSpent(last) => write!(f, "no stamp is left above {last}"),
+            LogError::OutOfMemory => write!(f, "out of memory"),
+            LogError::StampsSpent(last) => write!(f, "no stamp is left above {last}"),
         }
     }
 }
 
-impl Error for LogNo {}
+impl Error for LogError {}
 
 /// The entries that a thread made and that were not handed out, seen as a `Written`: beside them the
 /// thread, the last stamp, and how many entries there is memory for. Stamps rise, from 1 on.
-#[derive(Debug, Drop)]
+#[derive(Drop)]
 pub struct Log {
     thread: u32,
     last: u128,
@@ -71,22 +71,22 @@ impl Log {
 
     /// Appends an act, and answers its stamp: the least above all that were pushed and met. A refused
     /// push changes nothing. `OutOfMemory` comes only where the room is spent.
-    pub fn push(&mut self, act: Act) -> Result<u128, LogNo>
+    pub fn push(&mut self, act: Act) -> Result<u128, LogError>
         ensures stamp { IfOk result (λ stamp. stamp ≡ self.old.last + 1) }
         ensures entries { OnOk result (self.new.entries ≡ self.old.entries ++ entry_of self.old act ∷ []) }
         ensures last { OnOk result (self.new.last ≡ self.old.last + 1) }
         ensures thread { self.new.thread ≡ self.old.thread }
         ensures capacity { self.old.capacity ≤ self.new.capacity }
 
-        ensures spent { self.old.last ≡ u128.MAX → result ≡ Err (LogNo.StampsSpent u128.MAX) }
-        ensures cause { IfErr result (λ no. IsCause no self.old) }
+        ensures spent { self.old.last ≡ u128.MAX → result ≡ Err (LogError.StampsSpent u128.MAX) }
+        ensures cause { IfErr result (λ error. IsCause error self.old) }
         ensures err { OnErr result (self.new ≡ self.old) }
     {
         if self.last == u128::MAX {
-            return Err(LogNo::StampsSpent(self.last));
+            return Err(LogError::StampsSpent(self.last));
         }
         if self.reserve(1).is_err() {
-            return Err(LogNo::OutOfMemory);
+            return Err(LogError::OutOfMemory);
         }
         Ok(self.append(act))
     }
@@ -95,24 +95,24 @@ impl Log {
     /// they had don't matter. It answers the list without them, with its memory. Where so many stamps aren't left,
     /// or there is no memory for all of them, it appends none.
     #[tactic(auto, using(crate::proofs::Stamping::log_all))]
-    pub fn push_all(&mut self, entries: Vec<Entry>) -> Result<Vec<Entry>, LogNo>
+    pub fn push_all(&mut self, entries: Vec<Entry>) -> Result<Vec<Entry>, LogError>
         ensures entries { OnOk result (self.new.entries ≡ self.old.entries ++ stamped self.old.thread self.old.last entries.items) }
         ensures last { OnOk result (self.new.last ≡ self.old.last + vec_len entries) }
         ensures thread { self.new.thread ≡ self.old.thread }
         ensures capacity { self.old.capacity ≤ self.new.capacity }
         ensures left { IfOk result (λ left. left.items ≡ []) }
 
-        ensures cause { IfErr result (λ no. IsCauseOfMany no self.old (vec_len entries)) }
+        ensures cause { IfErr result (λ error. IsCauseOfMany error self.old (vec_len entries)) }
         ensures err { OnErr result (self.new ≡ record self.old { capacity = self.new.capacity }) }
     {
         let mut entries = entries;
         let Some(last) = self.last.checked_add(entries.len() as u128) else {
-            return Err(LogNo::StampsSpent(self.last));
+            return Err(LogError::StampsSpent(self.last));
         };
         stamp_all(entries.as_mut_slice(), self.thread, self.last);
         make_room(&mut self.entries, self.handed);
         if self.entries.append(&mut entries).is_err() {
-            return Err(LogNo::OutOfMemory);
+            return Err(LogError::OutOfMemory);
         }
         self.last = last;
         Ok(entries)

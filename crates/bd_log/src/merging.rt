@@ -65,7 +65,7 @@ pub fn merge_onto(parts: Vec<LogPart>, trace: &mut Vec<Entry>)
     while let Some(entry) = left[first].take() {
         let stamp = entry.stamp;
         trace.push_reserved(entry);
-        // Where the parts stand in order of their threads, those behind it follow with their entries of this stamp.
+        // Where the parts stand in order of their threads, those after it follow with their entries of this stamp.
         for place in first + 1..by_thread {
             if let Some(same) = left[place].take_at(stamp) {
                 trace.push_reserved(same);

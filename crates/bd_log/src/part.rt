@@ -8,7 +8,7 @@ use std::collections::VecDeque;
 use std::marker::Model;
 
 /// Entries of one thread with rising stamps, seen as a `Part`.
-#[derive(Debug, Drop)]
+#[derive(Drop)]
 pub struct LogPart {
     thread: u32,
     // That of the first entry, beside the thread, where the search for the least of all finds it; the greatest number

@@ -44,6 +44,10 @@ use Rattle.bd_machine.proofs.Steps.{allowed_passes}
 use Rattle.bd_machine.proofs.Complete.{fresh_start, destructed_in, all_destructs, home_part}
 use Rattle.bd_machine.proofs.Runs.{last_allowed}
 
+-- nothing is both
+never : {X : Type 0} → false ≡ true → X
+never e = cc
+
 -- ---- at most once
 
 at_most_one : (b : Bool) → one_if b ≤ 1
@@ -67,7 +71,7 @@ called_by setup s t (acts.Destruct d digest) dev h e =
     let came : Came = came_for setup s t (acts.Destruct d digest) in
     let called = (and_parts (is_home setup t d) (is_called_for v came d) (and_parts (is_home setup t d && is_called_for v came d) (not (has_destructed v d)) ok.0).0).1 in
     subst (λ (x : DevId). is_free setup s.registry x ≡ true) (sym (dev_exact dev d e)) (and_parts (is_told v d) (is_free setup s.registry d) called).1
-called_by setup s t _ dev h e = cc
+called_by setup s t _ dev h e = never e
 
 pub destructed_where_free : DestructedWhereFree
 destructed_where_free setup s e allowed dev h = called_by setup s e.thread e.act dev (allowed_passes setup s e allowed) h
@@ -107,7 +111,7 @@ gone_by setup r t (Some q) k h = stays_gone r.devices q.event q.answer k h
 removed_by : (setup : Setup) (r : Registry) (t : ℕ) (act : Act) (dev : DevId) → is_removing_of dev act ≡ true → Gone (registry_after setup r t (asked act)).devices dev.0
 removed_by setup r t (acts.Reg event (answers.Removing d threads handles destruct)) dev e =
     subst (λ (n : ℕ). Gone (change_at n (with_standing standings.Removing) r.devices) dev.0) (sym (eqb-true d.0 dev.0 e)) (made_gone r.devices dev.0 (with_standing standings.Removing) (λ d. refl))
-removed_by setup r t _ dev e = cc
+removed_by setup r t _ dev e = never e
 
 module _ (setup : Setup) (dev : DevId) where
   abbrev GoneIn : State → Type 0
@@ -184,7 +188,7 @@ out setup s t (acts.Reg (events.Open name write) (answers.Opened id d)) dev gone
     not_opened setup s.registry write (device_named setup name) (answers.Opened id d) d dev gone e id.0 (passed (guards_in setup s t (acts.Reg (events.Open name write) (answers.Opened id d))) h).0
 out setup s t (acts.Reg (events.GetChannel d) (answers.Got fresh frozen)) dev gone h e =
     got setup s.registry d dev fresh frozen (answers.Got (is_none (references s.registry t d)) (filter (λ d. is_born_frozen (slice_get s.registry.devices d.0)) (made (references s.registry t) (below setup d)))) gone e (are_live setup s.registry d) refl (passed (guards_in setup s t (acts.Reg (events.GetChannel d) (answers.Got fresh frozen))) h).0
-out setup s t _ dev gone h e = cc
+out setup s t _ dev gone h e = never e
 
 -- what isn't live is out of reach
 pub unreached : (setup : Setup) (s : State) (e : Entry) → IsAllowed setup s e → (dev : DevId) → is_live s.registry dev ≡ false → reaches setup dev e.act ≡ false
@@ -243,7 +247,7 @@ unmarked_by setup s t (acts.Accept d lba handle req op count) dev h e =
     on : (o : Option Handle) → is_device_of d o ≡ true → is_none (refusal_on setup o op lba count) ≡ true → is_on_removed setup (part_of s t) o ≡ false → is_removed (part_of s t) dev ≡ false
     on None k fine g = cc
     on (Some x) k fine g = none_of_any (is_removed (part_of s t)) (below setup d) dev (subst (λ (y : DevId). is_removed_below setup (part_of s t) y ≡ false) (dev_exact x.dev d k) g) e
-unmarked_by setup s t _ dev h e = cc
+unmarked_by setup s t _ dev h e = never e
 
 pub accepted_where_unmarked : AcceptedWhereUnmarked
 accepted_where_unmarked setup s e allowed dev h = unmarked_by setup s e.thread e.act dev (allowed_passes setup s e allowed) h

@@ -111,11 +111,11 @@ some_run_is_complete = (first_path_setup, ([], (first_path, (req 0 0, ((run_if f
 abbrev after_first : ℕ → State
 after_first n = after_all first_path_setup (start first_path_setup []) (take n first_path)
 
--- not built as yet: a request that is kept without an answer, a reset
-not_built : (refusal first_path_setup (after_first 0) (at 100 0 (acts.Pend (req 0 0))) ≡ Some 0)
-    × (refusal first_path_setup (after_first 3) (at 100 0 (acts.Accept (dev 0) 0 (handle 0) (req 0 0) ops.Reset 0)) ≡ Some 0)
+-- a request that isn't there is kept without an answer; a reset that the line doesn't ask for
+not_asked : (refusal first_path_setup (after_first 0) (at 100 0 (acts.Pend (req 0 0))) ≡ Some 13)
+    × (refusal first_path_setup (after_first 3) (at 100 0 (acts.Accept (dev 0) 0 (handle 0) (req 0 0) ops.Reset 0)) ≡ Some 8)
 unfolding after
-not_built = (refl, refl)
+not_asked = (refl, refl)
 
 -- an unknown thread, no stamp, a stamp that doesn't rise
 out_of_order : (refusal first_path_setup (after_first 0) (at 1 1 acts.Shutdown) ≡ Some 1)

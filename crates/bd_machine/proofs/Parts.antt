@@ -45,7 +45,7 @@ use Rattle.bd_machine.specs.Guards.{change_by}
 use Rattle.bd_machine.specs.Homes.{is_base, without_last}
 use Rattle.bd_machine.specs.Kept.{request_here, walk_here}
 use Rattle.bd_machine.specs.Laws.{Stored, stored, stored_of}
-use Rattle.bd_machine.specs.Limits.{arrived, departed, next_limited, is_limited, is_limit, joined, left_by, charged_by_way, bytes_if_any, way_if_any}
+use Rattle.bd_machine.specs.Limits.{arrived, departed, next_limited, waits_at, is_limited, is_limit, joined, left_by, charged_by_way, bytes_if_any, way_if_any}
 use Rattle.bd_machine.specs.Timeslices.{Timing, timing_of, timings}
 use Rattle.bd_machine.specs.declared.state.Limited.{Limited}
 use Rattle.bd_base.specs.declared.request.Way.{Way}
@@ -183,7 +183,7 @@ departed_keeps p req (Some dev) = record { rest = ap (with_timings p) (timing_st
 
 pub stopped_keeps : (setup : Setup) (p : Part) (req : ReqId) (x : Option OpenRequest) → Keeps p (stopped setup p req x)
 stopped_keeps setup p req None = record { rest = refl; walks = refl }
-stopped_keeps setup p req (Some r) = departed_keeps p req (next_limited setup r)
+stopped_keeps setup p req (Some r) = departed_keeps p req (waits_at setup r)
 
 arrived_keeps : (p : Part) (req : ReqId) (o : Option DevId) → Keeps p (arrived p req o)
 arrived_keeps p req None = record { rest = refl; walks = refl }

@@ -1,6 +1,7 @@
 -- In every run, all Ticks of a device fit one start.
 use Rattle.std.proofs.Common.{◌≡◌, ℕ, zero, suc, ◌+◌, ◌-◌, ◌*◌, ◌/◌, ◌<◌, ◌≤◌, Bool, true, false, cond, ◌&&◌, ◌==◌, ◌⊎◌, inl, inr, nat_le, nat_lt, leb-true, List, [], ◌∷◌, length, map, max, min, Option, Some, None, refl, sym, ◌∙◌, ap, subst, eqb-true, eq-eqb, arith}
 use Rattle.std.specs.List.{find, range_with_len}
+use Rattle.std.specs.Option.{option_map}
 use Rattle.std.specs.Prelude.{get_or}
 use Rattle.bd_base.specs.declared.act.ApplyEnd.{ApplyEnd}
 use Rattle.bd_base.specs.declared.id.ReqId.{ReqId}
@@ -25,12 +26,12 @@ use Rattle.bd_machine.specs.Budget.{starts_before, may_have_passed, slices_passe
 use Rattle.bd_machine.specs.Content.{Told}
 use Rattle.bd_machine.specs.Guards.{guards, change}
 use Rattle.bd_machine.specs.Limits.{is_limit, limited_here, starts_left, is_tick_due, ticked}
-use Rattle.bd_machine.specs.Run.{IsRunFrom}
+use Rattle.bd_machine.specs.Run.{IsRunFrom, after_all}
 use Rattle.bd_machine.specs.Same.{same_dev}
 use Rattle.bd_machine.specs.Start.{start, part_at_start, limited_at_start, limited_devices}
 use Rattle.bd_machine.specs.Step.{refusal, after}
 use Rattle.bd_machine.specs.Table.{change_first}
-use Rattle.bd_machine.specs.Timeslices.{Timing, timing_of, timings, slices_of, FitsAct, Fits, SomeStartFits}
+use Rattle.bd_machine.specs.Timeslices.{Timing, timing_of, timings, slices_of, FitsAct, Fits, IsAmong, IsLeftStart, LeftStartsFit, SomeStartFits}
 use Rattle.bd_machine.specs.View.{View, Came, view, part_of, came_for, blank_part}
 use Rattle.bd_machine.proofs.Tables.{dev_exact}
 use Rattle.bd_machine.proofs.Parts.{Core, is_plain, plain_grows}
@@ -54,14 +55,10 @@ is_timing dev x = same_dev x.dev dev
 abbrev timing_in : DevId → List Timing → Option Timing
 timing_in dev rows = find (is_timing dev) rows
 
-abbrev WithinStarts : ℕ → Option Starts → Type 0
-WithinStarts start None = Unit {0}
-WithinStarts start (Some s) = (s.earliest ≤ start) × (start ≤ s.latest)
-
 -- a start is possible as yet
 abbrev Within : ℕ → Option Timing → Type 0
 Within start None = Unit {0}
-Within start (Some x) = WithinStarts start x.starts
+Within start (Some x) = IsAmong start x.starts
 
 abbrev IsSomeLeft : Option Starts → Type 0
 IsSomeLeft None = Unit {0}
@@ -83,7 +80,7 @@ some_start (Some x) h = go x.starts h
     same : (n : ℕ) → n ≤ n
     same n = omega arith
 
-    go : (o : Option Starts) → IsSomeLeft o → (start : ℕ) × WithinStarts start o
+    go : (o : Option Starts) → IsSomeLeft o → (start : ℕ) × IsAmong start o
     go None h = (0, tt)
     go (Some s) h = (s.earliest, (same s.earliest, h))
 
@@ -187,7 +184,7 @@ row_ticked setup moments dev now slices l h =
       fits = λ start w. fits_between now sum start enough (max_parts old.earliest (now - (sum * 1000 + 999)) start w.0).1 (min_parts old.latest (now - sum * 1000) start w.1).1;
     }
   where
-    inside : (o : Option Starts) (start : ℕ) → (starts_left moments now o).earliest ≤ start → start ≤ (starts_left moments now o).latest → WithinStarts start o
+    inside : (o : Option Starts) (start : ℕ) → (starts_left moments now o).earliest ≤ start → start ≤ (starts_left moments now o).latest → IsAmong start o
     inside None start a b = tt
     inside (Some s) start a b = (a, b)
 
@@ -256,6 +253,46 @@ module _ (setup : Setup) (dev : DevId) where
           let act_fits = a.1.1.1.1.1 x.0 (subst (λ (o : Option Timing). (x.0 ≤ now) × (slices_passed x.0 now ≡ sum_of o + slices)) (sym old) (T.fits x.0 x.1.0)) in
           (x.0, (T.within x.0 x.1.0, (subst (λ (o : Option Timing). FitsAct dev x.0 (sum_of o) e.act) old act_fits, subst (λ (n : ℕ). Fits dev x.0 n es) (T.sum ∙ ap (λ (k : ℕ). sum_of (timing_at s) + k) (sym a.1.1.1.0)) x.1.1)))
 
+  -- each start that is left in the end fits, and was left before
+  left_fits : (s : State) (es : List Entry) → IsFresh s → IsRunFrom setup s es → (start : ℕ) → Within start (timing_at (after_all setup s es)) → Within start (timing_at s) × Fits dev start (sum_of (timing_at s)) es
+  left_fits s [] fresh run start w = (w, tt)
+  left_fits s (e ∷ es) fresh run start w = go (is_tick_of dev e.act) refl (left_fits (after setup s e) es (fresh_after setup s e fresh run.0) run.1 start w)
+    where
+      zero_more : (n k : ℕ) → k ≡ 0 → n ≡ n + k
+      zero_more n k h = omega arith
+
+      go : (b : Bool) → is_tick_of dev e.act ≡ b → Within start (timing_at (after setup s e)) × Fits dev start (sum_of (timing_at (after setup s e))) es
+          → Within start (timing_at s) × (FitsAct dev start (sum_of (timing_at s)) e.act × Fits dev start (sum_of (timing_at s) + slices_of dev e.act) es)
+      go false q x =
+          let k = kept_by s e fresh run.0 q in
+          let u = untold_fits dev start (sum_of (timing_at s)) e.act q in
+          (subst (Within start) k x.0, (u.0, subst (λ (n : ℕ). Fits dev start n es) (ap sum_of k ∙ zero_more (sum_of (timing_at s)) (slices_of dev e.act) u.1) x.1))
+      go true q x =
+          let a = act_ticked setup e.thread (view s e.thread) e.act (came_for setup s e.thread e.act) dev (allowed_passes setup s e run.0) q in
+          let now : ℕ = a.1.0 in
+          let slices : ℕ = a.1.1.0 in
+          let old : timing dev (part_of s e.thread) ≡ timing_at s = ap (λ (u : ℕ). timing dev (part_of s u)) (sym a.0) in
+          let new : timing dev (change setup e.thread (view s e.thread) e.act (came_for setup s e.thread e.act)).part ≡ timing_at (after setup s e) = sym (ap (timing dev) (part_is setup s e fresh run.0)) ∙ ap (λ (u : ℕ). timing dev (part_of (after setup s e) u)) (sym a.0) in
+          let T : IsTicked dev (timing_at s) (timing_at (after setup s e)) now slices = subst (λ (o : Option Timing). IsTicked dev o (timing_at (after setup s e)) now slices) old (subst (λ (o : Option Timing). IsTicked dev (timing dev (part_of s e.thread)) o now slices) new a.1.1.1.1.0) in
+          let act_fits = a.1.1.1.1.1 start (subst (λ (o : Option Timing). (start ≤ now) × (slices_passed start now ≡ sum_of o + slices)) (sym old) (T.fits start x.0)) in
+          (T.within start x.0, (subst (λ (o : Option Timing). FitsAct dev start (sum_of o) e.act) old act_fits, subst (λ (n : ℕ). Fits dev start n es) (T.sum ∙ ap (λ (k : ℕ). sum_of (timing_at s) + k) (sym a.1.1.1.0)) x.1))
+
+-- a device's timing is that of its row
+timing_found : (dev : DevId) (rows : List Limited) → timing_in dev (timings rows) ≡ option_map timing_of (find (is_limit dev) rows)
+timing_found dev [] = refl
+timing_found dev (x ∷ xs) = go (is_limit dev x) (timing_found dev xs)
+  where
+    go : (b : Bool) → timing_in dev (timings xs) ≡ option_map timing_of (find (is_limit dev) xs) → cond b (Some (timing_of x)) (timing_in dev (timings xs)) ≡ option_map timing_of (cond b (Some x) (find (is_limit dev) xs))
+    go true ih = refl
+    go false ih = ih
+
+left_within : (dev : DevId) (start : ℕ) (rows : List Limited) → IsLeftStart start (find (is_limit dev) rows) → Within start (timing_in dev (timings rows))
+left_within dev start rows h = subst (Within start) (sym (timing_found dev rows)) (go (find (is_limit dev) rows) h)
+  where
+    go : (o : Option Limited) → IsLeftStart start o → Within start (option_map timing_of o)
+    go None h = tt
+    go (Some l) h = h
+
 -- at the start no timeslice was told
 fresh_rows : (setup : Setup) (dev : DevId) (ds : List DevId) → (IsOpen (timing_in dev (timings (map (limited_at_start setup) ds)))) × (sum_of (timing_in dev (timings (map (limited_at_start setup) ds))) ≡ 0)
 fresh_rows setup dev [] = (tt, refl)
@@ -276,3 +313,10 @@ some_start_fits setup told es run dev =
     let at_first = fresh_parts setup told dev (range_with_len 0 setup.threads) (home setup dev) in
     let x = fits_from setup dev (start setup told) es (fresh_start setup told) run at_first.0 in
     (x.0, subst (λ (n : ℕ). Fits dev x.0 n es) at_first.1 x.1.1)
+
+pub left_starts_fit : LeftStartsFit
+left_starts_fit setup told es run dev at left =
+    let at_first = fresh_parts setup told dev (range_with_len 0 setup.threads) (home setup dev) in
+    let within = left_within dev at (part_of (after_all setup (start setup told) es) (home setup dev)).limited left in
+    let x = left_fits setup dev (start setup told) es (fresh_start setup told) run at within in
+    subst (λ (n : ℕ). Fits dev at n es) at_first.1 x.1

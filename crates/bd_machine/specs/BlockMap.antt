@@ -1,5 +1,5 @@
 -- Which base block lies under a block of a device.
-use Rattle.std.specs.Prelude.{ℕ, zero, suc, ◌+◌, ◌%◌, Bool, true, false, ◌&&◌, ◌==◌, List, [], ◌∷◌, length, map, Option, Some, None, slice_get}
+use Rattle.std.specs.Prelude.{◌≡◌, ℕ, ◌<◌, zero, suc, ◌+◌, ◌%◌, Bool, true, false, ◌&&◌, ◌==◌, List, [], ◌∷◌, length, map, Option, Some, None, slice_get}
 use Rattle.bd_base.specs.declared.id.DevId.{DevId}
 use Rattle.bd_base.specs.declared.device.Kind.{Kind}
 use Rattle.bd_base.specs.declared.device.Kind.TheVariants as kinds
@@ -86,6 +86,10 @@ depth_of setup dev = depth_of_row (row_of setup dev)
 -- the device that a device stands on
 abbrev pub stands_on : Setup → DevId → Option DevId
 stands_on setup dev = base_of_row (row_of setup dev)
+
+-- each device stands on one with a number below its own: it is made after its base
+abbrev pub StandsOnEarlier : Setup → Type 0
+StandsOnEarlier setup = (dev base : DevId) → stands_on setup dev ≡ Some base → base.0 < dev.0
 
 -- what lies below, where a device stands on another
 abbrev pub under : Option DevId → (DevId → List Block) → List Block

@@ -1,17 +1,12 @@
 -- The guards of each act, and what it changes, over what its thread sees and what came to it.
-use Rattle.std.specs.Prelude.{ℕ, Bool, true, false, not, ◌||◌, List, [], Option, Some, None}
+use Rattle.std.specs.Prelude.{ℕ, Bool, true, List, [], Option, Some, None}
 use Rattle.bd_base.specs.declared.act.Act.{Act}
 use Rattle.bd_base.specs.declared.act.Act.TheVariants as acts
 use Rattle.bd_base.specs.declared.event.Answer.TheVariants as answers
-use Rattle.bd_base.specs.declared.act.Token.{Token}
-use Rattle.bd_base.specs.declared.act.Token.TheVariants as tokens
-use Rattle.bd_base.specs.declared.event.RegEvent.{RegEvent}
 use Rattle.bd_base.specs.declared.event.RegEvent.TheVariants as events
 use Rattle.bd_base.specs.declared.setup.Setup.{Setup}
 use Rattle.bd_machine.specs.declared.state.TakenInjection.{TakenInjection}
 use Rattle.bd_machine.specs.Aborts.{guards_abort, change_abort}
-use Rattle.bd_machine.specs.Admission.{has_range}
-use Rattle.bd_machine.specs.AsYet.{as_yet}
 use Rattle.bd_machine.specs.Delays.{guards_hold, change_hold, guards_release, change_release}
 use Rattle.bd_machine.specs.Events.{guards_reg, change_reg}
 use Rattle.bd_machine.specs.Homes.{guards_apply, change_apply, guards_no_mem, change_no_mem, guards_destruct, change_destruct}
@@ -23,47 +18,9 @@ use Rattle.bd_machine.specs.Scripts.{guards_script, change_script}
 use Rattle.bd_machine.specs.Walks.{guards_visit, change_visit}
 use Rattle.bd_machine.specs.View.{View, Came, Change}
 
--- ---- what is built as yet: all that isn't a reset, an abort that names a request, a limit, an injection or a delay
-
-abbrev pub is_built_token : Token → Bool
-is_built_token (tokens.Piece req k) = true
-is_built_token (tokens.Mark mark) = true
-is_built_token (tokens.Channel dev) = true
-is_built_token (tokens.Walk walk) = true
-is_built_token (tokens.Gone handle) = true
-is_built_token (tokens.Device dev) = true
-is_built_token _ = false
-
-abbrev pub is_built_event : RegEvent → Bool
-is_built_event (events.Open name write) = true
-is_built_event (events.Close handle) = true
-is_built_event (events.Claim handle kind) = true
-is_built_event (events.GetChannel dev) = true
-is_built_event (events.PutChannel dev closing) = true
-is_built_event (events.DropChannel dev) = true
-is_built_event (events.BeginRemove name) = true
-is_built_event (events.Destructed dev) = true
-is_built_event _ = false
-
-abbrev pub is_built_as_yet : Act → Bool
-is_built_as_yet (acts.Put to number what) = is_built_token what
-is_built_as_yet (acts.Took source number what) = is_built_token what
-is_built_as_yet (acts.Reg event answer) = is_built_event event
-is_built_as_yet (acts.Accept dev lba handle req op count) = has_range op
-is_built_as_yet (acts.Refuse errno lba handle op count) = has_range op
-is_built_as_yet (acts.Cut req pieces) = true
-is_built_as_yet (acts.Apply req k dev end) = true
-is_built_as_yet (acts.NoMem req k dev) = true
-is_built_as_yet (acts.Abort req cause) = true
-is_built_as_yet (acts.Visit walk dev kind) = true
-is_built_as_yet (acts.Complete req status shown) = true
-is_built_as_yet (acts.Destruct dev digest) = true
-is_built_as_yet (acts.Script line outcome) = true
-is_built_as_yet acts.Shutdown = true
-is_built_as_yet _ = false
-
+-- every act is built; the first guard keeps its number for acts that aren't
 abbrev pub is_built : Act → Bool
-is_built act = not as_yet || is_built_as_yet act
+is_built act = true
 
 -- ---- one table of acts
 

@@ -1,5 +1,5 @@
 -- Limits: where a request waits, and Let and Tick.
-use Rattle.std.specs.Prelude.{ℕ, ◌+◌, ◌*◌, Bool, true, false, not, ◌&&◌, ◌||◌, ◌==◌, nat_lt, nat_le, List, [], ◌∷◌, ◌++◌, length, filter, find, Option, Some, None, is_none, slice_get, slice_index_or, unwrap_or}
+use Rattle.std.specs.Prelude.{ℕ, ◌+◌, ◌*◌, Bool, true, false, cond, not, ◌&&◌, ◌||◌, ◌==◌, nat_lt, nat_le, List, [], ◌∷◌, ◌++◌, length, filter, find, Option, Some, None, is_none, slice_get, slice_index_or, unwrap_or}
 use Rattle.bd_base.specs.declared.device.Rates.{Rates}
 use Rattle.bd_base.specs.declared.id.DevId.{DevId}
 use Rattle.bd_base.specs.declared.id.ReqId.{ReqId}
@@ -21,7 +21,7 @@ use Rattle.bd_machine.specs.Budget.{quotas_of, may_pass, charged, renewed, may_h
 use Rattle.bd_machine.specs.Kept.{request_here, edited}
 use Rattle.bd_machine.specs.Marks.{is_marked}
 use Rattle.bd_machine.specs.Same.{same_dev, same_request, is_the}
-use Rattle.bd_machine.specs.Table.{change_first}
+use Rattle.bd_machine.specs.Table.{change_first, without_first}
 use Rattle.bd_machine.specs.View.{View, Change}
 
 -- ---- limited devices
@@ -64,6 +64,10 @@ abbrev pub is_out : Trip → Bool
 is_out trips.Out = true
 is_out _ = false
 
+-- the limited device at whose home a request is, if it went out to one
+abbrev pub waits_at : Setup → OpenRequest → Option DevId
+waits_at setup r = cond (is_out r.trip) (next_limited setup r) None
+
 abbrev pub is_limit : DevId → Limited → Bool
 is_limit dev l = same_dev l.dev dev
 
@@ -82,7 +86,7 @@ abbrev pub joined : ReqId → Limited → Limited
 joined req l = record l { waiting = l.waiting ++ req ∷ [] }
 
 abbrev pub left_by : ReqId → Limited → Limited
-left_by req l = record l { waiting = filter (λ r. not (same_request r req)) l.waiting }
+left_by req l = record l { waiting = without_first (λ r. same_request r req) l.waiting }
 
 -- the part where a request came to its next limited device
 abbrev pub arrived : Part → ReqId → Option DevId → Part

@@ -2,7 +2,7 @@
 //! law, which the definitions alone prove.
 ghost use Rattle.bd_machine.specs.Destruction.{AcceptedWhereUnmarked, DestructedAfterLastClose, DestructedAtMostOnce, DestructedWhereFree, FreeStays, NamedIsFree, RemovedIsOutOfReach};
 ghost use Rattle.bd_machine.specs.Lines.{LinesArePrefix, ScriptsGoAsFar};
-ghost use Rattle.bd_machine.specs.Timeslices.{SomeStartFits};
+ghost use Rattle.bd_machine.specs.Timeslices.{LeftStartsFit, SomeStartFits};
 ghost use Rattle.bd_machine.specs.Laws.{CompletedStaysClosed, ContentChangesByApply, EachIsCompletedOnce, EachIsDestructedOnce, PrefixIsRun, OtherViewsStay, OwnViewFollows, SomeRunIsComplete, StepIsDetermined};
 
 /// A prefix of a run is a run.
@@ -104,4 +104,9 @@ pub fn destructed_after_last_close()
 /// each Tick of the device tells exactly the timeslices that passed.
 pub fn some_start_fits()
     ensures { SomeStartFits }
+{}
+
+/// Each start that a run leaves for a limited device in the end fits all the device's Ticks.
+pub fn left_starts_fit()
+    ensures { LeftStartsFit }
 {}

@@ -7,7 +7,7 @@ use std::marker::Model;
 
 /// What a piece read, or several pieces in order: nothing; bytes, which contracts see; or bytes of a content
 /// that isn't told, as that of a file, of which contracts see nothing.
-#[derive(Debug, Drop)]
+#[derive(Drop)]
 pub struct ReadBytes {
     bytes: Option<Bytes>,
     told: bool,

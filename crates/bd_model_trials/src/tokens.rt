@@ -2,8 +2,7 @@
 use bd_base::{DevId, OutOfMemory, ReqId, WalkId};
 use bd_machine::{Id, Kept, News};
 use bd_tokens::Tokens;
-use std::process::Abort;
-use std::test::Fail;
+use std::alloc::Global;
 
 // Four ids that differ in one part from those of another number, or in their kind.
 fn ids_of(number: u32) -> [Id; 4] {
@@ -50,35 +49,42 @@ fn hold_all(tokens: &mut Tokens) -> Result<(), OutOfMemory> {
     Ok(())
 }
 
-// Each is found, and those of odd numbers are let go.
-fn let_odd_go(rt: &impl Abort, tokens: &mut Tokens) {
+// How many are found as they were held. Those of odd numbers are let go.
+fn let_odd_go(tokens: &mut Tokens) -> u32 {
+    let mut found = 0u32;
     for number in 0..100u32 {
         for id in ids_of(number) {
-            assert_eq!(rt; device_of(tokens.get(id)), Some(number));
+            if device_of(tokens.get(id)) == Some(number) {
+                found = found.saturating_add(1);
+            }
             if number % 2 == 1 {
                 tokens.let_go(id);
             }
         }
     }
+    found
 }
 
-fn take_all_out(rt: &impl Abort, tokens: &mut Tokens) -> Result<(), OutOfMemory> {
+// How many come out as they were held.
+fn take_all_out(tokens: &mut Tokens) -> Result<u32, OutOfMemory> {
+    let mut found = 0u32;
     for number in 0..100u32 {
         for id in ids_of(number) {
-            let expected = if number % 2 == 1 { None } else { Some(number) };
-            assert_eq!(rt; taken(tokens, id)?, expected);
+            if taken(tokens, id)? == Some(number) {
+                found = found.saturating_add(1);
+            }
         }
     }
-    Ok(())
+    Ok(found)
 }
 
-#[test]
-fn each_token_is_found(rt: HostRuntime) -> Result<(), Fail> {
-    let mut tokens = Tokens::new(rt.alloc());
+/// 400 tokens are held; each is looked up, every second number is let go, and then all are taken out.
+pub(crate) fn counted(alloc: Global) -> Result<String, OutOfMemory> {
+    let mut tokens = Tokens::new(alloc);
     hold_all(&mut tokens)?;
-    assert_eq!(rt; tokens.len(), 400);
-    let_odd_go(&rt, &mut tokens);
-    take_all_out(&rt, &mut tokens)?;
-    assert_eq!(rt; tokens.len(), 0);
-    Ok(())
+    let held = tokens.len();
+    let found = let_odd_go(&mut tokens);
+    let out = take_all_out(&mut tokens)?;
+    let left = tokens.len();
+    Ok(format!(in alloc; "{held} held, {found} found, {out} taken out, {left} left")?)
 }

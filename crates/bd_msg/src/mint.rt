@@ -7,7 +7,7 @@ use std::marker::Model;
 
 /// Makes the tickets of one thread, seen as the id of the next one. Numbers rise from 0, so no two
 /// tickets of a mint have one id.
-#[derive(Debug, Drop)]
+#[derive(Drop)]
 pub struct Mint {
     next: ReqId,
 }

@@ -9,7 +9,6 @@ use std::marker::Model;
 
 /// Tickets that are kept, seen as the list of their ids, and beside it how many it can keep without
 /// taking memory. Like its tickets it can be neither copied nor dropped.
-#[derive(Debug)]
 pub struct Purse {
     tickets: VecDeque<Ticket>,
 }

@@ -6,7 +6,6 @@ use std::marker::Model;
 
 /// The right and the duty to complete a request, seen as the request's id. It can be neither copied
 /// nor dropped: whoever holds it finishes it, or abandons it where the run halts.
-#[derive(Debug)]
 pub struct Ticket {
     id: ReqId,
 }

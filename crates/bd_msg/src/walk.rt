@@ -3,7 +3,7 @@ use crate::request::Request;
 use bd_base::{DevId, ThreadId, ThreadSet, WalkId, WalkKind};
 
 /// A walk visits each thread that had a channel of the device when it began, on that thread itself.
-#[derive(Clone, Copy, Debug, PartialEq, Eq)]
+#[derive(Clone, Copy, PartialEq, Eq)]
 pub struct Walk {
     pub id: WalkId,
     pub dev: DevId,

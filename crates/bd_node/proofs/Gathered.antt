@@ -14,9 +14,9 @@ use Rattle.bd_base.specs.declared.setup.Setup.{Setup}
 use Rattle.bd_log.specs.Merge.{entries_of, threads_of, IsBefore, IsMerge, Part}
 use Rattle.bd_log.proofs.Order.{all_append, all_map, ordered_append}
 use Rattle.bd_outside.specs.Disk.{DiskState}
-use Rattle.bd_apart.specs.Course.{Course, Phase}
-use Rattle.bd_apart.proofs.Arriving.{stamps_are_met}
-use Rattle.bd_storage.specs.Contents.{contents_of}
+use Rattle.bd_law_threads.specs.Course.{Course, Phase}
+use Rattle.bd_law_threads.proofs.Arriving.{stamps_are_met}
+use Rattle.bd_disks.specs.Contents.{contents_of}
 use Rattle.bd_wires.specs.declared.wires.Wires.{Wires}
 use Rattle.bd_worker.specs.declared.seat.Seat.{Seat}
 use Rattle.bd_report.specs.Counter.{HasCounted}

@@ -8,7 +8,7 @@ use Rattle.std.proofs.lemmas.Option.{get_or_from_slice_get, slice_get_within}
 use Rattle.bd_base.specs.declared.act.Entry.{Entry}
 use Rattle.bd_base.specs.declared.id.DevId.{DevId}
 use Rattle.bd_base.specs.declared.setup.Setup.{Setup}
-use Rattle.bd_apart.specs.Course.{Phase}
+use Rattle.bd_law_threads.specs.Course.{Phase}
 use Rattle.bd_log.specs.Merge.{IsMerge, IsOrdered}
 use Rattle.bd_machine.specs.declared.state.Base.{Base}
 use Rattle.bd_machine.specs.declared.state.Content.{Content}
@@ -21,10 +21,10 @@ use Rattle.bd_machine.specs.View.{part_of}
 use Rattle.bd_machine.proofs.Tables.{dev_exact}
 use Rattle.bd_outside.specs.Disk.{DiskState}
 use Rattle.bd_registry.specs.State.{HasRowsOf, IsReplayFromStart, Registered}
-use Rattle.bd_storage.specs.Contents.{contents_of}
-use Rattle.bd_storage.specs.Served.{AreDoneBy}
-use Rattle.bd_storage.proofs.Served.{done_same}
-use Rattle.bd_told.specs.Told.{told_base, AreBasesLowest}
+use Rattle.bd_disks.specs.Contents.{contents_of}
+use Rattle.bd_disks.specs.Done.{AreDoneBy}
+use Rattle.bd_disks.proofs.Done.{done_same}
+use Rattle.bd_law_disks.specs.Told.{told_base, AreBasesLowest}
 use Rattle.bd_turns.specs.Local.{Local}
 use Rattle.bd_wires.specs.declared.wires.Passes.{Passes}
 use Rattle.bd_wires.specs.declared.wires.Wires.{Wires}

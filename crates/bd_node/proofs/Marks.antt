@@ -11,15 +11,15 @@ use Rattle.bd_base.specs.declared.setup.Setup.{Setup}
 use Rattle.bd_machine.specs.Content.{Told}
 use Rattle.bd_machine.specs.View.{View}
 use Rattle.bd_outside.specs.Disk.{DiskState}
-use Rattle.bd_told.specs.Told.{AreBasesLowest}
+use Rattle.bd_law_disks.specs.Told.{AreBasesLowest}
 use Rattle.bd_turns.specs.Laws.{view_at_start}
 use Rattle.bd_log.proofs.Order.{all_map}
-use Rattle.bd_merged.specs.Rows.{Accepts, Row}
-use Rattle.bd_merged.specs.Laws.{shutdown_of}
-use Rattle.bd_apart.specs.Course.{Course, Phase}
-use Rattle.bd_apart.specs.Ends.{phase_after, AreMarked}
-use Rattle.bd_apart.specs.Steps.{first_phase, second_phase}
-use Rattle.bd_served.specs.Served.{served_on, ServedPiece}
+use Rattle.bd_law_logs.specs.Rows.{Accepts, Row}
+use Rattle.bd_law_logs.specs.Laws.{shutdown_of}
+use Rattle.bd_law_threads.specs.Course.{Course, Phase}
+use Rattle.bd_law_threads.specs.Ends.{phase_after, AreMarked}
+use Rattle.bd_law_threads.specs.Steps.{first_phase, second_phase}
+use Rattle.bd_law_served.specs.Served.{served_on, ServedPiece}
 use Rattle.bd_wires.specs.declared.wires.Wires.{Wires}
 use Rattle.bd_node.specs.declared.node.Node.{Node}
 use Rattle.bd_node.specs.declared.node.NodeState.TheVariants.{Idle, Done, Busy}

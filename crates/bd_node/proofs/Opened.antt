@@ -19,9 +19,9 @@ use Rattle.bd_machine.specs.View.{View}
 use Rattle.bd_disks.specs.Holding.{content_in}
 use Rattle.bd_disks.specs.Rows.{disk_of}
 use Rattle.bd_outside.specs.Disk.{DiskState}
-use Rattle.bd_storage.specs.Contents.{content_if, contents_of}
-use Rattle.bd_told.specs.Told.{told_base, told_view, AreBasesLowest}
-use Rattle.bd_told.proofs.Start.{start_is_told}
+use Rattle.bd_disks.specs.Contents.{contents_of, content_if}
+use Rattle.bd_law_disks.specs.Told.{told_base, told_view, AreBasesLowest}
+use Rattle.bd_law_disks.proofs.Start.{start_is_told}
 use Rattle.bd_turns.specs.Laws.{view_at_start}
 use Rattle.bd_node.specs.Disks.{blocks_in, disks_at, told_at, told_of}
 

@@ -22,10 +22,10 @@ use Rattle.bd_machine.specs.View.{View}
 use Rattle.bd_turns.specs.Laws.{is_left_open_in, is_resting_here, AreBlocked, AreDestructed}
 use Rattle.bd_turns.specs.Local.{Local}
 use Rattle.bd_tokens.specs.Tokens.{here_in}
-use Rattle.bd_merged.specs.Laws.{AreAllTaken, AreSpent}
-use Rattle.bd_apart.specs.Course.{Phase}
-use Rattle.bd_apart.specs.Ends.{Rests}
-use Rattle.bd_apart.specs.Steps.{local_at_start}
+use Rattle.bd_law_logs.specs.Laws.{AreAllTaken, AreSpent}
+use Rattle.bd_law_threads.specs.Course.{Phase}
+use Rattle.bd_law_threads.specs.Ends.{Rests}
+use Rattle.bd_law_threads.specs.Steps.{local_at_start}
 use Rattle.bd_thread.specs.declared.links.Links.{Links}
 use Rattle.bd_thread.specs.declared.thread.Thread.{Thread}
 use Rattle.bd_thread.specs.Resting.{has_destructed_all, is_settled, rests}
@@ -34,7 +34,7 @@ use Rattle.bd_wires.specs.declared.wires.Wires.{Wires}
 use Rattle.bd_worker.specs.declared.seat.Seat.{Seat}
 use Rattle.bd_worker.specs.Seats.{seen_over, Past}
 use Rattle.bd_outside.specs.Disk.{DiskState}
-use Rattle.bd_storage.specs.Contents.{contents_of}
+use Rattle.bd_disks.specs.Contents.{contents_of}
 use Rattle.bd_node.specs.Whole.{are_all_taken, has_taken, seat_has_destructed, seat_is_blocked, seat_rests, AreSeated}
 use Rattle.bd_worker.proofs.Places.{all_at, all_below, has_at}
 

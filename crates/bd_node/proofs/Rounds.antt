@@ -7,8 +7,8 @@ use Rattle.std.proofs.lemmas.List.{length-set}
 use Rattle.std.proofs.lemmas.Option.{same_Some, slice_get-get_or, slice_get_within}
 use Rattle.bd_base.specs.declared.id.DevId.{DevId}
 use Rattle.bd_base.specs.declared.setup.Setup.{Setup}
-use Rattle.bd_seat.specs.declared.seat_no.SeatNo.{SeatNo}
-use Rattle.bd_apart.specs.Course.{Phase}
+use Rattle.bd_seat.specs.declared.seat_error.SeatError.{SeatError}
+use Rattle.bd_law_threads.specs.Course.{Phase}
 use Rattle.bd_wires.specs.declared.wires.Wires.{Wires}
 use Rattle.bd_worker.specs.declared.seat.Seat.{Seat}
 use Rattle.bd_outside.specs.Disk.{DiskState}
@@ -17,7 +17,7 @@ use Rattle.bd_worker.specs.Seats.{Continues, IsSitting, Past}
 use Rattle.bd_node.specs.Whole.{AreSeated, IsIn}
 use Rattle.bd_worker.proofs.Places.{set_else, set_here}
 
-pub no_halt : (o : Option SeatNo) → is_none o ≡ true → o ≡ None
+pub no_halt : (o : Option SeatError) → is_none o ≡ true → o ≡ None
 no_halt None h = refl
 no_halt (Some x) h = cc
 

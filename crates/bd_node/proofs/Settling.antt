@@ -16,22 +16,22 @@ use Rattle.bd_machine.specs.Run.{state_after, IsCompleteRun}
 use Rattle.bd_machine.specs.Start.{start}
 use Rattle.bd_machine.specs.View.{part_of}
 use Rattle.bd_outside.specs.Disk.{DiskState}
-use Rattle.bd_told.specs.Told.{AreBasesLowest}
-use Rattle.bd_merged.specs.Fits.{IsMergeOf}
-use Rattle.bd_merged.specs.Journals.{events}
-use Rattle.bd_merged.specs.Laws.{ArePartsOf}
-use Rattle.bd_merged.specs.Rows.{entries, Row}
-use Rattle.bd_merged.proofs.OfParts.{merge_of_parts}
+use Rattle.bd_law_disks.specs.Told.{AreBasesLowest}
+use Rattle.bd_law_logs.specs.Fits.{IsMergeOf}
+use Rattle.bd_law_logs.specs.Journals.{events}
+use Rattle.bd_law_logs.specs.Laws.{ArePartsOf}
+use Rattle.bd_law_logs.specs.Rows.{entries, Row}
+use Rattle.bd_law_logs.proofs.OfParts.{merge_of_parts}
 use Rattle.bd_registry.specs.State.{HasRowsOf, IsReplayFromStart, Registered}
 use Rattle.bd_ring.specs.Posts.{sent_by}
 use Rattle.bd_ring.specs.SlotRule.{StartsWith}
 use Rattle.bd_turns.specs.declared.queue.Post.{Post}
 use Rattle.bd_turns.specs.Local.{Local}
-use Rattle.bd_apart.specs.Course.{all_rows, Course, IsCourse, Phase}
-use Rattle.bd_apart.specs.Ends as ends
-use Rattle.bd_apart.specs.Steps.{new_course}
-use Rattle.bd_apart.proofs.Ending.{bases_end_as_seen, courses_are_complete_run, courses_serve_as_seen}
-use Rattle.bd_served.specs.Served.{served_from}
+use Rattle.bd_law_threads.specs.Course.{all_rows, Course, IsCourse, Phase}
+use Rattle.bd_law_threads.specs.Ends as ends
+use Rattle.bd_law_threads.specs.Steps.{new_course}
+use Rattle.bd_law_threads.proofs.Ending.{bases_end_as_seen, courses_are_complete_run, courses_serve_as_seen}
+use Rattle.bd_law_served.specs.Served.{served_from}
 use Rattle.bd_wires.specs.declared.wires.Passes.{Passes}
 use Rattle.bd_wires.specs.declared.wires.Wires.{Wires}
 use Rattle.bd_wires.specs.Wires as wires

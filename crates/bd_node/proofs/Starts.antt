@@ -13,17 +13,17 @@ use Rattle.bd_machine.specs.declared.state.Content.{Content}
 use Rattle.bd_machine.specs.Content.{Told}
 use Rattle.bd_machine.specs.View.{View}
 use Rattle.bd_outside.specs.Disk.{DiskState}
-use Rattle.bd_storage.specs.Contents.{contents_of}
-use Rattle.bd_storage.specs.Served.{AreDoneBy}
-use Rattle.bd_storage.proofs.Served.{done_none}
-use Rattle.bd_told.specs.Told.{told_local, IsOnce}
-use Rattle.bd_told.proofs.Kept.{start_is_once}
+use Rattle.bd_disks.specs.Contents.{contents_of}
+use Rattle.bd_disks.specs.Done.{AreDoneBy}
+use Rattle.bd_disks.proofs.Done.{done_none}
+use Rattle.bd_law_disks.specs.Told.{told_local, IsOnce}
+use Rattle.bd_law_disks.proofs.Kept.{start_is_once}
 use Rattle.bd_turns.specs.Laws.{shared_at_start}
 use Rattle.bd_turns.specs.Local.{Local}
 use Rattle.bd_registry.specs.State.{Registered, start_of}
-use Rattle.bd_apart.specs.Course.{IsCourse, Phase}
-use Rattle.bd_apart.specs.Steps.{first_phase, local_at_start, new_course}
-use Rattle.bd_apart.proofs.Arriving.{course_begins}
+use Rattle.bd_law_threads.specs.Course.{IsCourse, Phase}
+use Rattle.bd_law_threads.specs.Steps.{first_phase, local_at_start, new_course}
+use Rattle.bd_law_threads.proofs.Arriving.{course_begins}
 use Rattle.bd_thread.specs.Seen.{local}
 use Rattle.bd_thread.proofs.Starting.{new_is_at_start}
 use Rattle.bd_wires.specs.declared.wires.Passes.{Passes}

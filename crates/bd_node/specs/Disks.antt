@@ -14,9 +14,9 @@ use Rattle.bd_machine.specs.Start.{start}
 use Rattle.bd_machine.specs.Users.{dev_of}
 use Rattle.bd_machine.specs.View.{part_of}
 use Rattle.bd_outside.specs.Disk.{DiskState}
-use Rattle.bd_served.specs.Served.{served_from, ServedPiece}
-use Rattle.bd_storage.specs.Contents.{contents_of}
-use Rattle.bd_storage.specs.Served.{AreDoneBy}
+use Rattle.bd_law_served.specs.Served.{served_from, ServedPiece}
+use Rattle.bd_disks.specs.Contents.{contents_of}
+use Rattle.bd_disks.specs.Done.{AreDoneBy}
 use Rattle.bd_worker.specs.declared.seat.Seat.{Seat}
 
 -- ---- threads, in order

@@ -10,15 +10,15 @@ use Rattle.bd_log.specs.Merge.{entries_of, IsOrdered, Part}
 use Rattle.bd_machine.specs.Content.{Told}
 use Rattle.bd_machine.specs.Messages.{count_at}
 use Rattle.bd_machine.specs.View.{View}
-use Rattle.bd_merged.specs.Rows.{Row}
+use Rattle.bd_law_logs.specs.Rows.{Row}
 use Rattle.bd_outside.specs.Disk.{DiskState}
-use Rattle.bd_apart.specs.Course.{Phase}
-use Rattle.bd_apart.specs.Ends.{phase_after, AreMarked}
-use Rattle.bd_apart.specs.Steps.{first_phase}
+use Rattle.bd_law_threads.specs.Course.{Phase}
+use Rattle.bd_law_threads.specs.Ends.{phase_after, AreMarked}
+use Rattle.bd_law_threads.specs.Steps.{first_phase}
 use Rattle.bd_thread.specs.Resting.{has_destructed_all, is_blocked, rests}
-use Rattle.bd_seat.specs.declared.seat_no.SeatNo.{SeatNo}
-use Rattle.bd_seat.specs.declared.seat_no.SeatNo.TheVariants.{OutOfMemory, StampsSpent}
-use Rattle.bd_told.specs.Told.{AreBasesLowest}
+use Rattle.bd_seat.specs.declared.seat_error.SeatError.{SeatError}
+use Rattle.bd_seat.specs.declared.seat_error.SeatError.TheVariants.{OutOfMemory, StampsSpent}
+use Rattle.bd_law_disks.specs.Told.{AreBasesLowest}
 use Rattle.bd_wires.specs.declared.wires.Wires.{Wires}
 use Rattle.bd_node.specs.declared.node.Node.{Node}
 use Rattle.bd_node.specs.declared.node.NodeState.{NodeState}
@@ -91,7 +91,7 @@ pub record IsNode {D : Type 0} (state : D → DiskState) (n : Node D) : Type 0 w
 abbrev pub seat_goes : {D : Type 0} → Seat D → Bool
 seat_goes s = is_none s.halted
 
-abbrev pub is_spent : Option SeatNo → Bool
+abbrev pub is_spent : Option SeatError → Bool
 is_spent (Some StampsSpent) = true
 is_spent _ = false
 
@@ -99,7 +99,7 @@ abbrev pub seat_has_stamps : {D : Type 0} → Seat D → Bool
 seat_has_stamps s = not (is_spent s.halted)
 
 -- why seats have to halt, where some have to: a thread's stamps are spent, or there was no memory
-abbrev pub halt_of : {D : Type 0} → List (Seat D) → SeatNo
+abbrev pub halt_of : {D : Type 0} → List (Seat D) → SeatError
 halt_of seats = cond (list_all seat_has_stamps seats) OutOfMemory StampsSpent
 
 -- whichever setup's threads sat at their places sit there still, where none has to halt

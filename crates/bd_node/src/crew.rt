@@ -2,8 +2,9 @@
 ghost use Rattle.std.specs.Prelude.{◌<◌, All, length};
 ghost use Rattle.bd_worker.specs.Seats.{AllWentOn, SitsOrHalts};
 
+use crate::outside::Outside;
 use crate::sharing::Deal;
-use bd_outside::{Disk, Gate};
+use bd_outside::{Clock, Disk, Gate};
 use bd_wires::Wires;
 use bd_worker::Seat;
 use std::alloc::Global;
@@ -15,21 +16,21 @@ use std::thread;
 /// the logs until its end, so a round is short, and it is no longer for a reactor with more seats.
 const MOVES: u32 = 64;
 
-/// What the reactors of a round share: the gate that they pass, how threads are dealt to them, and how many of
-/// them are at work.
+/// What the reactors of a round share: the gate that they pass and the clock that they ask, how threads are dealt to
+/// them, and how many of them are at work.
 #[derive(Drop)]
-pub(crate) struct Watch<'g, G> {
-    gate: &'g G,
+pub(crate) struct Watch<'g, C, G> {
+    outside: &'g Outside<'g, C, G>,
     round: u64,
     deal: Deal,
     working: AtomicU32,
 }
 
-impl<'g, G: Gate> Watch<'g, G> {
+impl<'g, C: Clock, G: Gate> Watch<'g, C, G> {
     /// Before the reactors of the round begin.
-    pub fn new(gate: &'g G, round: u64, deal: Deal) -> Self {
+    pub fn new(outside: &'g Outside<'g, C, G>, round: u64, deal: Deal) -> Self {
         Watch {
-            gate,
+            outside,
             round,
             deal,
             working: AtomicU32::new(0),
@@ -52,8 +53,8 @@ impl<'g, G: Gate> Watch<'g, G> {
 
 // One reactor in a round.
 #[derive(Drop)]
-struct Crew<'w, 'g, G> {
-    watch: &'w Watch<'g, G>,
+struct Crew<'w, 'g, C, G> {
+    watch: &'w Watch<'g, C, G>,
     reactor: u32,
     // how many turns it gave, and in how many of them something moved
     turns: u32,
@@ -62,7 +63,7 @@ struct Crew<'w, 'g, G> {
     working: bool,
 }
 
-impl<'w, 'g, G: Gate> Crew<'w, 'g, G> {
+impl<'w, 'g, C: Clock, G: Gate> Crew<'w, 'g, C, G> {
     fn begin(&mut self) {
         if !self.working {
             self.watch.working.fetch_add(1, Ordering::SeqCst);
@@ -77,8 +78,8 @@ impl<'w, 'g, G: Gate> Crew<'w, 'g, G> {
         }
     }
 
-    // A turn of the seat at this place, before which the reactor passes the gate. True where it moved: the reactor
-    // is at work from then on.
+    // A turn of the seat at this place, before which the reactor passes the gate; its moment is what the clock tells
+    // then. True where it moved: the reactor is at work from then on.
     fn turn<W: Wait, D: Disk>(
         &mut self,
         rt: &W,
@@ -93,8 +94,12 @@ impl<'w, 'g, G: Gate> Crew<'w, 'g, G> {
     {
         self.turns = self.turns.saturating_add(1);
         let watch = self.watch;
-        watch.gate.pass(self.reactor, watch.round, self.turns);
-        let moved = seats[place].step(rt, alloc, wires);
+        watch
+            .outside
+            .gate
+            .pass(self.reactor, watch.round, self.turns);
+        let now = watch.outside.clock.now();
+        let moved = seats[place].step(rt, alloc, wires, now);
         if moved {
             self.begin();
             self.moves = self.moves.saturating_add(1);
@@ -181,14 +186,14 @@ impl<'w, 'g, G: Gate> Crew<'w, 'g, G> {
     }
 }
 
-/// The turns that a reactor gives its seats in a round: passes over all of them, until one in which none moved
+/// The turns that a reactor gives its seats in a round: it goes over all of them, until none moved in a pass
 /// while no other reactor was at work, or until 64 turns in which something moved, and the end of that pass. It gives
 /// turns also while it has nothing to do itself and others have, so that what they send is taken at once.
-pub(crate) fn give_turns<W: Wait, G: Gate, D: Disk>(
+pub(crate) fn give_turns<W: Wait, C: Clock, G: Gate, D: Disk>(
     rt: &W,
     alloc: Global,
     wires: &Wires,
-    watch: &Watch<G>,
+    watch: &Watch<C, G>,
     seats: &mut [Seat<D>],
 )
     requires { All (SitsOrHalts D.state wires.now) seats.old }

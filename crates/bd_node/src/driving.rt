@@ -1,11 +1,11 @@
 //! What a node does: its turns and rounds, its shutdown, and its end.
 ghost use Rattle.std.specs.Prelude.{◌≡◌, ◌<◌, ◌≤◌, ◌+◌, List, [], None, false, length, sum_by, vec_len, IfErr, IfOk, IsPermutation, MatchBool, OnErr, OnOk};
 ghost use Rattle.std.specs.List.{list_all};
-ghost use Rattle.bd_apart.specs.Steps.{first_phase};
+ghost use Rattle.bd_law_threads.specs.Steps.{first_phase};
 ghost use Rattle.bd_log.specs.Merge.{IsMerge};
 ghost use Rattle.bd_machine.specs.Run.{IsCompleteRun};
 ghost use Rattle.bd_base.specs.declared.id.DevId.{DevId};
-ghost use Rattle.bd_told.specs.Told.{AreBasesLowest};
+ghost use Rattle.bd_law_disks.specs.Told.{AreBasesLowest};
 ghost use Rattle.bd_node.specs.Disks.{disks_of, told_of, SaysOfDisks};
 ghost use Rattle.bd_node.specs.Schedule.{advance, advance_by};
 ghost use Rattle.bd_worker.specs.Seats.{has_moved, made_by, HasMoved, Tells};
@@ -20,15 +20,16 @@ use crate::ending::{learn_all, take_all_apart};
 use crate::gathering::greatest;
 use crate::history::{History, Played};
 use crate::node::{Node, NodeState};
+use crate::outside::Outside;
 use crate::schedule::Schedule;
 use crate::sharing::{Deal, turn_all};
 use bd_base::{OutOfMemory, Rows, Setup};
 use bd_disks::Shelf;
-use bd_outside::{Disk, Gate};
+use bd_outside::{Clock, Disk, Gate};
 use bd_registry::Registry;
 use bd_report::counter::Counter;
 use bd_report::stats::Stats;
-use bd_seat::SeatNo;
+use bd_seat::SeatError;
 use bd_thread::Turned;
 use bd_wires::{Wires, connect, disconnect};
 use bd_worker::Seat;
@@ -45,6 +46,11 @@ fn all_rest<'a, D>(seats: &[Seat<'a, D>]) -> bool
     seats
         .iter()
         .all(|seat| seat.worker.thread.rests(&seat.worker.links))
+}
+
+// Whether nothing goes on by itself on any thread but holds and scripts.
+fn all_rest_but_for_holds<'a, D>(seats: &[Seat<'a, D>]) -> bool {
+    seats.iter().all(|seat| { seat.worker.thread.rests_but_for_holds(&seat.worker.links) })
 }
 
 fn are_all_blocked<'a, D>(seats: &[Seat<'a, D>]) -> bool
@@ -99,13 +105,13 @@ fn all_have_stamps<'a, D>(seats: &[Seat<'a, D>]) -> bool
 }
 
 // Why seats have to halt, where some have to: a thread's stamps are spent, or there was no memory.
-fn halt_of<'a, D>(seats: &[Seat<'a, D>]) -> SeatNo
+fn halt_of<'a, D>(seats: &[Seat<'a, D>]) -> SeatError
     ensures { result ≡ halt_of seats.now }
 {
     if all_have_stamps(seats) {
-        SeatNo::OutOfMemory
+        SeatError::OutOfMemory
     } else {
-        SeatNo::StampsSpent
+        SeatError::StampsSpent
     }
 }
 
@@ -116,10 +122,18 @@ fn has_moved(turned: Turned) -> bool
     matches!(turned, Turned::Moved(_))
 }
 
-fn is_spent(halted: Option<SeatNo>) -> bool
+fn is_spent(halted: Option<SeatError>) -> bool
     ensures { result ≡ is_spent halted }
 {
-    matches!(halted, Some(SeatNo::StampsSpent))
+    matches!(halted, Some(SeatError::StampsSpent))
+}
+
+// The lesser of two numbers of microseconds, of which the first may be missing.
+fn lesser(least: Option<u64>, micros: u64) -> u64 {
+    match least {
+        Some(least) => least.min(micros),
+        None => micros,
+    }
 }
 
 // The threads of a setup before any entry, each with the disks at its place of the shelf, and what they share.
@@ -166,7 +180,7 @@ impl<'a, D: Disk> Node<'a, D> {
         ensures none { IfOk result (λ node. entries_made node ≡ 0) }
         ensures disks { IfOk result (λ node. disks_of node.seats.items ≡ disks.items) }
         ensures shelf { IfOk result (λ node. node.shelf.items ≡ []) }
-        ensures kept { IfErr result (λ no. IsPermutation disks.items no.1.items) }
+        ensures kept { IfErr result (λ error. IsPermutation disks.items error.1.items) }
     {
         let Ok(counter) = Counter::new(alloc, setup) else {
             return Err((OutOfMemory, disks));
@@ -189,15 +203,20 @@ impl<'a, D: Disk> Node<'a, D> {
         }
     }
 
-    /// A turn of a thread; quiet where there is no such thread.
-    pub fn turn_of<R: Wait>(&mut self, rt: &R, thread: u32) -> Result<Turned, SeatNo>
+    /// A turn of a thread, whose moment the clock tells; quiet where there is no such thread.
+    pub fn turn_of<R: Wait, C: Clock>(
+        &mut self,
+        rt: &R,
+        thread: u32,
+        clock: &C,
+    ) -> Result<Turned, SeatError>
         requires { IsNode D.state self.old }
         ensures node { OnOk result (IsNode D.state self.new) }
         ensures setup { OnOk result (HasSameSetup self.old self.new) }
         ensures flag { OnOk result (HasSameFlag self.old self.new) }
         ensures schedule { OnOk result (seed_of self.new ≡ seed_of self.old) }
         ensures turned { IfOk result (Tells (entries_made self.old) (entries_made self.new)) }
-        ensures quiet { IfOk result (TurnsQuietly thread self.old self.new) }
+        ensures quiet { IfOk result (TurnsQuietly (C.range clock.now) thread self.old self.new) }
         ensures none { (setup_in self.old).threads ≤ thread → OnOk result (self.new ≡ self.old) }
         ensures disks { OnOk result (KeepsDisks D.state self.old self.new) }
         ensures kept { HasAllDisks D.state self.old self.new }
@@ -206,12 +225,13 @@ impl<'a, D: Disk> Node<'a, D> {
         if place >= self.seats.len() {
             return Ok(Turned::Quiet);
         }
+        let now = clock.now();
         let seat = &mut self.seats[place];
-        seat.turn(rt, self.alloc, &self.wires)
+        seat.turn(rt, self.alloc, &self.wires, now)
     }
 
     // The next turn by the schedule; whether it moved.
-    fn next_turn<R: Wait>(&mut self, rt: &R) -> Result<bool, SeatNo>
+    fn next_turn<R: Wait, C: Clock>(&mut self, rt: &R, clock: &C) -> Result<bool, SeatError>
         requires { IsNode D.state self.old }
         ensures node { OnOk result (IsNode D.state self.new) }
         ensures setup { OnOk result (HasSameSetup self.old self.new) }
@@ -222,12 +242,12 @@ impl<'a, D: Disk> Node<'a, D> {
         ensures moved { IfOk result (HasMoved (entries_made self.old) (entries_made self.new)) }
     {
         let thread = self.schedule.next(self.setup.threads);
-        let turned = self.turn_of(rt, thread)?;
+        let turned = self.turn_of(rt, thread, clock)?;
         Ok(has_moved(turned))
     }
 
     // 256 turns by the schedule. True where some turn moved.
-    fn turn_by_schedule<R: Wait>(&mut self, rt: &R) -> Result<bool, SeatNo>
+    fn turn_by_schedule<R: Wait, C: Clock>(&mut self, rt: &R, clock: &C) -> Result<bool, SeatError>
         requires { IsNode D.state self.old }
         ensures node { OnOk result (IsNode D.state self.new) }
         ensures setup { OnOk result (HasSameSetup self.old self.new) }
@@ -239,15 +259,15 @@ impl<'a, D: Disk> Node<'a, D> {
     {
         let mut moved = false;
         for _ in 0..TURNS {
-            let turned = self.next_turn(rt)?;
+            let turned = self.next_turn(rt, clock)?;
             moved = moved || turned;
         }
         Ok(moved)
     }
 
-    /// 256 turns by the schedule, which goes on from call to call, and then what they did is gathered. True where some
-    /// turn moved.
-    pub fn round_by<R: Wait>(&mut self, rt: &R) -> Result<bool, SeatNo>
+    /// 256 turns by the schedule, which goes on from call to call, and then what they did is gathered. For each turn the
+    /// clock is asked once. True where some turn moved.
+    pub fn round_by<R: Wait, C: Clock>(&mut self, rt: &R, clock: &C) -> Result<bool, SeatError>
         requires { IsNode D.state self.old }
         ensures node { OnOk result (IsNode D.state self.new) }
         ensures setup { OnOk result (HasSameSetup self.old self.new) }
@@ -258,7 +278,7 @@ impl<'a, D: Disk> Node<'a, D> {
         ensures gathered { OnOk result (entries_left self.new ≡ 0) }
         ensures kept { HasAllDisks D.state self.old self.new }
     {
-        let moved = self.turn_by_schedule(rt)?;
+        let moved = self.turn_by_schedule(rt, clock)?;
         self.gather()?;
         Ok(moved)
     }
@@ -266,12 +286,12 @@ impl<'a, D: Disk> Node<'a, D> {
 
 impl<'a, D: Disk + Send> Node<'a, D> {
     // Each seat has its turns of a round, by this number of reactors.
-    fn turn_in_round<R: Threads + Wait + Sync, G: Gate + Sync>(
+    fn turn_in_round<R: Threads + Wait + Sync, C: Clock + Sync, G: Gate + Sync>(
         &mut self,
         rt: &R,
         reactors: u32,
-        gate: &G,
-    ) -> Result<(), SeatNo>
+        outside: &Outside<C, G>,
+    ) -> Result<(), SeatError>
         requires { IsNode D.state self.old }
         ensures node { OnOk result (IsNode D.state self.new) }
         ensures setup { OnOk result (HasSameSetup self.old self.new) }
@@ -282,7 +302,7 @@ impl<'a, D: Disk + Send> Node<'a, D> {
     {
         self.rounds = self.rounds.saturating_add(1);
         let deal = Deal::of(self.setup.threads, reactors);
-        let watch = Watch::new(gate, self.rounds, deal);
+        let watch = Watch::new(outside, self.rounds, deal);
         turn_all(
             rt,
             self.alloc,
@@ -298,18 +318,19 @@ impl<'a, D: Disk + Send> Node<'a, D> {
         }
     }
 
-    /// A round: this number of reactors (from 1 on; else one) share the threads by turns, of N reactors number r
-    /// has those whose number is r modulo N. No reactor has more than (threads / reactors, rounded up): the last
-    /// may have fewer, and some none. Where there are more than one they run beside each other, if the system has
+    /// A round: this number of reactors (from 1 on; else one) share the threads round-robin, of N reactors number
+    /// r has those whose number is r modulo N. No reactor has more than (threads / reactors, rounded up): the last
+    /// may have fewer, and some none. Where there are more than one they run in parallel, if the system has
     /// threads for them. A reactor goes over its threads, a turn each, and after each that moved one more for the
-    /// first, and passes the gate before each turn, until none of them moved in a pass while no other reactor was
-    /// at work, or until they moved in 16 passes. Then what they did is gathered.
-    pub fn round<R: Threads + Wait + Sync, G: Gate + Sync>(
+    /// first, until none of them moved in a pass while no other reactor was at work, or until 64 turns moved something
+    /// and that pass ended. Before each turn it passes the gate, and then asks the clock once for the turn's moment.
+    /// Then what they did is gathered.
+    pub fn round<R: Threads + Wait + Sync, C: Clock + Sync, G: Gate + Sync>(
         &mut self,
         rt: &R,
         reactors: u32,
-        gate: &G,
-    ) -> Result<(), SeatNo>
+        outside: &Outside<C, G>,
+    ) -> Result<(), SeatError>
         requires { IsNode D.state self.old }
         ensures node { OnOk result (IsNode D.state self.new) }
         ensures setup { OnOk result (HasSameSetup self.old self.new) }
@@ -319,7 +340,7 @@ impl<'a, D: Disk + Send> Node<'a, D> {
         ensures gathered { OnOk result (entries_left self.new ≡ 0) }
         ensures kept { HasAllDisks D.state self.old self.new }
     {
-        self.turn_in_round(rt, reactors, gate)?;
+        self.turn_in_round(rt, reactors, outside)?;
         self.gather()?;
         Ok(())
     }
@@ -336,6 +357,29 @@ impl<'a, D> Node<'a, D> {
         ensures { result ≡ is_idle self.now }
     {
         self.is_at_rest() && are_all_blocked(self.seats.as_slice())
+    }
+
+    /// For how many microseconds all that is left waits for time alone, from about this moment on: nothing is under way
+    /// but requests that are held, no thread is shut down, and each thread whose script isn't blocked sleeps: the least
+    /// time until a hold or a sleep ends. None where something else may go on. It is a hint for who waits between
+    /// rounds, and asks no clock.
+    pub(crate) fn waits_for(&self) -> Option<u64> {
+        let seats = self.seats.as_slice();
+        if self.shut || !all_rest_but_for_holds(seats) || !are_all_taken(seats) {
+            return None;
+        }
+        let mut least = None;
+        for seat in seats {
+            let worker = &seat.worker;
+            if let Some(micros) = worker.thread.held_for() {
+                least = Some(lesser(least, micros));
+            }
+            if !worker.thread.is_blocked(&worker.links) {
+                let micros = worker.thread.sleeps_for(&worker.links)?;
+                least = Some(lesser(least, micros));
+            }
+        }
+        least
     }
 
     fn is_over(&self) -> bool
@@ -365,7 +409,7 @@ impl<'a, D> Node<'a, D> {
 impl<'a, D: Disk> Node<'a, D> {
     /// Thread 0 shuts down, with a stamp above all others. False where the registry wasn't in its slot; then
     /// the node isn't shut.
-    pub fn shut<R: Wait>(&mut self, rt: &R) -> Result<bool, SeatNo>
+    pub fn shut<R: Wait>(&mut self, rt: &R) -> Result<bool, SeatError>
         requires node { IsNode D.state self.old }
         requires idle { state_of self.old ≡ NodeState.Idle }
         ensures node { OnOk result (IsNode D.state self.new) }

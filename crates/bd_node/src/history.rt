@@ -8,7 +8,7 @@ use std::marker::Model;
 
 /// The entries of a run in the order of their stamps, seen as their list. Others can only make one
 /// that is empty.
-#[derive(Debug, Drop)]
+#[derive(Drop)]
 pub struct History {
     entries: Rows<Entry>,
 }
@@ -55,7 +55,7 @@ impl History {
 }
 
 /// What a run came to.
-#[derive(Debug, Drop)]
+#[derive(Drop)]
 pub struct Played {
     pub history: History,
     pub stats: Stats,

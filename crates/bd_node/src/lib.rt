@@ -9,10 +9,12 @@ mod ending;
 mod gathering;
 mod history;
 mod node;
+mod outside;
 mod run;
 mod schedule;
 mod sharing;
 
 pub use history::{History, Played};
 pub use node::{Node, NodeState};
+pub use outside::Outside;
 pub use run::{Drive, play};

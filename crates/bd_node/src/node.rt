@@ -10,7 +10,7 @@ use bd_worker::Seat;
 use std::alloc::Global;
 
 /// How far a node is.
-#[derive(Clone, Copy, Debug, PartialEq, Eq)]
+#[derive(Clone, Copy, PartialEq, Eq)]
 pub enum NodeState {
     /// Nothing is under way and every script waits or is at its end: a Shutdown may come.
     Idle,

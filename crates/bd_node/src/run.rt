@@ -6,15 +6,16 @@ ghost use Rattle.bd_node.specs.declared.node.NodeState.TheVariants as states;
 ghost use Rattle.bd_node.specs.Schedule.{seed_by};
 ghost use Rattle.bd_node.specs.Disks.{told_of, SaysOfDisks};
 ghost use Rattle.bd_report.specs.Stats.{stats_of};
-ghost use Rattle.bd_told.specs.Told.{AreBasesLowest};
+ghost use Rattle.bd_law_disks.specs.Told.{AreBasesLowest};
 ghost use Rattle.bd_node.specs.Whole.{HasAllDisks, HasSameSetup, IsNode, KeepsDisks, state_of};
 
 use crate::history::Played;
 use crate::node::{Node, NodeState};
+use crate::outside::Outside;
 use bd_base::{OutOfMemory, Setup};
 use bd_disks::Shelf;
-use bd_outside::{Disk, Gate};
-use bd_seat::SeatNo;
+use bd_outside::{Clock, Disk, Gate};
+use bd_seat::SeatError;
 use std::alloc::Global;
 use std::sync::Wait;
 use std::thread::Threads;
@@ -40,14 +41,25 @@ impl Drive {
     }
 }
 
-// Rounds until every script is blocked and the node was shut, and then until it is done.
+// The longest pause between two rounds, in microseconds.
+const LONGEST_PAUSE: u64 = 100_000;
+
+// Where all that is left waits for time alone, it waits for that, but for no longer than a tenth of a second.
+fn pause<C: Clock, D>(node: &Node<D>, clock: &C) {
+    if let Some(micros) = node.waits_for() {
+        clock.pause(micros.min(LONGEST_PAUSE));
+    }
+}
+
+// Rounds until every script is blocked and the node was shut, and then until it is done. Between rounds in which
+// time alone has to pass it pauses.
 #[tactic(auto, using(crate::proofs::Histories::keeps_disks_still, crate::proofs::Histories::keeps_disks_then, crate::proofs::Kept::node_still))]
-fn play_out<'a, R: Threads + Wait + Sync, G: Gate + Sync, D: Disk + Send>(
+fn play_out<'a, R: Threads + Wait + Sync, C: Clock + Sync, G: Gate + Sync, D: Disk + Send>(
     rt: &R,
     node: &mut Node<'a, D>,
     drive: Drive,
-    gate: &G,
-) -> Result<(), SeatNo>
+    outside: &Outside<C, G>,
+) -> Result<(), SeatError>
     requires { IsNode D.state node.old }
     ensures node { OnOk result (IsNode D.state node.new) }
     ensures setup { OnOk result (HasSameSetup node.old node.new) }
@@ -61,30 +73,34 @@ fn play_out<'a, R: Threads + Wait + Sync, G: Gate + Sync, D: Disk + Send>(
             NodeState::Idle => {
                 node.shut(rt)?;
             }
-            NodeState::Busy => match drive {
-                Drive::Schedule(_) => {
-                    node.round_by(rt)?;
+            NodeState::Busy => {
+                pause(node, outside.clock);
+                match drive {
+                    Drive::Schedule(_) => {
+                        node.round_by(rt, outside.clock)?;
+                    }
+                    Drive::Reactors(reactors) => node.round(rt, reactors, outside)?,
                 }
-                Drive::Reactors(reactors) => node.round(rt, reactors, gate)?,
-            },
+            }
         }
     }
     unreachable!()
 }
 
-/// Plays the setup's scripts to their end on as many threads as it has: however they are driven, what is
+/// Plays the setup's scripts to their end on as many threads as it has, with the moments that the clock tells: however
+/// they are driven, and whatever it tells, what is
 /// returned is a complete run of the machine, over what the disks told when it was called, where the setup's
 /// base devices stand on nothing; beside it are its statistics. It answers out of memory also where a number of a
 /// thread runs out, as after 2^62 requests or 2^128 stamps. The disks are those of each thread, in the order of the
 /// threads' numbers, and are all given back however the run ends, those of a thread together, the threads in some
 /// order.
-pub fn play<R: Threads + Wait + Sync, G: Gate + Sync, D: Disk + Send>(
+pub fn play<R: Threads + Wait + Sync, C: Clock + Sync, G: Gate + Sync, D: Disk + Send>(
     rt: &R,
     alloc: Global,
     setup: &Setup,
     disks: Shelf<D>,
     drive: Drive,
-    gate: &G,
+    outside: &Outside<C, G>,
 ) -> (Result<Played, OutOfMemory>, Shelf<D>)
     requires some { 0 < setup.now.threads }
     requires disks { length disks.items ≡ setup.now.threads }
@@ -96,9 +112,9 @@ pub fn play<R: Threads + Wait + Sync, G: Gate + Sync, D: Disk + Send>(
 {
     let mut node = match Node::build(rt, alloc, setup, disks, drive.seed()) {
         Ok(node) => node,
-        Err((no, shelf)) => return (Err(no), shelf),
+        Err((error, shelf)) => return (Err(error), shelf),
     };
-    match play_out(rt, &mut node, drive, gate) {
+    match play_out(rt, &mut node, drive, outside) {
         Ok(()) => node.settle(rt),
         Err(_) => (Err(OutOfMemory), node.abandon()),
     }

@@ -17,7 +17,7 @@ fn advance(x: u64) -> u64
 }
 
 /// A schedule, which a seed fixes.
-#[derive(Debug, Drop)]
+#[derive(Drop)]
 pub(crate) struct Schedule {
     pub state: u64,
 }

@@ -7,7 +7,7 @@ ghost use Rattle.bd_worker.specs.Seats.{AllWentOn, IsSitting, number_in};
 ghost use Rattle.bd_node.specs.Whole.{StaySeated};
 
 use crate::crew::{Watch, give_turns};
-use bd_outside::{Disk, Gate};
+use bd_outside::{Clock, Disk, Gate};
 use bd_wires::Wires;
 use bd_worker::Seat;
 use std::alloc::Global;
@@ -17,7 +17,7 @@ use std::thread::{self, Threads};
 /// How threads are dealt to reactors: by turns, so that number r of N has the threads whose number is r modulo N.
 /// No reactor has more than (threads / reactors, rounded up); where the last then has fewer, the threads that are
 /// left are dealt to the others by turns.
-#[derive(Clone, Copy, Debug, PartialEq, Eq)]
+#[derive(Clone, Copy, PartialEq, Eq)]
 pub(crate) struct Deal {
     /// How many threads a reactor has, at least one; the last may have fewer.
     pub each: u32,
@@ -70,11 +70,11 @@ fn gather<'a, D>(seats: &mut [Seat<'a, D>])
 }
 
 // Each reactor gives its seats their turns: each has this number of neighbours, the last the rest.
-fn turn_each<R: Threads + Wait + Sync, G: Gate + Sync, D: Disk + Send>(
+fn turn_each<R: Threads + Wait + Sync, C: Clock + Sync, G: Gate + Sync, D: Disk + Send>(
     rt: &R,
     alloc: Global,
     wires: &Wires,
-    watch: &Watch<G>,
+    watch: &Watch<C, G>,
     each: usize,
     seats: &mut [Seat<D>],
 )
@@ -92,11 +92,11 @@ fn turn_each<R: Threads + Wait + Sync, G: Gate + Sync, D: Disk + Send>(
 }
 
 /// Each seat has its turns of a round, by the reactor to which its thread is dealt.
-pub(crate) fn turn_all<R: Threads + Wait + Sync, G: Gate + Sync, D: Disk + Send>(
+pub(crate) fn turn_all<R: Threads + Wait + Sync, C: Clock + Sync, G: Gate + Sync, D: Disk + Send>(
     rt: &R,
     alloc: Global,
     wires: &Wires,
-    watch: &Watch<G>,
+    watch: &Watch<C, G>,
     deal: Deal,
     seats: &mut [Seat<D>],
 )

@@ -6,7 +6,7 @@ use crate::failed::Failed;
 use crate::mem_disk::MemDisk;
 
 /// A disk of a calm host.
-#[derive(Debug, Drop)]
+#[derive(Drop)]
 pub enum CalmDisk {
     /// One that has a row at its host, and never fails.
     Kept(MemDisk),

@@ -7,7 +7,7 @@ ghost use Rattle.bd_outside.specs.Opening.{open_row};
 
 use crate::calm_disk::CalmDisk;
 use crate::disk::Disk;
-use crate::host::{Host, HostNo};
+use crate::host::{Host, HostError};
 use crate::mem_disk::MemDisk;
 use crate::mem_host::{add_row, close_row, copy_from, find};
 use crate::opening::Opening;
@@ -17,7 +17,7 @@ use std::marker::Model;
 
 /// Files in memory by name (of two with one name the first counts), which never fail: the count of
 /// faults is 0.
-#[derive(Debug, Drop)]
+#[derive(Drop)]
 pub struct CalmHost {
     files: Vec<(Name, Bytes)>,
     // None once there was no row for an opening.
@@ -74,13 +74,13 @@ impl CalmHost {
     }
 
     // Counts an absence.
-    fn absence(&mut self) -> HostNo
-        ensures answer { result ≡ HostNo.Absent }
+    fn absence(&mut self) -> HostError
+        ensures answer { result ≡ HostError.Absent }
         ensures counted { self.new ≡ calm_absent_call self.old }
         ensures count { self.old.absences ≤ self.new.absences }
     {
         self.absences = self.absences.saturating_add(1);
-        HostNo::Absent
+        HostError::Absent
     }
 }
 
@@ -119,12 +119,12 @@ impl Host for CalmHost {
     } };
 
     /// Gives as many bytes as there are and fit. It never answers Failed.
-    fn read_at(&mut self, name: &str, at: u64, to: &mut [u8]) -> Result<usize, HostNo>
+    fn read_at(&mut self, name: &str, at: u64, to: &mut [u8]) -> Result<usize, HostError>
         ensures same { IfOk result (λ n. self.new ≡ self.old) }
         ensures most { IfOk result (λ n. n ≡ min (length to.old) (length (rest_of (file_of name.now self.old.files) at))) }
         ensures given { IfOk result (λ n. GivesPiece (file_of name.now self.old.files) at n to.new) }
 
-        ensures answer { IfErr result (λ no. no ≡ HostNo.Absent) }
+        ensures answer { IfErr result (λ error. error ≡ HostError.Absent) }
         ensures absent { OnErr result ((file_of name.now self.old.files ≡ NoFile) × (self.new ≡ calm_absent_call self.old)) }
         ensures absence_count { self.old.absences ≤ self.new.absences }
     {
@@ -136,12 +136,12 @@ impl Host for CalmHost {
 
     /// Opens a file as a disk with a copy of its whole blocks. Where there is no row or no memory
     /// for it, the disk is one beyond the rows. It never answers Failed.
-    fn open_disk(&mut self, name: &str, block_size: u32) -> Result<CalmDisk, HostNo>
+    fn open_disk(&mut self, name: &str, block_size: u32) -> Result<CalmDisk, HostError>
         requires { 0 < block_size }
         ensures size { IfOk result (λ d. (calm_state d).block_size ≡ block_size) }
         ensures disk { IfOk result (λ d. OpensCalmly (file_of name.now self.old.files) block_size self.old self.new name.now d) }
 
-        ensures answer { IfErr result (λ no. no ≡ HostNo.Absent) }
+        ensures answer { IfErr result (λ error. error ≡ HostError.Absent) }
         ensures absent { OnErr result ((file_of name.now self.old.files ≡ NoFile) × (self.new ≡ calm_absent_call self.old)) }
         ensures absence_count { self.old.absences ≤ self.new.absences }
     {

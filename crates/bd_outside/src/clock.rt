@@ -15,10 +15,13 @@ pub trait Clock {
     /// The moment, in microseconds.
     fn now(&self) -> u64
         ensures { IsWithin (range self.now) result };
+
+    /// Waits for at most this number of microseconds, or returns at once: nothing is promised of it.
+    fn pause(&self, micros: u64);
 }
 
 /// A clock that stands still, seen as its moment.
-#[derive(Clone, Copy, Debug)]
+#[derive(Clone, Copy)]
 pub struct StillClock {
     at: u64,
 }
@@ -48,6 +51,9 @@ impl Clock for StillClock {
     fn now(&self) -> u64 {
         self.at
     }
+
+    /// Returns at once.
+    fn pause(&self, _micros: u64) {}
 }
 
 /// A clock that goes on by a step at each call, from whichever thread it comes; it tells no moments.
@@ -78,4 +84,7 @@ impl Clock for StepClock {
     fn now(&self) -> u64 {
         self.next.fetch_add(self.step, Ordering::SeqCst)
     }
+
+    /// Returns at once: its time goes on by calls alone.
+    fn pause(&self, _micros: u64) {}
 }

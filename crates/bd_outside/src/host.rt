@@ -3,7 +3,7 @@ use crate::disk::Disk;
 
 /// Why a host has no answer.
 #[derive(Clone, Copy, Debug, PartialEq, Eq)]
-pub enum HostNo {
+pub enum HostError {
     /// There is no such file: the host's count of absences rose in this call.
     Absent,
     /// The host failed: its count of faults rose in this call.
@@ -28,14 +28,14 @@ pub trait Host {
     /// buffer may hold anything.
     ///
     /// Absent: there is no such file. Failed: the host failed. The buffer may hold anything after both.
-    fn read_at(&mut self, name: &str, at: u64, to: &mut [u8]) -> Result<usize, HostNo>
+    fn read_at(&mut self, name: &str, at: u64, to: &mut [u8]) -> Result<usize, HostError>
         ensures within { IfOk result (λ n. n ≤ length to.old) }
         ensures given { IfOk result (λ n. GivesPiece ((state self.old).told name.now) at n to.new) }
-        ensures absent { IsErrOf result HostNo.Absent → IsAbsent ((state self.old).told name.now) }
+        ensures absent { IsErrOf result HostError.Absent → IsAbsent ((state self.old).told name.now) }
 
-        ensures failed { IsErrOf result HostNo.Failed → FailsAt (state self.old) (state self.new) name.now }
-        ensures absence { IsErrOf result HostNo.Absent → Misses (state self.old) (state self.new) name.now }
-        ensures only_absence { (other : List ℕ) → (state self.old).absences other < (state self.new).absences other → IsErrOf result HostNo.Absent }
+        ensures failed { IsErrOf result HostError.Failed → FailsAt (state self.old) (state self.new) name.now }
+        ensures absence { IsErrOf result HostError.Absent → Misses (state self.old) (state self.new) name.now }
+        ensures only_absence { (other : List ℕ) → (state self.old).absences other < (state self.new).absences other → IsErrOf result HostError.Absent }
 
         ensures later { IsLater (state self.old) (state self.new) }
         ensures same_openings { (state self.new).openings ≡ (state self.old).openings };
@@ -44,7 +44,7 @@ pub trait Host {
     /// the file has. The disk's counts begin at 0. Each opened disk is an object of its own.
     ///
     /// Absent: there is no such file. Failed: the host failed.
-    fn open_disk(&mut self, name: &str, block_size: u32) -> Result<Self::Disk, HostNo>
+    fn open_disk(&mut self, name: &str, block_size: u32) -> Result<Self::Disk, HostError>
         requires { 0 < block_size }
         ensures size { IfOk result (λ d. (Self.Disk.state d).block_size ≡ block_size) }
         ensures over { IfOk result (λ d. IsOpenedOver ((state self.old).told name.now) (Self.Disk.state d)) }
@@ -53,11 +53,11 @@ pub trait Host {
         ensures no_flushes { IfOk result (λ d. (Self.Disk.state d).flushes ≡ 0) }
         ensures row { IfOk result (λ d. Opens (state self.old) (state self.new) name.now (Self.Disk.state d)) }
         ensures no_row { OnErr result ((state self.new).openings ≡ (state self.old).openings) }
-        ensures absent { IsErrOf result HostNo.Absent → IsAbsent ((state self.old).told name.now) }
+        ensures absent { IsErrOf result HostError.Absent → IsAbsent ((state self.old).told name.now) }
 
-        ensures failed { IsErrOf result HostNo.Failed → FailsAt (state self.old) (state self.new) name.now }
-        ensures absence { IsErrOf result HostNo.Absent → Misses (state self.old) (state self.new) name.now }
-        ensures only_absence { (other : List ℕ) → (state self.old).absences other < (state self.new).absences other → IsErrOf result HostNo.Absent }
+        ensures failed { IsErrOf result HostError.Failed → FailsAt (state self.old) (state self.new) name.now }
+        ensures absence { IsErrOf result HostError.Absent → Misses (state self.old) (state self.new) name.now }
+        ensures only_absence { (other : List ℕ) → (state self.old).absences other < (state self.new).absences other → IsErrOf result HostError.Absent }
 
         ensures later { IsLater (state self.old) (state self.new) };
 

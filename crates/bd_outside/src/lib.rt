@@ -21,7 +21,7 @@ pub use clock::{Clock, StepClock, StillClock};
 pub use disk::Disk;
 pub use failed::Failed;
 pub use gate::{Gate, OpenGate};
-pub use host::{Host, HostNo};
+pub use host::{Host, HostError};
 pub use mem_disk::MemDisk;
 pub use mem_host::MemHost;
 pub use mem_sink::MemSink;

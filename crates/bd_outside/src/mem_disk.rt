@@ -12,7 +12,7 @@ use std::marker::Model;
 
 /// A disk in memory, and a list of its calls that fail: reads, writes and flushes are numbered
 /// together from 1.
-#[derive(Debug, Drop)]
+#[derive(Drop)]
 pub struct MemDisk {
     content: Vec<u8>,
     block_size: u32,

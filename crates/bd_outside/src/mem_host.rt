@@ -8,7 +8,7 @@ ghost use Rattle.bd_outside.specs.Opening.{open_row, rows_closed};
 ghost use Rattle.bd_outside.specs.declared.opening.Opening.{Opening};
 
 use crate::disk::Disk;
-use crate::host::{Host, HostNo};
+use crate::host::{Host, HostError};
 use crate::mem_disk::MemDisk;
 use crate::opening::{Closing, Opening};
 use bd_base::{Bytes, Name, OutOfMemory, Rows};
@@ -18,7 +18,7 @@ use std::marker::Model;
 /// Files in memory by name (of two with one name the first counts), and a list of the calls that
 /// fail. Calls of `read_at` and `open_disk` are numbered from 1. The disks over a name may have
 /// failing calls too.
-#[derive(Debug, Drop)]
+#[derive(Drop)]
 pub struct MemHost {
     files: Vec<(Name, Bytes)>,
     openings: Vec<Opening>,
@@ -109,23 +109,23 @@ impl MemHost {
     }
 
     // Counts a fault.
-    fn fault(&mut self) -> HostNo
-        ensures answer { result ≡ HostNo.Failed }
+    fn fault(&mut self) -> HostError
+        ensures answer { result ≡ HostError.Failed }
         ensures counted { self.new ≡ record self.old { faults = one_more self.old.faults } }
         ensures count { self.old.faults ≤ self.new.faults }
     {
         self.faults = self.faults.saturating_add(1);
-        HostNo::Failed
+        HostError::Failed
     }
 
     // Counts an absence.
-    fn absence(&mut self) -> HostNo
-        ensures answer { result ≡ HostNo.Absent }
+    fn absence(&mut self) -> HostError
+        ensures answer { result ≡ HostError.Absent }
         ensures counted { self.new ≡ record self.old { absences = one_more self.old.absences } }
         ensures count { self.old.absences ≤ self.new.absences }
     {
         self.absences = self.absences.saturating_add(1);
-        HostNo::Absent
+        HostError::Absent
     }
 }
 
@@ -214,13 +214,13 @@ impl Host for MemHost {
     } };
 
     /// Gives as many bytes as there are and fit. Failed exactly where this call is one that fails.
-    fn read_at(&mut self, name: &str, at: u64, to: &mut [u8]) -> Result<usize, HostNo>
+    fn read_at(&mut self, name: &str, at: u64, to: &mut [u8]) -> Result<usize, HostError>
         ensures read { IfOk result (λ n. (next_fails self.old ≡ false) × (self.new ≡ read_call self.old)) }
         ensures most { IfOk result (λ n. n ≡ min (length to.old) (length (rest_of (file_of name.now self.old.files) at))) }
         ensures given { IfOk result (λ n. GivesPiece (file_of name.now self.old.files) at n to.new) }
 
-        ensures failed { IsErrOf result HostNo.Failed → IsTrue (next_fails self.old) × (self.new ≡ failed_call self.old) }
-        ensures absent { IsErrOf result HostNo.Absent → (next_fails self.old ≡ false)
+        ensures failed { IsErrOf result HostError.Failed → IsTrue (next_fails self.old) × (self.new ≡ failed_call self.old) }
+        ensures absent { IsErrOf result HostError.Absent → (next_fails self.old ≡ false)
             × (file_of name.now self.old.files ≡ NoFile) × (self.new ≡ absent_call self.old) }
         ensures fault_count { self.old.faults ≤ self.new.faults }
         ensures absence_count { self.old.absences ≤ self.new.absences }
@@ -236,17 +236,17 @@ impl Host for MemHost {
 
     /// Opens a file as a disk with a copy of its whole blocks. Failed where this call is one that
     /// fails, where there is a row for each opening that may be made, and where it is out of memory.
-    fn open_disk(&mut self, name: &str, block_size: u32) -> Result<MemDisk, HostNo>
+    fn open_disk(&mut self, name: &str, block_size: u32) -> Result<MemDisk, HostError>
         requires { 0 < block_size }
         ensures disk { IfOk result (λ d. IsDiskOver (file_of name.now self.old.files) (fails_of name.now self.old.disk_fails)
             block_size (length self.old.openings) d) }
         ensures row { IfOk result (λ d. self.new ≡ open_call self.old name.now d.blocks) }
-        ensures listed { IsTrue (next_fails self.old) → IsErrOf result HostNo.Failed }
+        ensures listed { IsTrue (next_fails self.old) → IsErrOf result HostError.Failed }
         ensures full { self.old.rows ≤ length self.old.openings → IsErr result }
 
-        ensures failed { IsErrOf result HostNo.Failed → self.new ≡ failed_call self.old }
-        ensures absent { IsErrOf result HostNo.Absent → (file_of name.now self.old.files ≡ NoFile) × (self.new ≡ absent_call self.old) }
-        ensures no_file { file_of name.now self.old.files ≡ NoFile → next_fails self.old ≡ false → IsErrOf result HostNo.Absent }
+        ensures failed { IsErrOf result HostError.Failed → self.new ≡ failed_call self.old }
+        ensures absent { IsErrOf result HostError.Absent → (file_of name.now self.old.files ≡ NoFile) × (self.new ≡ absent_call self.old) }
+        ensures no_file { file_of name.now self.old.files ≡ NoFile → next_fails self.old ≡ false → IsErrOf result HostError.Absent }
         ensures fault_count { self.old.faults ≤ self.new.faults }
         ensures absence_count { self.old.absences ≤ self.new.absences }
     {

@@ -10,7 +10,7 @@ use std::alloc::Global;
 use std::marker::Model;
 
 /// A sink with room for a number of bytes, which it reserves when it is made.
-#[derive(Debug, Drop)]
+#[derive(Drop)]
 pub struct MemSink {
     bytes: Vec<u8>,
     room: usize,

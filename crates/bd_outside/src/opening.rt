@@ -2,7 +2,7 @@
 use bd_base::{Bytes, Name};
 
 /// What a disk had when it was closed.
-#[derive(Debug, Drop)]
+#[derive(Drop)]
 pub struct Closing {
     /// The bytes of its blocks, if it told them.
     pub content: Option<Bytes>,
@@ -11,7 +11,7 @@ pub struct Closing {
 }
 
 /// One opening of a disk.
-#[derive(Debug, Drop)]
+#[derive(Drop)]
 pub struct Opening {
     /// The file's name.
     pub name: Name,

@@ -5,3 +5,4 @@ pub mod Chunks
 pub mod Ranges
 pub mod Even
 pub mod Fills
+pub mod Growths

@@ -1,5 +1,5 @@
 -- The blocks of a device, and the pages that its writes took.
-use Rattle.std.specs.Prelude.{◌≡◌, ℕ, zero, suc, ◌*◌, ◌<◌, ◌^◌, Bool, List, [], ◌∷◌, take, drop, map, length, replicate}
+use Rattle.std.specs.Prelude.{◌≡◌, ℕ, zero, suc, ◌-◌, ◌*◌, ◌<◌, ◌^◌, Bool, List, [], ◌∷◌, ◌++◌, take, drop, map, length, replicate}
 use Rattle.bd_pages.specs.Leaf.{Leaf}
 use Rattle.bd_pages.specs.Table.{IsPaged, flat}
 
@@ -22,6 +22,11 @@ cut_as (b ∷ bs) bytes = take (length b) bytes ∷ cut_as bs (drop (length b) b
 -- blocks as long, of zeros
 abbrev pub zeroed : List (List ℕ) → List (List ℕ)
 zeroed blocks = map (λ b. replicate (length b) 0) blocks
+
+-- this number of blocks: those that are there, and after them zeros as long as the first; where there is none, blocks of no byte
+abbrev pub grown : ℕ → List (List ℕ) → List (List ℕ)
+grown n [] = replicate n []
+grown n (b ∷ bs) = (b ∷ bs) ++ replicate (n - length (b ∷ bs)) (replicate (length b) 0)
 
 -- the pages have just the bytes of that many blocks
 pub record IsWhole (size count : ℕ) (pages : List Leaf) : Type 0 where

@@ -1,5 +1,5 @@
 -- The pages of a device in order.
-use Rattle.std.specs.Prelude.{◌≡◌, ℕ, zero, suc, ◌+◌, ◌-◌, ◌/◌, ◌<◌, ◌≤◌, min, Bool, true, List, [], ◌∷◌, length, map, replicate, slice_index_or}
+use Rattle.std.specs.Prelude.{◌≡◌, ℕ, zero, suc, ◌+◌, ◌-◌, ◌/◌, ◌<◌, ◌≤◌, min, Bool, true, false, List, [], ◌∷◌, ◌++◌, length, map, replicate, slice_index_or}
 use Rattle.std.specs.List.{concat}
 use Rattle.bd_pages.specs.Bytes.{written}
 use Rattle.bd_pages.specs.Leaf.{Leaf}
@@ -16,7 +16,7 @@ flat pages = concat (pieces pages)
 abbrev pub marks : List Leaf → List Bool
 marks pages = map (λ p. p.taken) pages
 
--- so many bytes are cut into these pieces: each but the last has 65,536
+-- this number of bytes is cut into these pieces: each but the last has 65,536
 abbrev pub IsCut : ℕ → List (List ℕ) → Type 0
 IsCut len [] = len ≡ 0
 IsCut len (b ∷ bs) = (0 < len) × (length b ≡ min 65536 len) × IsCut (len - 65536) bs
@@ -33,6 +33,10 @@ pages_of at (suc n) = (at + n) / 65536 + 1 - at / 65536
 -- from the page of the first byte of a range to that of its last, all are taken
 abbrev pub touched : ℕ → ℕ → List Bool → List Bool
 touched at n taken = written (at / 65536) (replicate (pages_of at n) true) taken
+
+-- up to this number of pages, those after the marks that are there are not taken
+abbrev pub untaken : ℕ → List Bool → List Bool
+untaken n taken = taken ++ replicate (n - length taken) false
 
 -- the same bytes, and the same pages are taken
 pub record SameContents (old new : List Leaf) : Type 0 where

@@ -3,7 +3,7 @@ ghost use Rattle.std.specs.Prelude.{◌≡◌, ◌+◌, ◌<◌, ◌≤◌, ◌^
 ghost use Rattle.std.specs.List.{concat};
 ghost use Rattle.sha2.specs.Sha256.{sha256};
 ghost use Rattle.bd_pages.specs.Fills.{filled};
-ghost use Rattle.bd_pages.specs.Pages.{cut_as, zeroed};
+ghost use Rattle.bd_pages.specs.Pages.{cut_as, grown, zeroed};
 
 use crate::pages::Pages;
 use bd_base::{Bytes, Fill, OutOfMemory};
@@ -12,7 +12,7 @@ use std::marker::Model;
 
 /// The blocks of a malloc device over its pages, seen as their list: `Pages`, of which nothing is told
 /// but the blocks.
-#[derive(Debug, Drop)]
+#[derive(Drop)]
 pub struct Blocks {
     pages: Pages,
 }
@@ -26,7 +26,7 @@ impl Model for Blocks {
 }
 
 impl Blocks {
-    /// So many blocks of `size` bytes, all zeros, and no page is taken. More bytes than 64 bits count
+    /// `blocks` blocks of `size` bytes, all zeros, and no page is taken. More bytes than 64 bits count
     /// are out of memory.
     pub fn zeros(alloc: Global, blocks: u64, size: u32) -> Result<Blocks, OutOfMemory>
         ensures { IfOk result (λ b. b ≡ replicate blocks (replicate size 0)) }
@@ -107,6 +107,21 @@ impl Blocks {
         ensures { self.new ≡ take lba self.old ++ zeroed (take count (drop lba self.old)) ++ drop (lba + count) self.old }
     {
         self.pages.zero(lba, count);
+    }
+
+    /// This number of blocks: those that are there, and after them zeros as long as the first. Where there are
+    /// as many or more, nothing changes. Out of memory, the blocks are as they were.
+    pub fn grow(&mut self, alloc: Global, blocks: u64) -> Result<(), OutOfMemory>
+        ensures ok { OnOk result (self.new ≡ grown blocks self.old) }
+        ensures err { OnErr result (self.new ≡ self.old) }
+    {
+        if self.len() == 0 {
+            // No block tells how long one is.
+            self.pages = Pages::zeros(alloc, blocks, 0)?;
+            return Ok(());
+        }
+        let _size = self.pages.size();
+        self.pages.grow(alloc, blocks)
     }
 
     /// The SHA-256 of all bytes in order. It takes no memory.

@@ -12,7 +12,7 @@ use std::alloc::Global;
 use std::marker::Model;
 
 /// A page, seen as its bytes, whether there is memory for them, and whether a write touched it.
-#[derive(Debug, Drop)]
+#[derive(Drop)]
 pub(crate) struct Page {
     len: usize,
     memory: Option<Vec<u8>>,
@@ -176,6 +176,20 @@ impl Page {
             Some(memory) => memory[at..at + n].fill(0),
             None => {}
         }
+    }
+
+    /// Puts this number of zeros after its bytes. Out of memory, it is as it was.
+    pub(crate) fn widen(&mut self, n: usize) -> Result<(), OutOfMemory>
+        requires { length self.old.bytes + n < 2 ^ 64 }
+        ensures ok { OnOk result (self.new ≡ record self.old { bytes = self.old.bytes ++ replicate n 0 }) }
+        ensures err { OnErr result (self.new ≡ self.old) }
+    {
+        let len = self.len + n;
+        if let Some(memory) = &mut self.memory {
+            memory.resize(len, 0)?;
+        }
+        self.len = len;
+        Ok(())
     }
 
     /// Appends `n` bytes from a place on.

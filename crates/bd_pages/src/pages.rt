@@ -1,10 +1,10 @@
 //! The blocks of a device over its pages.
-ghost use Rattle.std.specs.Prelude.{◌≡◌, ◌+◌, ◌*◌, ◌<◌, ◌≤◌, ◌^◌, ◌++◌, false, length, nat_le, replicate, take, drop, All, IfOk, OnOk, OnErr, count_by};
+ghost use Rattle.std.specs.Prelude.{◌≡◌, ◌+◌, ◌*◌, ◌<◌, ◌≤◌, ◌^◌, ◌++◌, ◌-◌, false, length, nat_le, replicate, take, drop, All, IfOk, OnOk, OnErr, count_by};
 ghost use Rattle.std.specs.List.{concat};
 ghost use Rattle.sha2.specs.Sha256.{sha256};
 ghost use Rattle.bd_pages.specs.Fills.{filled};
 ghost use Rattle.bd_pages.specs.Pages.{Paged, blocks_of, zeroed};
-ghost use Rattle.bd_pages.specs.Table.{pages_of, touched};
+ghost use Rattle.bd_pages.specs.Table.{pages_of, touched, untaken};
 
 use crate::page::{Page, Span};
 use crate::table;
@@ -14,7 +14,7 @@ use std::marker::Model;
 
 /// The blocks of a malloc device. Page n has its bytes from 65,536 * n on, and takes memory at the
 /// first write that touches it; until then it reads as zeros.
-#[derive(Debug, Drop)]
+#[derive(Drop)]
 pub struct Pages {
     pages: Vec<Page>,
     count: usize,
@@ -33,7 +33,7 @@ impl Model for Pages {
 }
 
 impl Pages {
-    /// So many blocks of `size` bytes, all zeros, and no page is taken. Only the table of the pages
+    /// `blocks` blocks of `size` bytes, all zeros, and no page is taken. Only the table of the pages
     /// takes memory, 40 bytes for each. More bytes than 64 bits count are out of memory.
     pub fn zeros(alloc: Global, blocks: u64, size: u32) -> Result<Pages, OutOfMemory>
         ensures size { IfOk result (λ p. p.size ≡ size) }
@@ -149,6 +149,28 @@ impl Pages {
             lba as usize * size,
             count as usize * size,
         );
+    }
+
+    /// This number of blocks: those that are there, and zeros after them. No page is taken. Where there are as
+    /// many or more, nothing changes. Out of memory, blocks and taken pages are as they were.
+    pub fn grow(&mut self, alloc: Global, blocks: u64) -> Result<(), OutOfMemory>
+        ensures size { self.new.size ≡ self.old.size }
+        ensures blocks { OnOk result (self.new.blocks ≡ self.old.blocks ++ replicate (blocks - length self.old.blocks) (replicate self.old.size 0)) }
+        ensures taken { OnOk result (self.new.taken ≡ untaken (pages_of 0 (blocks * self.old.size)) self.old.taken) }
+        ensures err { OnErr result (self.new ≡ self.old) }
+    {
+        let size = self.size as usize;
+        let count = blocks as usize;
+        if count <= self.count {
+            return Ok(());
+        }
+        let Some(len) = count.checked_mul(size) else {
+            return Err(OutOfMemory);
+        };
+        let old = self.count * size;
+        table::grow(alloc, &mut self.pages, old, len - old)?;
+        self.count = count;
+        Ok(())
     }
 
     /// The SHA-256 of all bytes in order. It takes no memory.

@@ -5,7 +5,7 @@ ghost use Rattle.bd_base.specs.Pattern.{pattern, pattern_byte};
 ghost use Rattle.bd_pages.specs.Bytes.{written};
 ghost use Rattle.bd_pages.specs.Fills.{bytes_filled, patterns};
 ghost use Rattle.bd_pages.specs.Leaf.{Leaf};
-ghost use Rattle.bd_pages.specs.Table.{AreReady, AreTaken, IsPaged, SameContents, flat, marks, pages_of, pieces, touched};
+ghost use Rattle.bd_pages.specs.Table.{AreReady, AreTaken, IsPaged, SameContents, flat, marks, pages_of, pieces, touched, untaken};
 
 use crate::page::{Page, Span};
 use bd_base::{Fill, OutOfMemory};
@@ -23,7 +23,7 @@ fn reach(at: usize, n: usize) -> usize
     if n < left { n } else { left }
 }
 
-// The page behind that of a range's last byte; for no bytes that of its place.
+// The page after that of a range's last byte; for no bytes that of its place.
 fn end_of(at: usize, n: usize) -> usize
     requires { at + n < 2 ^ 64 }
     ensures { result ≡ at / 65536 + pages_of at n }
@@ -307,6 +307,46 @@ pub(crate) fn fill(
         put(pages, span.at, &[first_turned(fill.seed, number)]);
     }
     Ok(())
+}
+
+// How many of `more` bytes after that many others lie on the last page of those.
+fn fit(len: usize, more: usize) -> usize
+    ensures { result ≡ min more ((65536 - len % 65536) % 65536) }
+{
+    let left = (PAGE - len % PAGE) % PAGE;
+    if more < left { more } else { left }
+}
+
+/// Puts this number of zeros after the `len` bytes, and takes no page. Out of memory, the pages are as they
+/// were.
+pub(crate) fn grow(
+    alloc: Global,
+    pages: &mut Vec<Page>,
+    len: usize,
+    more: usize,
+) -> Result<(), OutOfMemory>
+    requires paged { IsPaged pages.old.items }
+    requires all { length (flat pages.old.items) ≡ len }
+    requires small { len + more < 2 ^ 64 }
+    ensures bytes { OnOk result (flat pages.new.items ≡ flat pages.old.items ++ replicate more 0) }
+    ensures paged { OnOk result (IsPaged pages.new.items) }
+    ensures taken { OnOk result (marks pages.new.items ≡ untaken (pages_of 0 (len + more)) (marks pages.old.items)) }
+    ensures err { OnErr result (pages.new.items ≡ pages.old.items) }
+{
+    let end = pages.len();
+    let fit = fit(len, more);
+    let mut behind = blank(alloc, more - fit)?;
+    pages.append(&mut behind)?;
+    if end == 0 {
+        return Ok(());
+    }
+    match pages[end - 1].widen(fit) {
+        Ok(()) => Ok(()),
+        Err(e) => {
+            pages.truncate(end);
+            Err(e)
+        }
+    }
 }
 
 /// The SHA-256 of all bytes. It takes no memory.

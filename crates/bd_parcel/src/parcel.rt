@@ -11,7 +11,7 @@ use std::marker::Model;
 
 /// What is kept of a token, at a place of its own, seen as what is kept: a token that goes from thread to thread is moved
 /// as a pointer.
-#[derive(Debug, Drop)]
+#[derive(Drop)]
 pub struct Parcel {
     kept: Box<Kept>,
 }

@@ -22,10 +22,10 @@ use Rattle.bd_machine.specs.Messages.{moves_put}
 use Rattle.bd_machine.specs.Step.{change_in, first_failing, guards_in, guards_shutdown, moved}
 use Rattle.bd_machine.specs.Table.{change_first}
 use Rattle.bd_machine.specs.View.{Change, Move, View, came_for, id_of, message_for, view}
-use Rattle.bd_changes.specs.Begun.{token_moved}
-use Rattle.bd_view.specs.Came.{came_shut}
+use Rattle.bd_rule_effects.specs.Begun.{token_moved}
+use Rattle.bd_rule_view.specs.Came.{came_shut}
 use Rattle.bd_base.specs.declared.request.Op.TheVariants as ops
-use Rattle.bd_view.specs.declared.names.Submission.{Submission}
+use Rattle.bd_rule_view.specs.declared.names.Submission.{Submission}
 use Rattle.bd_play.specs.declared.messages.Message.{Message}
 use Rattle.bd_play.specs.declared.side.Side.{Side}
 

@@ -15,14 +15,14 @@ ghost use Rattle.bd_play.specs.Words.{changed, charged_for, seen};
 
 use crate::side::Side;
 use bd_base::{AbortCause, Decision, DevId, OutOfMemory, ReqId, Rows};
-use bd_copies::Duplicate;
-use bd_course::{
-    aborted, charge, counted, depart, held, injected, passed, pended, released, seen_at,
-};
+use bd_clones::Duplicate;
 use bd_machine::{Id, Kept, Limited, OpenRequest, Part, Place, State, Tracked};
-use bd_rules::{next_limited, request_here};
+use bd_rule_faults::{
+    aborted, charge, counted, depart, held, injected, passed, pended, released, seen_at, waits_at,
+};
+use bd_rule_requests::request_here;
+use bd_rule_view::Sees;
 use bd_state::put_in;
-use bd_view::Sees;
 use std::alloc::Global;
 
 /// A request that is on the thread stays there, changed. Out of memory leaves the tokens unspecified.
@@ -60,7 +60,6 @@ fn pass(
 // A limited device lets this request go, which its budget pays. Out of memory leaves the rows
 // unspecified.
 fn charge_for(
-    alloc: Global,
     side: &Side,
     limited: &mut Rows<Limited>,
     dev: DevId,
@@ -68,14 +67,7 @@ fn charge_for(
 ) -> Result<(), OutOfMemory>
     ensures { OnOk result (limited.new ≡ charged_for side.now req dev limited.old) }
 {
-    charge(
-        alloc,
-        side.setup,
-        limited,
-        dev,
-        req,
-        request_here(side, req),
-    )
+    charge(side.setup, limited, dev, req, request_here(side, req))
 }
 
 /// The state with what a Let changes.
@@ -91,7 +83,7 @@ pub fn let_pass(
     let mut next = side.state.duplicate(alloc)?;
     pass(&mut next.tokens, side, req, request_here(side, req))?;
     let part = next.parts.at_mut(side.thread as usize);
-    charge_for(alloc, side, &mut part.limited, dev, req)?;
+    charge_for(side, &mut part.limited, dev, req)?;
     part.moments = seen_at(now, part.moments);
     Ok(next)
 }
@@ -108,7 +100,7 @@ pub fn tick(
 {
     let mut next = side.state.duplicate(alloc)?;
     let part = next.parts.at_mut(side.thread as usize);
-    bd_course::tick(part, side.setup, dev, now, slices)?;
+    bd_rule_faults::tick(part, side.setup, dev, now, slices)?;
     Ok(next)
 }
 
@@ -178,11 +170,11 @@ pub fn release(alloc: Global, side: &Side, req: ReqId, now: u64) -> Result<State
 // ---- aborts
 
 // A request that waits at this limited device waits no longer.
-fn leave(alloc: Global, part: &mut Part, req: ReqId, limited: Option<DevId>)
+fn leave(part: &mut Part, req: ReqId, limited: Option<DevId>)
     ensures { part.new ≡ departed part.old req limited }
 {
     match limited {
-        Some(dev) => depart(alloc, &mut part.limited, req, dev),
+        Some(dev) => depart(&mut part.limited, req, dev),
         None => {}
     }
 }
@@ -201,7 +193,7 @@ pub fn abort(
         return Ok(next);
     };
     stays(&mut next.tokens, side, req, aborted(cause, r))?;
-    let limited = next_limited(side.setup, r);
-    leave(alloc, next.parts.at_mut(side.thread as usize), req, limited);
+    let limited = waits_at(side.setup, r);
+    leave(next.parts.at_mut(side.thread as usize), req, limited);
     Ok(next)
 }

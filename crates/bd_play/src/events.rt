@@ -1,27 +1,27 @@
 //! Reg: an event of the registry with its answer.
 ghost use Rattle.std.specs.Prelude.{◌≡◌, true, IfOk, OnOk};
 ghost use Rattle.bd_base.specs.declared.act.Act.TheVariants as acts;
-ghost use Rattle.bd_changes.specs.Begun.{with_walk};
+ghost use Rattle.bd_rule_effects.specs.Begun.{with_walk};
 ghost use Rattle.bd_machine.specs.Events.{alone, got_by, injection_taken};
 ghost use Rattle.bd_play.specs.Words.{answered, changed, is_plain, made_by, may_begin, refused, seen};
 
 use crate::course::stays;
 use crate::side::Side;
-use bd_answers::{answer_to, made};
-use bd_asked::asks_event;
 use bd_base::{Answer, DevId, OutOfMemory, RegEvent, ReqId, WalkId};
 use bd_blocks::number_named;
-use bd_changes::{closed, decide};
-use bd_copies::Duplicate;
-use bd_course::asked_once_more;
-use bd_events::{
-    dropped, freed, got, put_down, removal_paid, removing, reset_begun, reset_finishes, reset_thaws,
-};
+use bd_clones::Duplicate;
 use bd_machine::guard::{EVENT_ASKED, REGISTRY_ANSWER};
 use bd_machine::{OpenWalk, Part, State};
-use bd_rules::request_here;
+use bd_rule_effects::{closed, decide};
+use bd_rule_events::{
+    dropped, freed, got, put_down, removal_paid, removing, reset_begun, reset_finishes, reset_thaws,
+};
+use bd_rule_faults::asked_once_more;
+use bd_rule_registry::{answer_to, made};
+use bd_rule_requests::request_here;
+use bd_rule_script::asks_event;
+use bd_rule_view::same_answer;
 use bd_state::begin;
-use bd_view::same_answer;
 use std::alloc::Global;
 
 /// Why a Reg isn't allowed.

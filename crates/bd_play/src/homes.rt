@@ -6,16 +6,16 @@ ghost use Rattle.bd_machine.specs.Table.{change_first};
 ghost use Rattle.bd_play.specs.Words.{changed, made_by, refused, seen};
 
 use crate::side::Side;
-use bd_answers::is_free;
 use bd_base::{ApplyEnd, DevId, OutOfMemory, Rows};
 use bd_blocks::{base_place, copy_of_piece, serve, size_of};
-use bd_changes::destructed;
-use bd_copies::Duplicate;
+use bd_clones::Duplicate;
 use bd_machine::guard::{CONTENT_DIGEST, END_ALLOWED, HEAD_OF_QUEUE, MAY_DESTRUCT, QUEUE_FULL};
 use bd_machine::{Base, Id, Kept, Place, Progress, State, Tracked};
-use bd_rules::{is_digest_due, may_apply, may_destruct, may_end, may_refuse, piece_here};
+use bd_rule_effects::destructed;
+use bd_rule_registry::is_free;
+use bd_rule_requests::{is_digest_due, may_apply, may_destruct, may_end, may_refuse, piece_here};
+use bd_rule_view::PieceId;
 use bd_state::put_in;
-use bd_view::PieceId;
 use std::alloc::Global;
 use std::mem::replace;
 

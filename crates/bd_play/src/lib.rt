@@ -14,4 +14,4 @@ mod side;
 mod step;
 mod walks;
 
-pub use machine::{Machine, StepNo};
+pub use machine::{Machine, StepError};

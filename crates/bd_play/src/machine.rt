@@ -7,7 +7,7 @@ ghost use Rattle.bd_play.specs.Refusals.{Refuses};
 
 use crate::step::{after, refusal};
 use bd_base::{Entry, OutOfMemory, Setup};
-use bd_copies::Duplicate;
+use bd_clones::Duplicate;
 use bd_machine::State;
 use bd_state::{is_finished, state_at_start};
 use std::alloc::Global;
@@ -17,7 +17,7 @@ use std::marker::Model;
 
 /// Why a step wasn't done. The machine is then as before.
 #[derive(Clone, Copy, Debug, PartialEq, Eq)]
-pub enum StepNo {
+pub enum StepError {
     /// There was no memory for the state after it.
     OutOfMemory,
     /// The entry isn't allowed: the least guard that fails, by its number in `bd_machine::guard`,
@@ -25,11 +25,11 @@ pub enum StepNo {
     Illegal { guard: u32, stamp: u128 },
 }
 
-impl fmt::Display for StepNo {
+impl fmt::Display for StepError {
     fn fmt<W: fmt::Write>(&self, f: &mut fmt::Formatter<W>) -> fmt::Result {
         match self {
-            StepNo::OutOfMemory => write!(f, "out of memory"),
-            StepNo::Illegal { guard, stamp } => {
+            StepError::OutOfMemory => write!(f, "out of memory"),
+            StepError::Illegal { guard, stamp } => {
                 write!(
                     f,
                     "the entry with stamp {stamp} isn't allowed: guard {guard}"
@@ -39,17 +39,17 @@ impl fmt::Display for StepNo {
     }
 }
 
-impl Error for StepNo {}
+impl Error for StepError {}
 
-impl From<OutOfMemory> for StepNo {
-    fn from(_e: OutOfMemory) -> StepNo {
-        StepNo::OutOfMemory
+impl From<OutOfMemory> for StepError {
+    fn from(_e: OutOfMemory) -> StepError {
+        StepError::OutOfMemory
     }
 }
 
 /// The sequential device machine: a setup, and the state that the entries so far left. Contracts
 /// see both.
-#[derive(Debug, Drop)]
+#[derive(Drop)]
 pub struct Machine {
     alloc: Global,
     setup: Setup,
@@ -96,21 +96,21 @@ impl Machine {
 
     /// Takes one entry: Ok exactly where every guard of it holds, with the state after it. Else the
     /// machine is as before.
-    pub fn step(&mut self, entry: &Entry) -> Result<(), StepNo>
+    pub fn step(&mut self, entry: &Entry) -> Result<(), StepError>
         ensures ok { OnOk result (IsStep self.old.setup self.old.state entry.now self.new.state) }
         ensures setup { self.new.setup ≡ self.old.setup }
-        ensures refused { IfErr result (λ no. Refuses self.old entry.now no) }
+        ensures refused { IfErr result (λ error. Refuses self.old entry.now error) }
         ensures as_before { OnErr result (self.new ≡ self.old) }
     {
         let Ok(refused) = refusal(self.alloc, &self.setup, &self.state, entry) else {
-            return Err(StepNo::OutOfMemory);
+            return Err(StepError::OutOfMemory);
         };
         if let Some(guard) = refused {
             let stamp = entry.stamp;
-            return Err(StepNo::Illegal { guard, stamp });
+            return Err(StepError::Illegal { guard, stamp });
         }
         let Ok(next) = after(self.alloc, &self.setup, &self.state, entry) else {
-            return Err(StepNo::OutOfMemory);
+            return Err(StepError::OutOfMemory);
         };
         self.state = next;
         Ok(())

@@ -1,7 +1,7 @@
 //! Put and Took.
 ghost use Rattle.std.specs.Prelude.{◌≡◌, cond, option_copied, IfOk, OnOk};
 ghost use Rattle.bd_base.specs.declared.act.Act.TheVariants as acts;
-ghost use Rattle.bd_changes.specs.Begun.{is_of_kind, stays};
+ghost use Rattle.bd_rule_effects.specs.Begun.{is_of_kind, stays};
 ghost use Rattle.bd_machine.specs.Messages.{news_of, news_put, token_put};
 ghost use Rattle.bd_machine.specs.Step.{moved, place_after};
 ghost use Rattle.bd_machine.specs.View.{Closed, Here, To, message_of};
@@ -10,18 +10,18 @@ ghost use Rattle.bd_play.specs.Words.{brought, changed, made_by, moves_of, moves
 
 use crate::side::Side;
 use bd_base::{OutOfMemory, Rows, Token};
-use bd_changes::{arrived, news_of, sent, stays, taken, took};
-use bd_copies::Duplicate;
+use bd_clones::Duplicate;
 use bd_machine::guard::{MAY_GO, NEXT_MESSAGE, NEXT_PUT, TOKEN_HERE};
 use bd_machine::{Id, Kept, Place, State, Tracked};
-use bd_rules::{brings, count_at, id_of, is_token_here, may_go};
+use bd_rule_effects::{arrived, news_of, sent, stays, taken, took};
+use bd_rule_requests::{brings, count_at, id_of, is_token_here, may_go};
+use bd_rule_view::{Sees, look_up};
 use bd_state::{begin, put_in};
-use bd_view::{Sees, look_up};
 use std::alloc::Global;
 
 /// A message, by the thread at its other end (who gets a put one, who sent a taken one) and its number
 /// from 0.
-#[derive(Clone, Copy, Debug, PartialEq, Eq)]
+#[derive(Clone, Copy, PartialEq, Eq)]
 pub struct Message {
     pub peer: u32,
     pub number: u128,
@@ -122,7 +122,7 @@ pub fn put(alloc: Global, side: &Side, message: Message, what: &Token) -> Result
     let mut next = side.state.duplicate(alloc)?;
     send(alloc, &mut next.tokens, side, message, what)?;
     let part = next.parts.at_mut(side.thread as usize);
-    bd_changes::put(part, message.peer, message.number, what)?;
+    bd_rule_effects::put(part, message.peer, message.number, what)?;
     Ok(next)
 }
 
@@ -202,7 +202,7 @@ fn place_of_arrived(thread: u32, what: &Token, kept: &Kept) -> Place
 }
 
 // The token that a message brought, with this kept of it, is on the thread or ends.
-#[tactic(auto, using(bd_changes::proofs::Arriving::arrives))]
+#[tactic(auto, using(bd_rule_effects::proofs::Arriving::arrives))]
 fn arrive(
     alloc: Global,
     tokens: &mut Rows<(Id, Tracked)>,

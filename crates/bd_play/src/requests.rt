@@ -8,22 +8,22 @@ ghost use Rattle.bd_machine.specs.Step.{moved};
 ghost use Rattle.bd_play.specs.Words.{changed, made_by, refused, seen};
 
 use crate::side::Side;
-use bd_asked::{asks_submission, is_new, next_line};
 use bd_base::{DevId, Errno, HandleId, OutOfMemory, ReqId, Rows, Shown, Status};
 use bd_blocks::{copy_of_piece, extents, new_piece};
-use bd_changes::{accepted, completed};
-use bd_copies::Duplicate;
+use bd_clones::Duplicate;
 use bd_machine::guard::{
     ADMITTED, ALL_PIECES_BACK, FRESH_ID, LINE_ASKS, MAY_CUT, PIECE_COUNT, REFUSAL_DUE, SHOWN_DATA,
     STATUS_ALLOWED,
 };
 use bd_machine::{Decided, Extent, Handle, Id, Kept, Open, OpenRequest, Place, State, Tracked};
-use bd_rules::{
+use bd_rule_effects::{accepted, completed};
+use bd_rule_requests::{
     has_extents, is_shown_due, is_status_due, may_complete, may_cut, new_request, piece_here,
     refusal_of, request_here,
 };
+use bd_rule_script::{asks_submission, is_new, next_line};
+use bd_rule_view::{PieceId, Sees, Submission, same_errno};
 use bd_state::put_in;
-use bd_view::{PieceId, Sees, Submission, same_errno};
 use std::alloc::Global;
 
 // ---- Accept
@@ -233,7 +233,7 @@ fn close_piece(
 }
 
 // The first n pieces of a request, as far as they are on the thread, end.
-#[tactic(auto, using(bd_changes::proofs::Left::left_from, crate::proofs::Closing::closed_next))]
+#[tactic(auto, using(bd_rule_effects::proofs::Left::left_from, crate::proofs::Closing::closed_next))]
 fn close_pieces(
     tokens: &mut Rows<(Id, Tracked)>,
     side: &Side,

@@ -8,14 +8,14 @@ ghost use Rattle.bd_machine.specs.Scripts.{change_script, is_line};
 ghost use Rattle.bd_play.specs.Words.{changed, refused, refused_with_shutdown, seen};
 
 use crate::side::Side;
-use bd_asked::{is_script_blocked, next_line, outcome_due};
 use bd_base::{Job, Line, OutOfMemory, Outcome, Setup};
-use bd_changes::line_done;
-use bd_copies::Duplicate;
+use bd_clones::Duplicate;
 use bd_machine::guard::{AT_REST, NEXT_LINE, OUTCOME_DUE, SCRIPTS_BLOCKED};
 use bd_machine::{Part, State};
+use bd_rule_effects::line_done;
+use bd_rule_script::{is_script_blocked, next_line, outcome_due};
+use bd_rule_view::{Sees, same_outcome};
 use bd_state::is_at_rest;
-use bd_view::{Sees, same_outcome};
 use std::alloc::Global;
 
 // ---- Script
@@ -82,7 +82,7 @@ pub fn script(alloc: Global, side: &Side) -> Result<State, OutOfMemory>
 // ---- Shutdown
 
 // Every script is at its end, or its next line waits.
-#[tactic(auto, using(bd_changes::proofs::Left::left_from))]
+#[tactic(auto, using(bd_rule_effects::proofs::Left::left_from))]
 fn are_scripts_blocked(setup: &Setup, state: &State) -> bool
     requires { length state.now.parts < 2 ^ 32 }
     ensures { result ≡ are_scripts_blocked setup.now state.now }

@@ -5,7 +5,7 @@ ghost use Rattle.bd_machine.specs.View.{here_of, view};
 use bd_base::{DevId, HandleId, Setup};
 use bd_blocks::references;
 use bd_machine::{Handle, Id, Kept, Part, Place, State, Tracked};
-use bd_view::{Sees, look_up, own_handle};
+use bd_rule_view::{Sees, look_up, own_handle};
 
 /// The setup and the state as one of the threads sees them. Its view is the machine's own, `view` of
 /// the state and the thread.

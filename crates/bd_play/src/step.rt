@@ -1,6 +1,6 @@
 //! Which entry is allowed, and the state after it.
 ghost use Rattle.std.specs.Prelude.{◌≡◌, ◌<◌, length, IfOk, None, OnOk, true};
-ghost use Rattle.bd_machine.specs.Guards.{is_built, is_built_as_yet, taken_injection};
+ghost use Rattle.bd_machine.specs.Guards.{taken_injection};
 ghost use Rattle.bd_machine.specs.Changes.{registry_after};
 ghost use Rattle.bd_machine.specs.Step.{after, is_in_order, is_shutdown, refusal};
 ghost use Rattle.bd_machine.specs.Table.{change_at};
@@ -11,46 +11,17 @@ use crate::messages::Message;
 use crate::side::Side;
 use crate::{course, events, homes, messages, requests, scripts, walks};
 use bd_base::{Act, Answer, Entry, Op, OutOfMemory, RegEvent, Rows, Setup, Token};
-use bd_changes::{note_taken, register};
-use bd_copies::Duplicate;
-use bd_course::{
+use bd_clones::Duplicate;
+use bd_machine::guard::IN_ORDER;
+use bd_machine::{Part, Registry, State, TakenInjection};
+use bd_rule_effects::{note_taken, register};
+use bd_rule_faults::{
     refused_abort, refused_hold, refused_inject, refused_let, refused_pend, refused_release,
     refused_tick,
 };
-use bd_machine::guard::{IN_ORDER, UNBUILT};
-use bd_machine::{Part, Registry, State, TakenInjection};
-use bd_rules::has_range;
-use bd_view::{AS_YET, PieceId, Submission, is_built_event, is_built_token};
-use bd_walks::refused_visit;
+use bd_rule_view::{PieceId, Submission};
+use bd_rule_walks::refused_visit;
 use std::alloc::Global;
-
-fn is_built_as_yet(act: &Act) -> bool
-    ensures { result ≡ is_built_as_yet act.now }
-{
-    match act {
-        Act::Put { what, .. } => is_built_token(what),
-        Act::Took { what, .. } => is_built_token(what),
-        Act::Reg { event, .. } => is_built_event(event),
-        Act::Accept { op, .. } => has_range(*op),
-        Act::Refuse { op, .. } => has_range(*op),
-        Act::Cut { .. } => true,
-        Act::Apply { .. } => true,
-        Act::NoMem { .. } => true,
-        Act::Abort { .. } => true,
-        Act::Visit { .. } => true,
-        Act::Complete { .. } => true,
-        Act::Destruct { .. } => true,
-        Act::Script { .. } => true,
-        Act::Shutdown => true,
-        _ => false,
-    }
-}
-
-fn is_built(act: &Act) -> bool
-    ensures { result ≡ is_built act.now }
-{
-    !AS_YET || is_built_as_yet(act)
-}
 
 // Stamp and thread are above those of the entry before, and the thread exists.
 fn is_in_order(state: &State, entry: &Entry) -> bool
@@ -178,9 +149,6 @@ pub fn refusal(
 ) -> Result<Option<u32>, OutOfMemory>
     ensures { IfOk result (λ r. r ≡ refusal setup.now state.now entry.now) }
 {
-    if !is_built(&entry.act) {
-        return Ok(Some(UNBUILT));
-    }
     if !is_in_order(state, entry) {
         return Ok(Some(IN_ORDER));
     }
@@ -304,7 +272,7 @@ fn taken_injection(act: &Act) -> Option<TakenInjection>
 }
 
 // The part of the thread with what the act took noted.
-#[tactic(auto, using(bd_changes::proofs::Places::set_at))]
+#[tactic(auto, using(bd_rule_effects::proofs::Places::set_at))]
 fn note(parts: &mut Rows<Part>, thread: u32, act: &Act)
     requires { thread < length parts.old }
     ensures { parts.new ≡ change_at thread (λ p. record p { injection = taken_injection act.now }) parts.old }

@@ -1,19 +1,19 @@
 //! Visit: the state with what it changes.
 ghost use Rattle.std.specs.Prelude.{◌≡◌, IfOk, OnOk};
-ghost use Rattle.bd_changes.specs.Begun.{begun, walk_moved};
+ghost use Rattle.bd_rule_effects.specs.Begun.{begun, walk_moved};
 ghost use Rattle.bd_machine.specs.Step.{moved};
 ghost use Rattle.bd_machine.specs.Walks.{change_visit, marked_by, walked};
 ghost use Rattle.bd_play.specs.Words.{changed, seen};
 
 use crate::side::Side;
 use bd_base::{DevId, OutOfMemory, Rows, WalkId, WalkKind};
-use bd_changes::walk_on;
-use bd_copies::Duplicate;
+use bd_clones::Duplicate;
 use bd_machine::{Id, Kept, OpenWalk, Part, State, Tracked};
-use bd_rules::walk_here;
+use bd_rule_effects::walk_on;
+use bd_rule_requests::walk_here;
+use bd_rule_view::Sees;
+use bd_rule_walks::{mark, visited};
 use bd_state::{begin, place_of_walk, put_in};
-use bd_view::Sees;
-use bd_walks::{mark, visited};
 use std::alloc::Global;
 
 // A walk that is on the thread stays there, or ends.

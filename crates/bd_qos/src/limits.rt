@@ -11,7 +11,7 @@ use bd_machine::Left;
 use std::marker::Model;
 
 /// What is left of each limit of a device, and the timeslices that were counted.
-#[derive(Debug, Drop)]
+#[derive(Drop)]
 pub struct Limits {
     rates: Rates,
     left: Left,

@@ -2,7 +2,8 @@
 ghost use Rattle.std.specs.Prelude.{◌≡◌};
 
 use bd_outside::Clock;
-use std::time;
+use std::thread;
+use std::time::{self, Duration};
 
 /// A runtime's clock, in microseconds since a start of its own: 0 where it can't be read.
 #[derive(Drop)]
@@ -30,11 +31,25 @@ impl<R: time::Clock> Clock for SystemClock<'_, R> {
             Err(_) => 0,
         }
     }
+
+    /// The calling thread of the system waits, so that it takes no processor time.
+    fn pause(&self, micros: u64) {
+        thread::sleep(self.rt, Duration::from_micros(micros));
+    }
 }
 
 #[cfg(test)]
 mod tests {
     use super::*;
+
+    #[test]
+    fn a_pause_takes_its_time(rt: HostRuntime) {
+        let clock = SystemClock::new(&rt);
+        let first = clock.now();
+        clock.pause(20_000);
+        let passed = clock.now().saturating_sub(first);
+        assert!(rt; passed >= 20_000, "a pause of 20 ms took {passed}");
+    }
 
     #[test]
     fn moments_rise(rt: HostRuntime) {

@@ -124,7 +124,7 @@ impl<F: Read + Write + Seek + OpenFile + Drop> Disk for SystemDisk<F> {
 #[cfg(test)]
 mod tests {
     use crate::SystemHost;
-    use bd_outside::{Disk, Failed, Host, HostNo};
+    use bd_outside::{Disk, Failed, Host, HostError};
     use std::test::Fail;
     use std::{fs, process};
 
@@ -146,9 +146,9 @@ mod tests {
         assert!(rt; disk.read(0, &mut both) == Err(Failed));
         host.close_disk(name.as_str(), disk);
         fs::remove_file(&rt, name.as_str())?;
-        assert!(rt; host.open_disk(name.as_str(), 4).err() == Some(HostNo::Absent));
-        assert!(rt; host.open_disk("/dev", 4).err() == Some(HostNo::Failed));
-        assert!(rt; host.open_disk("/dev/null", 4).err() == Some(HostNo::Failed));
+        assert!(rt; host.open_disk(name.as_str(), 4).err() == Some(HostError::Absent));
+        assert!(rt; host.open_disk("/dev", 4).err() == Some(HostError::Failed));
+        assert!(rt; host.open_disk("/dev/null", 4).err() == Some(HostError::Failed));
         Ok(())
     }
 }

@@ -3,7 +3,7 @@ ghost use Rattle.std.specs.Prelude.{◌≡◌, ◌≤◌, length, None, IfOk};
 ghost use Rattle.bd_outside.specs.Count.{Rises};
 
 use crate::disk::SystemDisk;
-use bd_outside::{Host, HostNo};
+use bd_outside::{Host, HostError};
 use std::alloc::Global;
 use std::fs;
 use std::io::{self, ErrorKind, Read, Seek, SeekFrom};
@@ -94,19 +94,19 @@ impl<'a, R: Files> SystemHost<'a, R> {
     }
 
     // Counts a failure, by its kind: no such file, or another one.
-    fn count(&mut self, no: io::Error) -> HostNo
+    fn count(&mut self, error: io::Error) -> HostError
         ensures same_files { self.new.files ≡ self.old.files }
-        ensures absent { result ≡ HostNo.Absent → Rises self.old.absences self.new.absences × (self.new.faults ≡ self.old.faults) }
-        ensures failed { result ≡ HostNo.Failed → Rises self.old.faults self.new.faults × (self.new.absences ≡ self.old.absences) }
+        ensures absent { result ≡ HostError.Absent → Rises self.old.absences self.new.absences × (self.new.faults ≡ self.old.faults) }
+        ensures failed { result ≡ HostError.Failed → Rises self.old.faults self.new.faults × (self.new.absences ≡ self.old.absences) }
         ensures fault_count { self.old.faults ≤ self.new.faults }
         ensures absence_count { self.old.absences ≤ self.new.absences }
     {
-        if no.kind() == ErrorKind::NotFound {
+        if error.kind() == ErrorKind::NotFound {
             self.absences = self.absences.saturating_add(1);
-            HostNo::Absent
+            HostError::Absent
         } else {
             self.faults = self.faults.saturating_add(1);
-            HostNo::Failed
+            HostError::Failed
         }
     }
 }
@@ -126,19 +126,19 @@ impl<R: Files> Host for SystemHost<'_, R> {
 
     /// Absent where the system says that there is no such file. Every other failure, as of a
     /// folder, a path through a file or a file that may not be read, is Failed.
-    fn read_at(&mut self, name: &str, at: u64, to: &mut [u8]) -> Result<usize, HostNo> {
+    fn read_at(&mut self, name: &str, at: u64, to: &mut [u8]) -> Result<usize, HostError> {
         match self.files.read(name, at, to) {
             Ok(n) => Ok(n),
-            Err(no) => Err(self.count(no)),
+            Err(error) => Err(self.count(error)),
         }
     }
 
     /// Opens a regular file for reading and writing. Absent where the system says that there is no
     /// such file. Every other failure is Failed, also of a file that isn't a regular one.
-    fn open_disk(&mut self, name: &str, block_size: u32) -> Result<SystemDisk<R::File>, HostNo> {
+    fn open_disk(&mut self, name: &str, block_size: u32) -> Result<SystemDisk<R::File>, HostError> {
         match SystemDisk::open(self.files.rt, name, block_size) {
             Ok(disk) => Ok(disk),
-            Err(no) => Err(self.count(no)),
+            Err(error) => Err(self.count(error)),
         }
     }
 
@@ -154,12 +154,12 @@ mod tests {
 
     // Files that each Linux system has or hasn't, or that are folders; what reading one gives, and how often the host
     // failed and found no file by then.
-    const READS: [(&str, u64, Result<usize, HostNo>, u64, u64); 5] = [
+    const READS: [(&str, u64, Result<usize, HostError>, u64, u64); 5] = [
         ("/dev/zero", 0, Ok(4), 0, 0),
         ("/dev/null", 0, Ok(0), 0, 0),
-        ("no/such-file", 0, Err(HostNo::Absent), 0, 1),
-        ("/dev", 0, Err(HostNo::Failed), 1, 1),
-        ("/dev/null/x", 0, Err(HostNo::Failed), 2, 1),
+        ("no/such-file", 0, Err(HostError::Absent), 0, 1),
+        ("/dev", 0, Err(HostError::Failed), 1, 1),
+        ("/dev/null/x", 0, Err(HostError::Failed), 2, 1),
     ];
 
     #[test]

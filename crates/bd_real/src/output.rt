@@ -86,7 +86,7 @@ mod tests {
         ghost steady = { λ old new untold. refl };
     }
 
-    // What an output over a writer that takes at most so many bytes at once says of three pieces, and has then.
+    // What an output over a writer that takes at most N bytes at once says of three pieces, and has then.
     const PIECES: [(usize, [Result<usize, Failed>; 3], &[u8], u64); 3] = [
         (100, [Ok(6), Ok(0), Ok(3)], b"job 1 0 o", 0),
         (4, [Ok(4), Ok(0), Ok(3)], b"job 0 o", 0),

@@ -8,7 +8,7 @@ use Rattle.bd_machine.specs.declared.state.Registry.{Registry}
 use Rattle.bd_machine.specs.Changes.{registry_after}
 use Rattle.bd_machine.specs.Registry.{Question, answer_to}
 use Rattle.bd_machine.specs.Start.{registry_at_start}
-use Rattle.bd_merged.specs.Journals.{IsReplay, registry_by}
+use Rattle.bd_law_logs.specs.Journals.{IsReplay, registry_by}
 use Rattle.bd_registry.specs.Laws.{RowsAreEnough}
 use Rattle.bd_registry.specs.State.{rows_of, start_of}
 use Rattle.bd_registry.proofs.Journals.{by_same, replay_same}

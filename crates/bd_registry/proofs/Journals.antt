@@ -13,7 +13,7 @@ use Rattle.bd_machine.specs.Step.{is_shutdown}
 use Rattle.bd_machine.specs.View.{asked}
 use Rattle.bd_log.specs.Log.{IsWithin}
 use Rattle.bd_log.specs.Merge.{Rises}
-use Rattle.bd_merged.specs.Journals.{is_event, events, IsAnswered, IsBetweenIfAny, IsFollowed, IsReplay, between_for, followed_from, registry_by, registry_next}
+use Rattle.bd_law_logs.specs.Journals.{is_event, events, IsAnswered, IsBetweenIfAny, IsFollowed, IsReplay, between_for, followed_from, registry_by, registry_next}
 use Rattle.bd_registry.specs.State.{IsJournal, IsRow, is_shut}
 
 -- ---- one row more

@@ -17,8 +17,8 @@ use Rattle.bd_machine.specs.Same.{same_handle}
 use Rattle.bd_machine.specs.View.{is_of}
 use Rattle.bd_machine.proofs.Laws.{filter_push, filter_twice, filter_map_commutes}
 use Rattle.bd_machine.proofs.Tables.{dev_exact}
-use Rattle.bd_iodev.specs.ByDevice.{place_of, row_at, with_row}
-use Rattle.bd_iodev.proofs.Rows.{row_same, row_other, row_where_same}
+use Rattle.bd_rule_channels.specs.ByDevice.{place_of, row_at, with_row}
+use Rattle.bd_rule_channels.proofs.Rows.{row_same, row_other, row_where_same}
 use Rattle.bd_registry.specs.Handles.{HandleTable, IsNumbered, Keeps, named_handle, with_handle}
 
 -- ---- what stays of the handles of one device

@@ -12,7 +12,7 @@ use Rattle.bd_machine.specs.Registry.{answer_to}
 use Rattle.bd_machine.specs.Start.{registry_at_start}
 use Rattle.bd_registry.specs.declared.names.Names.{Names}
 use Rattle.bd_registry.specs.declared.tables.Tables.{Tables}
-use Rattle.bd_merged.specs.Journals.{registry_by}
+use Rattle.bd_law_logs.specs.Journals.{registry_by}
 use Rattle.bd_registry.specs.Registered.{IsRegistered}
 use Rattle.bd_registry.specs.State.{Registered, IsJournal, event_row, registered, registered_by, shut_at}
 use Rattle.bd_registry.specs.Tables.{Agrees}

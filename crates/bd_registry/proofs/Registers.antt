@@ -5,8 +5,8 @@ use Rattle.bd_base.specs.declared.setup.Setup.{Setup}
 use Rattle.bd_machine.specs.Start.{registry_at_start}
 use Rattle.bd_log.specs.Log.{IsWithin}
 use Rattle.bd_log.specs.Merge.{IsOrdered, Rises}
-use Rattle.bd_merged.specs.Journals.{IsFollowed, IsReplay, events, followed_from, registry_by}
-use Rattle.bd_merged.proofs.OwnFollow.{ordered_rising}
+use Rattle.bd_law_logs.specs.Journals.{IsFollowed, IsReplay, events, followed_from, registry_by}
+use Rattle.bd_law_logs.proofs.OwnFollow.{ordered_rising}
 use Rattle.bd_registry.specs.declared.names.Names.{Names}
 use Rattle.bd_registry.specs.declared.tables.Tables.{Tables}
 use Rattle.bd_registry.specs.Registered.{IsRegistered}

@@ -8,7 +8,7 @@ use Rattle.bd_machine.specs.declared.state.Registry.{Registry}
 use Rattle.bd_machine.specs.Limits.{is_limited}
 use Rattle.bd_machine.specs.Start.{bare_registry, handles_from, registry_at_start, with_channel, with_channels}
 use Rattle.bd_machine.specs.Users.{all_devices, firsts}
-use Rattle.bd_iodev.specs.Counts.{Table, Has}
+use Rattle.bd_rule_channels.specs.Counts.{Table, Has}
 use Rattle.bd_registry.specs.Handles.{AreCounted, HandleTable, Keeps}
 use Rattle.bd_registry.specs.Tables.{Agrees}
 

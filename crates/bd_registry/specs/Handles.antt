@@ -9,7 +9,7 @@ use Rattle.bd_base.specs.declared.id.DevId.{DevId}
 use Rattle.bd_base.specs.declared.id.HandleId.{HandleId}
 use Rattle.bd_machine.specs.declared.state.Handle.{Handle}
 use Rattle.bd_machine.specs.Registry.{is_on}
-use Rattle.bd_iodev.specs.ByDevice.{row_at, with_row}
+use Rattle.bd_rule_channels.specs.ByDevice.{row_at, with_row}
 
 -- the open handles of each device, and of each handle that was ever opened, by its number, the device
 pub record HandleTable : Type 0 where

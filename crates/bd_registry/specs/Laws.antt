@@ -7,7 +7,7 @@ use Rattle.bd_machine.specs.declared.state.Registry.{Registry}
 use Rattle.bd_machine.specs.Changes.{registry_after}
 use Rattle.bd_machine.specs.Registry.{Question, answer_to}
 use Rattle.bd_machine.specs.Start.{registry_at_start}
-use Rattle.bd_merged.specs.Journals.{IsReplay, registry_by}
+use Rattle.bd_law_logs.specs.Journals.{IsReplay, registry_by}
 use Rattle.bd_registry.specs.State.{start_of}
 
 -- two setups have the same registry: at the start, in what it answers, in what an answer changes, in what is a replay, and in what a journal leaves

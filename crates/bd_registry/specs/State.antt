@@ -14,7 +14,7 @@ use Rattle.bd_machine.specs.Lines.{shutdown_at}
 use Rattle.bd_machine.specs.Registry.{answer_to}
 use Rattle.bd_machine.specs.Start.{registry_at_start}
 use Rattle.bd_machine.specs.Step.{is_shutdown}
-use Rattle.bd_merged.specs.Journals.{IsFollowed, IsReplay, followed_from, registry_by, registry_next}
+use Rattle.bd_law_logs.specs.Journals.{IsFollowed, IsReplay, followed_from, registry_by, registry_next}
 
 -- its rows, its journal, the last stamp of the journal, and the registry that the journal leaves
 pub record Registered : Type 0 where

@@ -3,7 +3,7 @@ use Rattle.std.specs.Prelude.{◌≡◌, length}
 use Rattle.bd_base.specs.declared.event.RegEvent.{RegEvent}
 use Rattle.bd_base.specs.declared.event.RegEvent.TheVariants as events
 use Rattle.bd_machine.specs.declared.state.Registry.{Registry}
-use Rattle.bd_iodev.specs.Counts.{Has}
+use Rattle.bd_rule_channels.specs.Counts.{Has}
 use Rattle.bd_registry.specs.declared.tables.Part.{Part}
 use Rattle.bd_registry.specs.declared.tables.Part.TheVariants.{OfHandles, OfChannels, OfDevices}
 use Rattle.bd_registry.specs.declared.tables.Tables.{Tables}

@@ -7,15 +7,15 @@ ghost use Rattle.bd_machine.specs.View.{is_of};
 ghost use Rattle.bd_machine.specs.declared.state.Handle.{Handle};
 
 use bd_base::{Answer, DevId, HandleId, OutOfMemory, RegEvent, Rows, ThreadId};
-use bd_changes::change_handles;
-use bd_iodev::place_of;
 use bd_machine::Handle;
+use bd_rule_channels::place_of;
+use bd_rule_effects::change_handles;
 use std::alloc::Global;
 use std::marker::Model;
 
 /// The open handles, seen as a `HandleTable`. What is done with a handle takes a number of steps that
 /// grows with the handles of its own device alone.
-#[derive(Debug, Drop)]
+#[derive(Drop)]
 pub(crate) struct Handles {
     rows: Rows<Rows<Handle>>,
     devices: Vec<DevId>,
@@ -33,7 +33,7 @@ impl Model for Handles {
 }
 
 impl Handles {
-    ghost use Rattle.bd_iodev.specs.ByDevice.{row_at, with_row};
+    ghost use Rattle.bd_rule_channels.specs.ByDevice.{row_at, with_row};
     ghost use Rattle.bd_registry.specs.Handles.{AreCounted, IsNext, Keeps, is_of_kind, named_handle};
 
     // No handles. There is a row for each of so many devices, and one for all others.

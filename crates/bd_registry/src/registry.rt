@@ -1,23 +1,23 @@
 //! The registry.
 ghost use Rattle.std.specs.Prelude.{◌≡◌, ◌<◌, ◌++◌, ◌∷◌, [], List, IfOk, OnOk, OnErr};
-ghost use Rattle.bd_answers.specs.Named.{named_by};
+ghost use Rattle.bd_rule_registry.specs.Named.{named_by};
 ghost use Rattle.bd_base.specs.declared.act.Entry.{Entry};
 ghost use Rattle.bd_base.specs.declared.setup.Setup.{Setup};
 ghost use Rattle.bd_log.specs.Log.{IsWithin};
 ghost use Rattle.bd_log.specs.Merge.{IsOrdered, Rises};
 ghost use Rattle.bd_machine.specs.Registry.{answer_to};
 ghost use Rattle.bd_machine.specs.Start.{registry_at_start};
-ghost use Rattle.bd_merged.specs.Journals.{events};
+ghost use Rattle.bd_law_logs.specs.Journals.{events};
 
 use crate::copies::event_row;
 use crate::names::Names;
 use crate::setups::rows_of;
 use crate::tables::Tables;
-use bd_answers::answer_by;
 use bd_base::{Act, Answer, DevId, Entry, HandleId, Journaled, OutOfMemory, RegEvent, Setup};
-use bd_iodev::counts_after;
 use bd_machine::{Between, Device, Handle};
-use bd_view::Records;
+use bd_rule_channels::counts_after;
+use bd_rule_registry::answer_by;
+use bd_rule_view::Records;
 use std::alloc::Global;
 use std::marker::Model;
 

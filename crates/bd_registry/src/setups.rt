@@ -3,7 +3,7 @@ ghost use Rattle.std.specs.Prelude.{◌≡◌, IfOk};
 ghost use Rattle.bd_registry.specs.State.{rows_of};
 
 use bd_base::{OutOfMemory, Rows, Setup};
-use bd_copies::duplicate_rows;
+use bd_clones::duplicate_rows;
 use std::alloc::Global;
 
 /// The rows of a setup, without its scripts and what waits.

@@ -1,7 +1,7 @@
 //! The tables of the registry, and what an answer changes there.
 ghost use Rattle.std.specs.Prelude.{◌≡◌, Some, true, length, map, IfOk, OnOk, OnErr};
 ghost use Rattle.bd_base.specs.declared.setup.Setup.{Setup};
-ghost use Rattle.bd_iodev.specs.Counts.{count_for};
+ghost use Rattle.bd_rule_channels.specs.Counts.{count_for};
 ghost use Rattle.bd_machine.specs.Changes.{counts_after, registry_after};
 ghost use Rattle.bd_machine.specs.Registry.{references};
 ghost use Rattle.bd_machine.specs.Start.{registry_at_start};
@@ -12,13 +12,13 @@ ghost use Rattle.bd_registry.specs.Tables.{Agrees, part_of};
 use crate::handles::Handles;
 use bd_base::{Answer, DevId, OutOfMemory, RegEvent, Rows, Setup};
 use bd_blocks::registry_at_start;
-use bd_changes::{between_after, change_devices};
-use bd_iodev::Channels;
 use bd_machine::{Between, Device};
+use bd_rule_channels::Channels;
+use bd_rule_effects::{between_after, change_devices};
 use std::alloc::Global;
 
 /// The open handles, the counts of channels, the devices by number, and what has to follow at once.
-#[derive(Debug, Drop)]
+#[derive(Drop)]
 pub(crate) struct Tables {
     pub(crate) handles: Handles,
     pub(crate) channels: Channels,

@@ -17,7 +17,7 @@ use Rattle.bd_report.specs.declared.traffic.Traffic.{Traffic}
 
 -- ---- which reads and writes were submitted
 
--- the way of a read or a write; a compare and write is neither
+-- the way of a read or a write; no other request has one
 abbrev pub way_of : Op → Option Way
 way_of ops.Read = Some ways.Read
 way_of (ops.Write fill) = Some ways.Write

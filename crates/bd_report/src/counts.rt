@@ -5,7 +5,7 @@ ghost use Rattle.bd_report.specs.Counts.{counts_of, no_acts, with_act, with_act_
 use bd_base::{Act, Entry, Rows, Status};
 
 /// Counts of acts, each at most `u64::MAX`, where it stays.
-#[derive(Clone, Copy, Debug, PartialEq, Eq)]
+#[derive(Clone, Copy, PartialEq, Eq)]
 pub struct Counts {
     /// Requests that were accepted, resets and aborts too.
     pub accepted: u64,

@@ -3,7 +3,7 @@ use crate::counts::{Counts, CountsList};
 use crate::traffic::TrafficList;
 
 /// How many requests each thread and all together had, and how much each device moved.
-#[derive(Debug, Drop)]
+#[derive(Drop)]
 pub struct Stats {
     /// The counts of each thread, by number.
     pub threads: CountsList,

@@ -56,7 +56,7 @@ fn submitted_in(act: &Act) -> Option<Submitted>
     }
 }
 
-// The way of a read or a write; a compare and write is neither.
+// The way of a read or a write; no other request has one.
 fn way_of(op: Op) -> Option<Way>
     ensures { result ≡ way_of op }
 {

@@ -94,7 +94,7 @@ fn is_marked(row: &Rows<bool>, at: usize) -> bool
     at < marks.len() && marks[at]
 }
 
-// Marks a number, unless it lies far behind the last one in the row or memory runs out.
+// Marks a number, unless it lies far past the last one in the row or memory runs out.
 fn mark(row: &mut Rows<bool>, at: usize) -> bool
     ensures { (k : ℕ) → slice_index_or row.new k false ≡ (slice_index_or row.old k false || (result && nat_eq at k)) }
 {

@@ -7,7 +7,7 @@ use bd_base::{Rows, Way};
 
 /// How many reads and writes of a device completed with success, and their bytes: each at most
 /// `u64::MAX`, where it stays.
-#[derive(Clone, Copy, Debug, PartialEq, Eq)]
+#[derive(Clone, Copy, PartialEq, Eq)]
 pub struct Traffic {
     pub reads: u64,
     pub writes: u64,

@@ -12,8 +12,8 @@ use bd_outside::{Failed, Sink};
 use std::alloc::Global;
 
 /// Why a report isn't written whole.
-#[derive(Clone, Copy, Debug, PartialEq, Eq)]
-pub enum ReportNo {
+#[derive(Clone, Copy, PartialEq, Eq)]
+pub enum ReportError {
     /// Out of memory before anything was written.
     OutOfMemory,
     /// The sink failed; what was written before is a prefix of the report.
@@ -29,18 +29,18 @@ pub fn write_report<K: Sink>(
     trace: &[Entry],
     stats: &Stats,
     full: bool,
-) -> Result<(), ReportNo>
+) -> Result<(), ReportError>
     ensures ok { OnOk result (Appends (K.state out.old).written (K.state out.new).written (report_with full setup.now trace.now stats.now)) }
     ensures cause { IfErr result (ReportCause (K.state out.old) (K.state out.new) (report_with full setup.now trace.now stats.now)) }
     ensures untold { StaysUntold (K.state out.old) (K.state out.new) }
     ensures count { (K.state out.old).faults ≤ (K.state out.new).faults }
 {
     let Ok(text) = report_with(alloc, setup, trace, stats, full) else {
-        return Err(ReportNo::OutOfMemory);
+        return Err(ReportError::OutOfMemory);
     };
     match write_all(out, text.as_slice()) {
         Ok(()) => Ok(()),
-        Err(Failed) => Err(ReportNo::WriteFault),
+        Err(Failed) => Err(ReportError::WriteFault),
     }
 }
 

@@ -5,10 +5,10 @@ ghost use Rattle.bd_machine.specs.Walks.{is_drained};
 ghost use Rattle.bd_reset.specs.Stopping.{first_in_line, first_waiting, is_stopped, is_stopped_open};
 
 use bd_base::{AbortCause, DevId, ReqId, Setup, WalkKind};
-use bd_course::{refused_abort, waiting_for};
 use bd_machine::Open;
-use bd_view::Sees;
-use bd_walks::is_drained;
+use bd_rule_faults::{refused_abort, waiting_for};
+use bd_rule_view::Sees;
+use bd_rule_walks::is_drained;
 
 // Whether a request is here, and may be aborted for this cause.
 fn is_stopped<S: Sees>(seen: &S, setup: &Setup, cause: AbortCause, req: ReqId) -> bool

@@ -1,3 +1,2 @@
 mod Left
-mod Moving
 mod Answered

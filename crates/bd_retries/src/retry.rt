@@ -11,7 +11,7 @@ use std::marker::Model;
 
 /// The channel of a base device on one thread, with its retry queue: a piece that comes back since the
 /// home was full joins its end, and so do new pieces while it isn't empty.
-#[derive(Debug, Drop)]
+#[derive(Drop)]
 pub struct Retry {
     base: DevId,
     in_flight: u64,

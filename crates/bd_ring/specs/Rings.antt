@@ -56,6 +56,10 @@ new_senders ring senders = first_senders ring senders senders
 abbrev pub AreSendersOf : TableId → List Sender → Type 0
 AreSendersOf ring sends = (k : ℕ) (s : Sender) → slice_get sends k ≡ Some s → (s.ring ≡ ring) × (s.number ≡ k)
 
+-- each pass is for the ring at its place
+abbrev pub AreSendsTo : List Place → List Sender → Type 0
+AreSendsTo rings sends = (k : ℕ) (d : Place) (e : Sender) → k < length rings → (slice_index_or sends k e).ring ≡ (slice_index_or rings k d).ring
+
 -- a ring that is being settled: which one it is, how many senders there are, what the ended ones put, and what was taken
 pub record Closing : Type 0 where
   pub ring : TableId

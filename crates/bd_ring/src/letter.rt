@@ -6,7 +6,7 @@ use bd_turns::Post;
 use std::marker::Model;
 
 /// A post whose message brings the token that it names, seen as the post.
-#[derive(Debug, Drop)]
+#[derive(Drop)]
 pub struct Letter {
     post: Post,
 }

@@ -12,6 +12,3 @@ pub mod writers;
 
 pub use ring::{Full, Ring, SendPass, Settled, Settling, TakePass};
 pub use slot::{Slot, SlotPass, SlotSettling};
-
-#[cfg(test)]
-mod tests;

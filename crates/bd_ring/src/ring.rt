@@ -109,7 +109,7 @@ impl Model for Settled {
 }
 
 /// A post that found the ring full.
-#[derive(Debug, Drop)]
+#[derive(Drop)]
 pub struct Full {
     pub post: Post,
 }

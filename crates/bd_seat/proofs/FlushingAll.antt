@@ -2,8 +2,8 @@
 use Rattle.std.proofs.Common.{◌≡◌, ◌≢◌, ℕ, ◌+◌, ◌<◌, ◌≤◌, Bool, true, false, ◌==◌, List, [], length, slice_index_or, slice_set, refl, sym, ◌∙◌, ap, subst, eqb-true, eq-eqb, arith}
 use Rattle.std.proofs.lemmas.List.{get_or_default, get_or-set_same, get_or-set_other}
 use Rattle.bd_turns.specs.declared.queue.Message.{Message}
-use Rattle.bd_ring.specs.Rings.{Place, Sender}
-use Rattle.bd_seat.specs.Outgoing.{AreSendsTo, Flushed, FlushedIf}
+use Rattle.bd_ring.specs.Rings.{AreSendsTo, Place, Sender}
+use Rattle.bd_seat.specs.Outgoing.{Flushed, FlushedIf}
 
 -- the queues below this one were flushed, and the others stayed
 pub record FlushedBelow (n me stamp : ℕ) (sends : List Sender) (queues : List (List Message)) (sends' : List Sender) (queues' : List (List Message)) : Type 0 where

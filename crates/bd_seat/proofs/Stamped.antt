@@ -2,8 +2,8 @@
 use Rattle.std.proofs.Common.{◌≡◌, ℕ, ◌+◌, Bool, cond, List, [], ◌∷◌, ◌++◌, length, refl, ◌∙◌, ap, arith}
 use Rattle.bd_base.specs.declared.act.Entry.{Entry}
 use Rattle.bd_log.specs.Log.{Written, stamped}
-use Rattle.bd_merged.specs.Journals.{events}
-use Rattle.bd_apart.specs.Course.{acts_of, restamped}
+use Rattle.bd_law_logs.specs.Journals.{events}
+use Rattle.bd_law_threads.specs.Course.{acts_of, restamped}
 use Rattle.bd_seat.specs.Taking.{AppendsAlone}
 use Rattle.bd_seat.proofs.TakenOver.{none_first}
 

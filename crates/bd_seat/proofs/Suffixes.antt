@@ -5,7 +5,7 @@ use Rattle.std.proofs.lemmas.List.{length-drop}
 use Rattle.bd_base.specs.declared.act.Entry.{Entry}
 use Rattle.bd_base.specs.declared.setup.Setup.{Setup}
 use Rattle.bd_machine.specs.declared.state.Registry.{Registry}
-use Rattle.bd_merged.specs.Journals.{registry_by, registry_next, IsReplay}
+use Rattle.bd_law_logs.specs.Journals.{registry_by, registry_next, IsReplay}
 
 -- the rows after the first are a replay from what those leave
 pub replay_after : (setup : Setup) (r : Registry) (n : ℕ) (es : List Entry) → IsReplay setup r es → IsReplay setup (registry_by setup r (take n es)) (drop n es)

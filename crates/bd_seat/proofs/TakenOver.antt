@@ -13,9 +13,9 @@ use Rattle.bd_machine.specs.Registry.{Question}
 use Rattle.bd_machine.specs.Step.{is_shutdown}
 use Rattle.bd_machine.specs.View.{asked}
 use Rattle.bd_log.specs.Log.{Written, entry_of}
-use Rattle.bd_merged.specs.Journals.{events, is_event, registry_by, registry_next, IsReplay}
+use Rattle.bd_law_logs.specs.Journals.{events, is_event, registry_by, registry_next, IsReplay}
 use Rattle.bd_registry.specs.State.{Registered, registered}
-use Rattle.bd_apart.specs.Course.{acts_of, restamped}
+use Rattle.bd_law_threads.specs.Course.{acts_of, restamped}
 use Rattle.bd_seat.specs.Taking.{is_event_act, Appends, AppendsAlone, TakesOver}
 
 pub appends_none : (log : Written) → Appends log [] log

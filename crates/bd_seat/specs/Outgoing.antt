@@ -31,10 +31,6 @@ pub record Flushed (stamp : ℕ) (pass : Sender) (queue : List Message) (pass' :
 abbrev pub HasFlushedAll : Place → Sender → List Message → Type 0
 HasFlushedAll place pass queue = (has_next pass.number queue ≡ false) ⊎ WasFull place pass
 
--- each pass is for the ring at its place
-abbrev pub AreSendsTo : List Place → List Sender → Type 0
-AreSendsTo rings sends = (k : ℕ) (d : Place) (e : Sender) → k < length rings → (slice_index_or sends k e).ring ≡ (slice_index_or rings k d).ring
-
 -- what goes to another thread was flushed; what goes to the thread itself stayed
 abbrev pub FlushedIf : Bool → ℕ → Sender → List Message → Sender → List Message → Type 0
 FlushedIf true stamp pass queue pass' queue' = (pass' ≡ pass) × (queue' ≡ queue)

@@ -5,7 +5,7 @@ use Rattle.bd_base.specs.declared.act.Entry.{Entry}
 use Rattle.bd_machine.specs.Step.{is_shutdown}
 use Rattle.bd_machine.specs.View.{asked}
 use Rattle.bd_log.specs.Log.{Written}
-use Rattle.bd_merged.specs.Journals.{events, registry_by}
+use Rattle.bd_law_logs.specs.Journals.{events, registry_by}
 use Rattle.bd_registry.specs.State.{Registered}
 
 -- the act asks the registry, or is the Shutdown

@@ -5,11 +5,11 @@
 mod incoming;
 mod outgoing;
 mod replica;
-mod seat_no;
+mod seat_error;
 mod taking;
 
 pub use incoming::fetch;
 pub use outgoing::{flush, flush_all};
 pub use replica::{catch_up, follow};
-pub use seat_no::SeatNo;
+pub use seat_error::SeatError;
 pub use taking::{append_all, take_over};

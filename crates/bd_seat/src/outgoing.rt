@@ -1,11 +1,12 @@
 //! What a thread puts to another: the messages of its queue to that thread, put into the ring.
 ghost use Rattle.std.specs.Prelude.{◌≡◌, length, vec_len, IfOk, OnOk};
-ghost use Rattle.bd_seat.specs.Outgoing.{has_next, AreSendsTo, Flushed, FlushedAll, FlushedOne, HasFlushedAll};
+ghost use Rattle.bd_ring.specs.Rings.{AreSendsTo};
+ghost use Rattle.bd_seat.specs.Outgoing.{has_next, Flushed, FlushedAll, FlushedOne, HasFlushedAll};
 
 use bd_base::OutOfMemory;
 use bd_links::Queue;
 use bd_ring::{Ring, SendPass};
-use bd_rules::brings;
+use bd_rule_requests::brings;
 use bd_turns::Post;
 use std::sync::Wait;
 

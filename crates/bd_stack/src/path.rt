@@ -2,6 +2,7 @@
 ghost use Rattle.std.specs.Prelude.{◌≡◌, ◌+◌, IfOk, IfSome, suc};
 ghost use Rattle.std.specs.Option.{option_map};
 ghost use Rattle.std.specs.Iterator.{YieldsFirst, item_count};
+ghost use Rattle.bd_machine.specs.Aborts.{is_below};
 ghost use Rattle.bd_machine.specs.BlockMap.{at, base_of, below, home, is_aio, last_of, path_within, row_of, shift_of_row, stands_on};
 ghost use Rattle.bd_machine.specs.Homes.{is_home};
 
@@ -10,7 +11,7 @@ use bd_base::{DevId, Kind, OutOfMemory, Setup};
 use std::marker::Model;
 
 /// The devices from one down to its base device that are left, seen as their list.
-#[derive(Debug, Drop)]
+#[derive(Drop)]
 pub struct Descent<'a> {
     setup: &'a Setup,
     next: Option<DevId>,
@@ -56,6 +57,18 @@ pub fn below(setup: &Setup, dev: DevId) -> Descent<'_>
         next: Some(dev),
         left: setup.devices.len(),
     }
+}
+
+/// Whether a device is the other one or lies below it.
+pub fn is_below(setup: &Setup, dev: DevId, lower: DevId) -> bool
+    ensures { result ≡ is_below setup.now dev lower }
+{
+    for d in below(setup, dev) {
+        if lower.0 == d.0 {
+            return true;
+        }
+    }
+    false
 }
 
 /// The base device under a device.

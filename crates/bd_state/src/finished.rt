@@ -7,7 +7,7 @@ use crate::rest::{is_any_in_ring, is_any_open, is_any_walking};
 use bd_base::{DevId, OutOfMemory, Setup};
 use bd_blocks::home;
 use bd_machine::State;
-use bd_rules::has_destructed;
+use bd_rule_requests::has_destructed;
 
 // The home of a device has destructed it.
 #[tactic(auto, using(crate::proofs::Beyond::part_beyond))]
@@ -23,7 +23,7 @@ fn is_destructed(setup: &Setup, state: &State, n: u32) -> bool
     }
 }
 
-#[tactic(auto, using(bd_changes::proofs::Left::left_from))]
+#[tactic(auto, using(bd_rule_effects::proofs::Left::left_from))]
 fn all_destructed(setup: &Setup, state: &State, count: u32) -> bool
     ensures { result ≡ list_all (is_destructed setup.now state.now) (range_with_len 0 count) }
 {

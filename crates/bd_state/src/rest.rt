@@ -5,12 +5,12 @@ ghost use Rattle.bd_machine.specs.Marks.{is_marked};
 ghost use Rattle.bd_machine.specs.Rest.{are_all_done, are_all_pended, are_all_put, are_gone_closed, is_at_rest, is_idle_owed, is_in_ring, is_left_open, is_nothing_owed, is_open_request, is_open_walk, is_pended, is_resting_token};
 ghost use Rattle.bd_machine.specs.View.{part_of};
 
-use bd_answers::is_live;
-use bd_asked::open_on;
 use bd_base::Setup;
 use bd_blocks::is_base_handle;
 use bd_machine::{Handle, Id, Kept, OpenRequest, Owed, Part, Place, Registry, State, Tracked};
-use bd_rules::{is_gone, is_marked};
+use bd_rule_registry::is_live;
+use bd_rule_requests::{is_gone, is_marked};
+use bd_rule_script::open_on;
 
 /// A message is in a ring.
 pub fn is_any_in_ring(state: &State) -> bool

@@ -8,7 +8,7 @@ use bd_blocks::{part_at_start, registry_at_start};
 use bd_machine::{Part, State};
 use std::alloc::Global;
 
-#[tactic(auto, using(bd_changes::proofs::Left::left_from))]
+#[tactic(auto, using(bd_rule_effects::proofs::Left::left_from))]
 fn parts_at_start(alloc: Global, setup: &Setup) -> Result<Rows<Part>, OutOfMemory>
     ensures { IfOk result (λ ps. ps ≡ map (part_at_start setup.now []) (range_with_len 0 setup.now.threads)) }
 {

@@ -1,6 +1,6 @@
 //! The tokens of a state, by their ids.
 ghost use Rattle.std.specs.Prelude.{◌≡◌, cond, OnOk, position};
-ghost use Rattle.bd_changes.specs.Begun.{begun};
+ghost use Rattle.bd_rule_effects.specs.Begun.{begun};
 ghost use Rattle.bd_machine.specs.Same.{same_id};
 ghost use Rattle.bd_machine.specs.Step.{moved, place_after};
 ghost use Rattle.bd_machine.specs.View.{Closed, Here};
@@ -8,9 +8,9 @@ ghost use Rattle.bd_machine.specs.Walks.{is_at_end};
 ghost use Rattle.bd_machine.specs.Table.{write};
 
 use bd_base::{OutOfMemory, Rows, WalkId};
-use bd_changes::is_at_end;
 use bd_machine::{Id, Kept, OpenWalk, Place, Tracked};
-use bd_view::same_id;
+use bd_rule_effects::is_at_end;
+use bd_rule_view::same_id;
 
 fn place_of(tokens: &[(Id, Tracked)], id: Id) -> Option<usize>
     ensures { result ≡ position (λ entry. same_id entry.0 id) tokens.now }

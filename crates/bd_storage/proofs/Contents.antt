@@ -12,7 +12,7 @@ use Rattle.bd_machine.specs.Homes.{content_by, read_by}
 use Rattle.bd_machine.specs.Same.{same_dev}
 use Rattle.bd_machine.proofs.Tables.{dev_exact}
 use Rattle.bd_outside.specs.Disk.{DiskState}
-use Rattle.bd_storage.specs.Contents.{content_if, contents_of}
+use Rattle.bd_disks.specs.Contents.{contents_of, content_if}
 use Rattle.bd_storage.proofs.Served.{changed_here, piece_is_on, unchanged_else}
 use Rattle.bd_thread.specs.declared.links.Links.{Links}
 use Rattle.bd_thread.specs.declared.thread.Thread.{Thread}
@@ -20,7 +20,7 @@ use Rattle.bd_thread.specs.Disks.{piece_on_disk}
 use Rattle.bd_thread.specs.Given.{contents_once, IsReadBy, ServesOver}
 use Rattle.bd_thread.specs.Over.{WentOver}
 use Rattle.bd_thread.specs.Seen.{block_size}
-use Rattle.bd_told.specs.Told.{contents_after}
+use Rattle.bd_law_disks.specs.Told.{contents_after}
 
 no_both : {Q : Type 0} → true ≡ false → Q
 no_both e = cc

@@ -17,14 +17,16 @@ use Rattle.bd_machine.specs.declared.state.OpenPiece.{OpenPiece}
 use Rattle.bd_machine.specs.BlockMap.{is_aio, size_of}
 use Rattle.bd_machine.specs.Kept.{as_piece}
 use Rattle.bd_machine.specs.Same.{same_dev}
-use Rattle.bd_merged.specs.Journals.{events}
+use Rattle.bd_law_logs.specs.Journals.{events}
 use Rattle.bd_outside.specs.Disk.{DiskState}
-use Rattle.bd_served.specs.Served.{served_if, served_over, ServedPiece}
-use Rattle.bd_served.proofs.Over.{over_serves_on, own_serves_none}
-use Rattle.bd_storage.specs.Contents.{contents_of}
-use Rattle.bd_storage.specs.Served.{served_of, AreDoneBy, DidPiecesIf, WentAloneWithDisks, WentWithDisks}
+use Rattle.bd_law_served.specs.Served.{served_if, served_over, ServedPiece}
+use Rattle.bd_law_served.proofs.Over.{over_serves_on, own_serves_none}
+use Rattle.bd_disks.specs.Contents.{contents_of}
+use Rattle.bd_disks.specs.Done.{AreDoneBy, DidPiecesIf}
+use Rattle.bd_storage.specs.Served.{served_of, WentAloneWithDisks, WentWithDisks}
 use Rattle.bd_storage.proofs.Contents.{one_over}
-use Rattle.bd_storage.proofs.Served.{did_none, done_none, done_same, done_then, one_done, piece_is_on}
+use Rattle.bd_disks.proofs.Done.{did_none, done_none, done_then, done_same}
+use Rattle.bd_storage.proofs.Served.{one_done, piece_is_on}
 use Rattle.bd_thread.specs.declared.links.Links.{Links}
 use Rattle.bd_thread.specs.declared.thread.Thread.{Thread}
 use Rattle.bd_thread.specs.Acted.{is_own, Acted, AreOf}
@@ -35,7 +37,7 @@ use Rattle.bd_thread.specs.Seen.{block_size, local, number_of, setup_of}
 use Rattle.bd_thread.specs.Work.{ActedAlone, AsksNothing}
 use Rattle.bd_thread.proofs.Alone.{alone_then}
 use Rattle.bd_thread.proofs.Over.{acted_over, over_none, over_then}
-use Rattle.bd_told.specs.Told.{is_on_disk}
+use Rattle.bd_law_disks.specs.Told.{is_on_disk}
 use Rattle.bd_tokens.specs.Tokens.{here_in}
 
 -- ---- what a thread did by itself

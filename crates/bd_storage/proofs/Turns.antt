@@ -11,7 +11,7 @@ use Rattle.bd_machine.specs.declared.state.Id.TheVariants as ids
 use Rattle.bd_machine.specs.declared.state.OpenPiece.{OpenPiece}
 use Rattle.bd_machine.specs.Kept.{as_piece}
 use Rattle.bd_outside.specs.Disk.{DiskState}
-use Rattle.bd_storage.specs.Contents.{contents_of}
+use Rattle.bd_disks.specs.Contents.{contents_of}
 use Rattle.bd_storage.specs.Served.{WentWithDisks}
 use Rattle.bd_storage.specs.Serving.{moment, AreServed, Moment, NoService, NoServiceBelow, NoServiceOn, Serves, ServesIf, Still}
 use Rattle.bd_thread.specs.declared.links.Links.{Links}

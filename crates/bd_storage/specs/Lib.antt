@@ -1,3 +1,2 @@
-pub mod Contents
 pub mod Served
 pub mod Serving

@@ -13,7 +13,7 @@ use std::marker::Model;
 
 /// Rows in the order in which they came, and a line for each of the first devices. Each line has room for
 /// as many rows as there may be, so that a row comes and goes without memory.
-#[derive(Debug, Drop)]
+#[derive(Drop)]
 pub struct Board {
     alloc: Global,
     shelf: Shelf,

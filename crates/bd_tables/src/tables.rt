@@ -16,7 +16,7 @@ use std::marker::Model;
 /// The open requests that a thread keeps, each at its place. A place is the list of its requests in
 /// the order in which they came there. Of each device it is kept beside this who waits over it, and how
 /// many requests of each thread hold up a drain of it.
-#[derive(Debug, Drop)]
+#[derive(Drop)]
 pub struct Tables {
     board: Board,
 }

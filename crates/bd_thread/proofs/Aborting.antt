@@ -15,7 +15,7 @@ use Rattle.bd_machine.specs.declared.state.Registry.{Registry}
 use Rattle.bd_machine.specs.Aborts.{aborted, guards_abort, stopped}
 use Rattle.bd_machine.specs.Alone.{held_after}
 use Rattle.bd_machine.specs.Kept.{as_request, edited, request_here}
-use Rattle.bd_machine.specs.Limits.{departed, next_limited}
+use Rattle.bd_machine.specs.Limits.{departed, waits_at}
 use Rattle.bd_machine.specs.Same.{same_id}
 use Rattle.bd_machine.specs.Step.{first_failing}
 use Rattle.bd_turns.specs.declared.queue.Message.{Message}
@@ -90,8 +90,8 @@ pub aborted_tickets : (old : Thread) (before : Links) (new : Thread) (after : Li
     → KeepsTickets new
 aborted_tickets old before new after req cause r is keeps =
     same_tickets old new (ap (λ (t : Thread). t.purse.ids) is.thread)
-    (ap (λ (t : Thread). t.part.requests) is.thread ∙ departed_requests old.part req (next_limited old.setup.now r))
-    (ap (λ (t : Thread). t.part.next_request) is.thread ∙ departed_next old.part req (next_limited old.setup.now r)) keeps
+    (ap (λ (t : Thread). t.part.requests) is.thread ∙ departed_requests old.part req (waits_at old.setup.now r))
+    (ap (λ (t : Thread). t.part.next_request) is.thread ∙ departed_next old.part req (waits_at old.setup.now r)) keeps
 
 -- where it may not be aborted, nothing changes
 pub stays_open : (old : Thread) (before : Links) (req : ReqId) (cause : AbortCause) → abort_due old before req cause ≡ None → Aborts req cause old before old before false

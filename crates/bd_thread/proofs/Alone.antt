@@ -32,12 +32,12 @@ use Rattle.bd_machine.specs.Homes.{is_base}
 use Rattle.bd_machine.specs.Kept.{as_piece, request_here}
 use Rattle.bd_tokens.specs.Tokens.{here_in}
 use Rattle.bd_machine.specs.Messages.{count_at}
-use Rattle.bd_merged.specs.Journals.{events, is_event}
+use Rattle.bd_law_logs.specs.Journals.{events, is_event}
 use Rattle.bd_turns.specs.declared.queue.Message.{Message}
-use Rattle.bd_view.specs.declared.names.Submission.{Submission}
-use Rattle.bd_due.specs.declared.completion.Ending.{Ending}
-use Rattle.bd_due.specs.Completions.{ending_of}
-use Rattle.bd_due.specs.Sending.{first_brought}
+use Rattle.bd_rule_view.specs.declared.names.Submission.{Submission}
+use Rattle.bd_steps.specs.declared.completion.Ending.{Ending}
+use Rattle.bd_steps.specs.Completions.{ending_of}
+use Rattle.bd_steps.specs.Sending.{first_brought}
 use Rattle.bd_links.specs.Entries.{entry_at, longer}
 use Rattle.bd_links.specs.Queues.{queues_of}
 use Rattle.bd_thread.specs.declared.links.Links.{Links}
@@ -48,6 +48,7 @@ use Rattle.bd_thread.specs.Completions.{CompletesBy, MayComplete}
 use Rattle.bd_thread.specs.Cuts.{may_cut_now, Cuts, CutsBy}
 use Rattle.bd_thread.specs.Destructs.{may_device_go, DestructAdded, Destructs}
 use Rattle.bd_thread.specs.Lines.{outcome_now, EndsBy, EndsLine}
+use Rattle.bd_thread.specs.Delays.{hold_due, HoldsOrCompletes, HoldsOrCompletesBy}
 use Rattle.bd_thread.specs.Moves.{Comes, ComesAs, ComesOwn, ComesPiece}
 use Rattle.bd_thread.specs.Refusals.{refusal_now, SendsBack, SendsBackBy}
 use Rattle.bd_thread.specs.Requests.{accept_act, refuse_act, IsAccepted, IsRefused}
@@ -89,7 +90,7 @@ alone_one me a c act still registry added =
       none_asks = ap (λ b. cond b (e ∷ []) []) still;
     }
 
-alone_by : (me : ℕ) (a c : Links) (act : Act) → is_event (entry_at me (length a.entries + 1) act) ≡ false → c ≡ record a { entries = longer me a.entries act } → AsksNothing a c
+pub alone_by : (me : ℕ) (a c : Links) (act : Act) → is_event (entry_at me (length a.entries + 1) act) ≡ false → c ≡ record a { entries = longer me a.entries act } → AsksNothing a c
 alone_by me a c act still is = alone_one me a c act still (ap (λ (l : Links). l.registry) is) (ap (λ (l : Links). l.entries) is)
 
 -- how a thread went on, and that it asked for nothing
@@ -177,13 +178,20 @@ sends_back_alone dev o a n c done h = go (refusal_now dev o a) h
     go None k = alone_same a c k.2
     go (Some q) k = alone_by o.me a c (acts.NoMem q.0 q.1 dev) refl k.1.links
 
+pub carried_alone : (req : ReqId) (o : Thread) (a : Links) (n : Thread) (c : Links) → HoldsOrCompletes req o a n c → AsksNothing a c
+carried_alone req o a n c h = go (hold_due o a req) h
+  where
+    go : (due : Option (OpenRequest × ℕ)) → HoldsOrCompletesBy req o a n c due → AsksNothing a c
+    go None k = completes_alone req o a n c k
+    go (Some due) k = alone_by o.me a c (acts.Hold req due.1) refl k.links
+
 -- what a piece that came brings about
 came_alone : (req : ReqId) (k : ℕ) (o : Thread) (a : Links) (n : Thread) (c : Links) (p : Option OpenPiece) → ComesPiece p req k o a n c → AsksNothing a c
 came_alone req k o a n c None h = alone_same a c h.1
 came_alone req k o a n c (Some p) h = by_progress p.progress h
   where
     own : (b : Bool) → ComesOwn b req k o a n c → AsksNothing a c
-    own true h = completes_alone req h.middle a n c h.completes
+    own true h = carried_alone req h.middle a n c h.carried
     own false h = alone_same a c h.1
 
     by_progress : (progress : Progress) → ComesAs progress p.base req k o a n c → AsksNothing a c

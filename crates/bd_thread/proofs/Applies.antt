@@ -28,7 +28,7 @@ use Rattle.bd_turns.specs.Local.{Local, carried_local}
 use Rattle.bd_turns.specs.declared.queue.Message.{Message}
 use Rattle.bd_links.specs.Entries.{entry_at}
 use Rattle.bd_thread.specs.Seen.{local_at, untaken}
-use Rattle.bd_due.specs.Serving.{may_hold}
+use Rattle.bd_steps.specs.Serving.{may_hold}
 use Rattle.bd_thread.proofs.Going.{Steps, steps, still_shut}
 
 -- a base that can serve a piece is the piece's own

@@ -20,9 +20,9 @@ use Rattle.bd_turns.specs.declared.queue.Message.{Message}
 use Rattle.bd_turns.specs.Local.{Local}
 use Rattle.bd_links.specs.Queues.{queues_of}
 use Rattle.bd_tokens.specs.Tokens.{here_in}
-use Rattle.bd_due.specs.declared.completion.Ending.{Ending}
-use Rattle.bd_due.specs.Completions.{ended, ending_of, Shows}
-use Rattle.bd_due.proofs.Completing.{ends_now, gone_closed, Ends}
+use Rattle.bd_steps.specs.declared.completion.Ending.{Ending}
+use Rattle.bd_steps.specs.Completions.{ended, ending_of, Shows}
+use Rattle.bd_steps.proofs.Completing.{ends_now, gone_closed, Ends}
 use Rattle.bd_thread.specs.declared.links.Links.{Links}
 use Rattle.bd_thread.specs.declared.thread.Thread.{Thread}
 use Rattle.bd_thread.specs.Acted.{Acted}

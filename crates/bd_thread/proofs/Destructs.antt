@@ -18,7 +18,7 @@ use Rattle.bd_machine.specs.declared.state.Part.{Part}
 use Rattle.bd_machine.specs.declared.state.Registry.{Registry}
 use Rattle.bd_machine.specs.BlockMap.{is_malloc}
 use Rattle.bd_machine.specs.Homes.{change_destruct, is_base, is_digest_at, may_destruct}
-use Rattle.bd_view.specs.Came.{came_free}
+use Rattle.bd_rule_view.specs.Came.{came_free}
 use Rattle.bd_turns.specs.Local.{Local}
 use Rattle.bd_turns.specs.declared.queue.Message.{Message}
 use Rattle.bd_thread.specs.Seen.{local_at, untaken}

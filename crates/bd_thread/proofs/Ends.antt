@@ -1,5 +1,5 @@
 -- The end of a line, by the local rules.
-use Rattle.std.proofs.Common.{◌≡◌, ℕ, ◌+◌, Bool, true, false, not, ◌&&◌, ◌==◌, List, cond, Option, Some, None, refl, sym, ◌∙◌, ap, ap₂, subst, eq-eqb}
+use Rattle.std.proofs.Common.{◌≡◌, ℕ, ◌+◌, Bool, true, false, not, ◌&&◌, ◌||◌, ◌==◌, List, cond, Option, Some, None, refl, sym, ◌∙◌, ap, ap₂, subst, eq-eqb}
 use Rattle.std.specs.Option.{option_map, option_and_then}
 use Rattle.std.proofs.lemmas.Bool.{and_from}
 use Rattle.bd_base.specs.Errno.{number_of}
@@ -16,11 +16,13 @@ use Rattle.bd_machine.specs.declared.state.Registry.{Registry}
 use Rattle.bd_machine.specs.Asked.{next_line, outcome_by, outcome_due, job_of}
 use Rattle.bd_machine.specs.Same.{same_outcome, is_the}
 use Rattle.bd_machine.specs.Scripts.{change_job, is_line}
-use Rattle.bd_changes.specs.Lone.{lone}
+use Rattle.bd_rule_effects.specs.Lone.{lone}
 use Rattle.bd_turns.specs.declared.queue.Message.{Message}
 use Rattle.bd_turns.specs.Local.{Local}
 use Rattle.bd_thread.specs.declared.links.Links.{Links}
 use Rattle.bd_thread.specs.declared.thread.Thread.{Thread}
+use Rattle.bd_moment.specs.Time.{is_asleep as is_job_asleep}
+use Rattle.bd_thread.specs.Asleep.{is_line_asleep}
 use Rattle.bd_thread.specs.Lines.{EndsBy, EndsLine, IsEnded}
 use Rattle.bd_thread.specs.Seen.{local_at, untaken, view_of}
 use Rattle.bd_thread.proofs.Going.{Steps, steps, still_shut}
@@ -52,14 +54,15 @@ module _ (setup : Setup) (me : ℕ) (part : Part) (here : Id → Option Kept) (r
       )
       (ap₂ after (still_shut shut) next)
 
--- where the next line has an outcome, it ended so
+-- where the next line has an outcome and doesn't sleep, it ended so
 pub ended_by : (t : Thread) (before : Links) (new : Thread) (after : Links) (line : Line) (outcome : Outcome)
     → before.shut ≡ false
     → next_line t.setup.now t.me t.part ≡ Some line
+    → is_job_asleep t.time line.job ≡ false
     → outcome_by (view_of t before) t.part.decided line.job ≡ Some outcome
     → IsEnded outcome t before new after
     → EndsLine t before new after true
-ended_by t before new after line outcome unshut next due ended =
+ended_by t before new after line outcome unshut next awake due ended =
     subst (EndsBy t before new after true)
-    (sym (ap (λ b. cond b None (outcome_due t.setup.now t.me (view_of t before))) unshut ∙ ap (option_and_then (λ (l : Line). outcome_by (view_of t before) t.part.decided l.job)) next ∙ due))
+    (sym (ap₂ (λ a b. cond (a || b) None (outcome_due t.setup.now t.me (view_of t before))) unshut (ap (is_line_asleep t.time) next ∙ awake) ∙ ap (option_and_then (λ (l : Line). outcome_by (view_of t before) t.part.decided l.job)) next ∙ due))
     (refl, ended)

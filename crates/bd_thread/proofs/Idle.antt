@@ -27,22 +27,22 @@ use Rattle.bd_machine.specs.Requests.{may_cut}
 use Rattle.bd_turns.specs.declared.queue.Message.{Message}
 use Rattle.bd_links.specs.Entries.{longer}
 use Rattle.bd_links.specs.Queues.{queues_of}
-use Rattle.bd_due.specs.declared.completion.Ending.{Ending}
+use Rattle.bd_steps.specs.declared.completion.Ending.{Ending}
 use Rattle.bd_thread.specs.declared.links.Links.{Links}
 use Rattle.bd_thread.specs.declared.thread.Thread.{Thread}
 use Rattle.bd_thread.specs.Aborts.{abort_due, Stops, StopsBy, StopsEach}
 use Rattle.bd_thread.specs.Acted.{Acted, ActedBy}
-use Rattle.bd_due.specs.Completions.{ending_of}
+use Rattle.bd_steps.specs.Completions.{ending_of}
 use Rattle.bd_thread.specs.Completions.{Completes, CompletesBy, MayComplete}
 use Rattle.bd_thread.specs.Cuts.{may_cut_now, Cuts, CutsBy}
 use Rattle.bd_blocks.specs.Digests.{digest_due}
 use Rattle.bd_thread.specs.Destructs.{may_device_go, DestructAdded, Destructs}
 use Rattle.bd_thread.specs.Duties.{duty_asked, Discharges, NoDuty}
 use Rattle.bd_thread.specs.Endings.{left_on, removal_due, ClosesLeft, RemovesLeft}
-use Rattle.bd_due.specs.Following.{close_due, get_due}
+use Rattle.bd_steps.specs.Following.{close_due, get_due}
 use Rattle.bd_thread.specs.Lines.{claim_asked, close_asked, open_asked, outcome_now, remove_asked, AsksBy, Claims, Closes, ClosesBy, EndsBy, EndsLine, Follows, IsFollowed, Opens, OpensBy, Removes}
 use Rattle.bd_thread.specs.Seen.{view_of}
-use Rattle.bd_due.specs.Sending.{first_brought}
+use Rattle.bd_steps.specs.Sending.{first_brought}
 use Rattle.bd_thread.specs.Sent.{may_put, Puts, PutsBy, Takes, TakesBy}
 use Rattle.bd_thread.specs.Walking.{StopsFor}
 use Rattle.bd_thread.specs.Waits.{Idles, IsIdle, NoDestructOn, NoHandleOn, NoLine, NoMessage, NoRemovalOn, NoSubmission}
@@ -154,7 +154,7 @@ same_grows before after same = omega (arith, ap (λ (l : Links). length l.entrie
 longer_grows : (me : ℕ) (before after : Links) (act : Act) → after ≡ record before { entries = longer me before.entries act } → length before.entries ≤ length after.entries
 longer_grows me before after act is = omega (arith, ap (λ (l : Links). length l.entries) is, length-longer me before.entries act)
 
-may_grow : (req : ReqId) (old : Thread) (before : Links) (new : Thread) (after : Links) → MayComplete req old before new after → length before.entries ≤ length after.entries
+pub may_grow : (req : ReqId) (old : Thread) (before : Links) (new : Thread) (after : Links) → MayComplete req old before new after → length before.entries ≤ length after.entries
 may_grow req old before new after h = go (ending_of old.setup.now old.me (view_of old before) req) h.completes
   where
     go : (o : Option Ending) → CompletesBy req old before new after h.done o → length before.entries ≤ length after.entries

@@ -15,10 +15,10 @@ use Rattle.bd_machine.specs.Homes.{has_destructed, is_base, is_called_for, is_ho
 use Rattle.bd_machine.specs.Registry.{is_live, is_on}
 use Rattle.bd_machine.specs.Same.{same_handle, same_owed}
 use Rattle.bd_machine.specs.View.{View}
-use Rattle.bd_view.specs.Came.{came_free}
+use Rattle.bd_rule_view.specs.Came.{came_free}
 use Rattle.bd_thread.specs.declared.links.Links.{Links}
 use Rattle.bd_thread.specs.declared.thread.Thread.{Thread}
-use Rattle.bd_due.specs.Duties.{removal_of}
+use Rattle.bd_steps.specs.Duties.{removal_of}
 use Rattle.bd_thread.specs.Endings.{is_left, left_on, owes_nothing}
 use Rattle.bd_thread.specs.Lines.{if_asked, may_close}
 use Rattle.bd_thread.specs.Seen.{view_of}

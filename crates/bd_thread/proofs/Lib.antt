@@ -1,4 +1,5 @@
 pub mod Completing
+pub mod Delaying
 pub mod Cutting
 pub mod Submissions
 pub mod Tickets

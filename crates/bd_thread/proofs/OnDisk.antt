@@ -27,13 +27,13 @@ use Rattle.bd_machine.specs.Table.{change_first}
 use Rattle.bd_machine.specs.View.{Change}
 use Rattle.bd_turns.specs.declared.queue.Message.{Message}
 use Rattle.bd_turns.specs.Local.{Local, carried_local}
-use Rattle.bd_told.specs.Over.{change_over, contents_over, contents_then, local_over}
-use Rattle.bd_told.specs.Told.{contents_after}
+use Rattle.bd_law_disks.specs.Over.{change_over, contents_over, contents_then, local_over}
+use Rattle.bd_law_disks.specs.Told.{contents_after}
 use Rattle.bd_home.specs.Serving.{served_as}
 use Rattle.bd_links.specs.Entries.{entry_at, longer}
 use Rattle.bd_links.specs.Queues.{queues_of}
 use Rattle.bd_tokens.specs.Tokens.{here_in}
-use Rattle.bd_due.specs.Serving.{may_hold}
+use Rattle.bd_steps.specs.Serving.{may_hold}
 use Rattle.bd_thread.specs.declared.links.Links.{Links}
 use Rattle.bd_thread.specs.declared.thread.Thread.{Thread}
 use Rattle.bd_thread.specs.Disks.{disk_due, piece_on_disk, NoPieceOnDisk}

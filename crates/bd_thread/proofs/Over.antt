@@ -9,10 +9,10 @@ use Rattle.bd_base.specs.declared.id.DevId.{DevId}
 use Rattle.bd_base.specs.declared.setup.Setup.{Setup}
 use Rattle.bd_machine.specs.declared.state.Content.{Content}
 use Rattle.bd_machine.specs.BlockMap.{is_aio}
-use Rattle.bd_merged.specs.Journals.{events}
-use Rattle.bd_told.specs.Over.{LeadsOver}
-use Rattle.bd_told.specs.Told.{is_on_disk}
-use Rattle.bd_told.proofs.Over.{over_goes_on, own_is_over}
+use Rattle.bd_law_logs.specs.Journals.{events}
+use Rattle.bd_law_disks.specs.Over.{LeadsOver}
+use Rattle.bd_law_disks.specs.Told.{is_on_disk}
+use Rattle.bd_law_disks.proofs.Over.{over_goes_on, own_is_over}
 use Rattle.bd_thread.specs.declared.links.Links.{Links}
 use Rattle.bd_thread.specs.declared.thread.Thread.{Thread}
 use Rattle.bd_thread.specs.Acted.{is_own, Acted, AreOf}

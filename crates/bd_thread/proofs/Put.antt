@@ -1,5 +1,5 @@
 -- **Put.** A thread puts a token last in the queue to a thread.
-use Rattle.std.proofs.Common.{◌≡◌, ℕ, ◌+◌, Bool, true, cond, not, ◌&&◌, ◌||◌, ◌==◌, List, [], ◌∷◌, ◌++◌, Option, Some, None, is_some, nat_lt, vec_len, refl, sym, ◌∙◌, ap, eq-eqb}
+use Rattle.std.proofs.Common.{◌≡◌, ℕ, ◌+◌, Bool, true, cond, ◌&&◌, ◌==◌, List, [], ◌∷◌, ◌++◌, Option, Some, None, is_some, nat_lt, vec_len, refl, sym, ◌∙◌, ap, eq-eqb}
 use Rattle.std.specs.Option.{option_map}
 use Rattle.std.proofs.lemmas.Bool.{and_parts}
 use Rattle.std.proofs.lemmas.Option.{same_Some}
@@ -19,8 +19,7 @@ use Rattle.bd_machine.specs.declared.state.OpenWalk.{OpenWalk}
 use Rattle.bd_machine.specs.declared.state.Part.{Part}
 use Rattle.bd_machine.specs.declared.state.Registry.{Registry}
 use Rattle.bd_machine.specs.Alone.{held_after}
-use Rattle.bd_machine.specs.AsYet.{as_yet}
-use Rattle.bd_machine.specs.Guards.{is_built_token}
+use Rattle.bd_steps.specs.Served.{is_served_token}
 use Rattle.bd_machine.specs.Kept.{as_piece, as_request, as_walk}
 use Rattle.bd_machine.specs.Messages.{count_at, due_after, is_token_here, may_go, may_piece_here_go, may_request_here_go, may_walk_go, moves_put, news_of, sent, token_put}
 use Rattle.bd_machine.specs.Same.{same_id}
@@ -31,7 +30,7 @@ use Rattle.bd_turns.specs.Local.{Local, sent_by}
 use Rattle.bd_thread.specs.declared.links.Links.{Links}
 use Rattle.bd_thread.specs.declared.thread.Thread.{Thread}
 use Rattle.bd_thread.specs.Seen.{local, local_at, untaken}
-use Rattle.bd_due.specs.Sending.{kept_on_way}
+use Rattle.bd_steps.specs.Sending.{kept_on_way}
 use Rattle.bd_thread.specs.Sent.{may_put}
 use Rattle.bd_thread.proofs.Going.{Steps, steps, local_eq, still_shut}
 
@@ -116,7 +115,7 @@ put_moves t v to number (tokens.Device dev) kept h = news_moves t to number kept
 
 pub put_steps : (setup : Setup) (t : ℕ) (p new : Part) (here here' : Id → Option Kept) (registry : Registry) (shut : Bool) (stamp : ℕ) (queues queues' : ℕ → List Message) (to number : ℕ) (what : Token) (kept : Kept)
     → number ≡ count_at p.put to
-    → is_built_token what ≡ true
+    → is_served_token what ≡ true
     → may_go setup t (local_at t p here registry shut stamp queues).view to what ≡ true
     → kept_on_way what (here (id_of t to number what)) ≡ Some kept
     → new ≡ record p { put = write ◌==◌ p.put to (number + 1); due = due_after to (news_of what) p.due }
@@ -127,7 +126,7 @@ put_steps setup t p new here here' registry shut stamp queues queues' to number 
     let l : Local = local_at t p here registry shut stamp queues in
     let l' : Local = local_at t (untaken new) here' registry shut (stamp + 1) queues' in
     let moves : moves_put t l.view to number what ≡ away (id_of t to number what) kept to number = put_moves t l.view to number what kept goes in
-    steps setup t l l' (acts.Put to number what) refl (ap (λ b. not as_yet || b) built)
+    steps setup t l l' (acts.Put to number what) refl refl
     (eq-eqb number (count_at p.put to) next, (sent_here setup t l.view to what may, (may, tt)))
     (local_eq _ l'
     (ap untaken (sym part))
@@ -136,8 +135,8 @@ put_steps setup t p new here here' registry shut stamp queues queues' to number 
     (ap (λ (ms : List Move). λ r. cond (r == to) (queues r ++ sent_by t what ms) (queues r)) moves ∙ sym queued))
 
 -- there is a queue, the token is built, and it may go there
-pub may_parts : (t : Thread) (links : Links) (to : ℕ) (what : Token) → may_put t links to what ≡ true → (nat_lt to (vec_len links.queues) ≡ true) × (is_built_token what ≡ true) × (may_go t.setup.now t.me (local t links).view to what ≡ true)
+pub may_parts : (t : Thread) (links : Links) (to : ℕ) (what : Token) → may_put t links to what ≡ true → (nat_lt to (vec_len links.queues) ≡ true) × (is_served_token what ≡ true) × (may_go t.setup.now t.me (local t links).view to what ≡ true)
 may_parts t links to what h =
-    let most = and_parts (nat_lt to (vec_len links.queues) && is_built_token what) (may_go t.setup.now t.me (local t links).view to what) h in
-    let first = and_parts (nat_lt to (vec_len links.queues)) (is_built_token what) most.0 in
+    let most = and_parts (nat_lt to (vec_len links.queues) && is_served_token what) (may_go t.setup.now t.me (local t links).view to what) h in
+    let first = and_parts (nat_lt to (vec_len links.queues)) (is_served_token what) most.0 in
     (first.0, first.1, most.1)

@@ -15,10 +15,10 @@ use Rattle.bd_machine.specs.Homes.{base_here, is_base, without_last}
 use Rattle.bd_machine.specs.Table.{change_first}
 use Rattle.bd_machine.specs.View.{View}
 use Rattle.bd_home.specs.Serving.{last_at}
-use Rattle.bd_rules.specs.Homes.{may_refuse}
+use Rattle.bd_rule_requests.specs.Homes.{may_refuse}
 use Rattle.bd_turns.specs.declared.queue.Message.{Message}
 use Rattle.bd_turns.specs.Local.{Local}
-use Rattle.bd_due.specs.Refusing.{here_refused, if_refused, refusal_due}
+use Rattle.bd_steps.specs.Refusing.{here_refused, if_refused, refusal_due}
 use Rattle.bd_links.specs.Queues.{queues_of}
 use Rattle.bd_tokens.specs.Tokens.{here_in}
 use Rattle.bd_thread.specs.declared.links.Links.{Links}

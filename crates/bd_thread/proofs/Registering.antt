@@ -35,12 +35,13 @@ use Rattle.bd_machine.specs.Alone.{held_after}
 use Rattle.bd_machine.specs.Asked.{asks_between, asks_event, bound_to}
 use Rattle.bd_machine.specs.Changes.{between_after, registry_after}
 use Rattle.bd_machine.specs.Events.{change_reg}
-use Rattle.bd_machine.specs.Guards.{is_built_event, taken_injection}
+use Rattle.bd_machine.specs.Guards.{taken_injection}
+use Rattle.bd_steps.specs.Served.{is_served_event}
 use Rattle.bd_machine.specs.Registry.{answer_to}
 use Rattle.bd_machine.specs.Same.{same_answer, same_dev, same_dropped, same_decision, same_holder, same_if_any, same_next_reset}
 use Rattle.bd_machine.specs.View.{Came, Change, Move, View}
 use Rattle.bd_machine.proofs.Parts.{Core, reg_grows}
-use Rattle.bd_view.specs.Came.{came_between, came_shut}
+use Rattle.bd_rule_view.specs.Came.{came_between, came_shut}
 use Rattle.bd_turns.specs.declared.queue.Message.{Message}
 use Rattle.bd_turns.specs.Local.{Local, came_local}
 use Rattle.bd_links.specs.Entries.{longer}
@@ -49,7 +50,7 @@ use Rattle.bd_tokens.specs.Tokens.{here_in}
 use Rattle.bd_thread.specs.declared.links.Links.{Links}
 use Rattle.bd_thread.specs.declared.thread.Thread.{Thread}
 use Rattle.bd_thread.specs.Acted.{Acted}
-use Rattle.bd_due.specs.Following.{close_due, get_due}
+use Rattle.bd_steps.specs.Following.{close_due, get_due}
 use Rattle.bd_thread.specs.Lines.{answered, asked_registry, change_by, claim_if_bound, claim_of, close_asked, close_of, handle_if_any, if_asked, if_closable, job_now, may_ask, may_ask_after, may_close, open_of, remove_of, AsksBy, IsAnswered, IsFollowed, OpensBy}
 use Rattle.bd_thread.specs.Requests.{KeepsTickets}
 use Rattle.bd_thread.specs.Seen.{local, local_at, untaken, view_of}
@@ -138,7 +139,7 @@ module _ (setup : Setup) (me : ℕ) where
       sym (asked_between l.view l.shared.registry l.shared.shut (Some (answer_to setup l.shared.registry me event)) event l.shared.registry.between) ∙ asks
 
   -- it takes no injection
-  untaken_by : (event : RegEvent) (answer : Answer) → is_built_event event ≡ true → taken_injection (acts.Reg event answer) ≡ None
+  untaken_by : (event : RegEvent) (answer : Answer) → is_served_event event ≡ true → taken_injection (acts.Reg event answer) ≡ None
   untaken_by (events.Open name write) answer built = refl
   untaken_by (events.Close id) answer built = refl
   untaken_by (events.Claim id kind) answer built = refl
@@ -150,7 +151,7 @@ module _ (setup : Setup) (me : ℕ) where
   untaken_by _ answer built = not_built built
 
   -- of what came, what it changes goes by the Shutdown alone
-  change_by_shut : (v : View) (came : Came) (event : RegEvent) (answer : Answer) → is_built_event event ≡ true
+  change_by_shut : (v : View) (came : Came) (event : RegEvent) (answer : Answer) → is_served_event event ≡ true
       → change_reg setup me v came event answer ≡ change_reg setup me v (came_shut came.shut) event answer
   change_by_shut v came (events.Open name write) answer built = refl
   change_by_shut v came (events.Close id) answer built = refl
@@ -168,7 +169,7 @@ module _ (setup : Setup) (me : ℕ) (part : Part) (here : Id → Option Kept) (r
 
   -- an event with the registry's answer, where it is asked
   pub event_steps : (event : RegEvent) (answer : Answer) (here' : Id → Option Kept)
-      → is_built_event event ≡ true
+      → is_served_event event ≡ true
       → answer_to setup registry me event ≡ answer
       → asks_event setup me old.view (came_between registry.between shut) event ≡ true
       → here' ≡ held_after (change_reg setup me old.view (came_shut shut) event answer).moves here
@@ -179,7 +180,7 @@ module _ (setup : Setup) (me : ℕ) (part : Part) (here : Id → Option Kept) (r
       let same : change_reg setup me old.view came event answer ≡ change_reg setup me old.view (came_shut shut) event answer = change_by_shut setup me old.view came event answer built in
       steps setup me old
       (local_at me (untaken (change_reg setup me old.view (came_shut shut) event answer).part) here' (registry_after setup registry me (Some (record { event = event; answer = answer }))) shut (stamp + 1) queues)
-      (acts.Reg event answer) refl built
+      (acts.Reg event answer) refl refl
       (ap (λ (a : Answer). same_answer answer a) given ∙ answer_self answer, (asked_local setup me old event answer asks, tt))
       (local_eq _ _
       (ap (λ o. let p : Part = record (change_reg setup me old.view came event answer).part { injection = o } in p) (untaken_by setup me event answer built) ∙ ap (λ (c : Change). untaken c.part) same)
@@ -190,7 +191,7 @@ module _ (setup : Setup) (me : ℕ) (part : Part) (here : Id → Option Kept) (r
 
 -- the thread that asked goes on
 pub asked_acted : (t : Thread) (before : Links) (new : Thread) (after : Links) (event : RegEvent)
-    → is_built_event event ≡ true
+    → is_served_event event ≡ true
     → may_ask t before event ≡ true
     → IsAnswered event t before new after
     → Acted t before new after
@@ -270,12 +271,12 @@ claim_named part handle kind id shut o unshut line bound = ap (λ b. claim_of pa
 -- ---- what has to follow
 
 -- a channel that has to follow an open may be asked for
-pub get_built : (me : ℕ) (between : Option Between) → IfSome (get_due me between) (λ event. is_built_event event ≡ true)
+pub get_built : (me : ℕ) (between : Option Between) → IfSome (get_due me between) (λ event. is_served_event event ≡ true)
 get_built me None = tt
 get_built me (Some (Closing u dev)) = tt
 get_built me (Some (Opening u dev)) = go (u == me)
   where
-    go : (b : Bool) → IfSome (cond b (Some (events.GetChannel dev)) None) (λ event. is_built_event event ≡ true)
+    go : (b : Bool) → IfSome (cond b (Some (events.GetChannel dev)) None) (λ event. is_served_event event ≡ true)
     go true = refl
     go false = tt
 
@@ -292,12 +293,12 @@ get_asked t links = go links.registry.state.between
         mine false e = tt
 
 -- a close that has to follow a put may be asked for, where it might after the put
-pub close_built : (id : HandleId) (me : ℕ) (between : Option Between) → IfSome (close_due id me between) (λ event. is_built_event event ≡ true)
+pub close_built : (id : HandleId) (me : ℕ) (between : Option Between) → IfSome (close_due id me between) (λ event. is_served_event event ≡ true)
 close_built id me None = tt
 close_built id me (Some (Opening u dev)) = tt
 close_built id me (Some (Closing u dev)) = go (u == me)
   where
-    go : (b : Bool) → IfSome (cond b (Some (events.Close id)) None) (λ event. is_built_event event ≡ true)
+    go : (b : Bool) → IfSome (cond b (Some (events.Close id)) None) (λ event. is_served_event event ≡ true)
     go true = refl
     go false = tt
 

@@ -24,7 +24,7 @@ use Rattle.bd_machine.specs.View.{is_of}
 use Rattle.bd_msg.specs.Purse.{Kept as Purse}
 use Rattle.bd_turns.specs.declared.queue.Message.{Message}
 use Rattle.bd_turns.specs.Local.{Local}
-use Rattle.bd_view.specs.declared.names.Submission.{Submission}
+use Rattle.bd_rule_view.specs.declared.names.Submission.{Submission}
 use Rattle.bd_links.specs.Entries.{longer}
 use Rattle.bd_links.specs.Queues.{queues_of}
 use Rattle.bd_tokens.specs.Tokens.{here_in}
@@ -78,7 +78,7 @@ module _ (setup : Setup) (me : ℕ) (part : Part) (here : Id → Option Kept) (r
   accept_steps req dev handle line range admitted on own above room names =
       steps setup me (local_at me part here registry shut stamp queues)
       (local_at me (accepted setup me part req dev handle asked) (λ j. cond (same_id (ids.Request req) j) (Some (opened dev handle asked)) (here j)) registry shut (stamp + 1) queues)
-      (accept_act req dev handle asked) refl range (
+      (accept_act req dev handle asked) refl refl (
         and_from (not shut && is_job_submit part (Some handle) asked.op asked.lba asked.count (undecided_job setup me part)) (is_device_of dev (found handle)) (asks (Some handle) line) (device_of dev (found handle) on),
         (
           ap is_none admitted,
@@ -104,7 +104,7 @@ module _ (setup : Setup) (me : ℕ) (part : Part) (here : Id → Option Kept) (r
   refuse_steps handle errno line range due =
       steps setup me (local_at me part here registry shut stamp queues)
       (local_at me (refused errno part) here registry shut (stamp + 1) queues)
-      (refuse_act handle asked errno) refl range (
+      (refuse_act handle asked errno) refl refl (
         asks handle line,
         (ap (is_the same_errno errno) due ∙ eq-eqb (number_of errno) (number_of errno) refl, tt),
       )

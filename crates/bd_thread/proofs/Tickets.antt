@@ -9,7 +9,7 @@ use Rattle.bd_machine.specs.declared.state.Part.{Part}
 use Rattle.bd_machine.specs.Same.{same_request}
 use Rattle.bd_machine.proofs.Tables.{request_same}
 use Rattle.bd_msg.specs.Purse.{without}
-use Rattle.bd_view.specs.declared.names.Submission.{Submission}
+use Rattle.bd_rule_view.specs.declared.names.Submission.{Submission}
 use Rattle.bd_thread.specs.declared.thread.Thread.{Thread}
 use Rattle.bd_thread.specs.Completions.{completed, without_open}
 use Rattle.bd_thread.specs.Requests.{accepted, ids_of, AreDistinct, IsFresh, KeepsTickets}

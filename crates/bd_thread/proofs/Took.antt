@@ -1,5 +1,5 @@
 -- **Took.** A thread takes the first message of its queue.
-use Rattle.std.proofs.Common.{◌≡◌, ℕ, ◌+◌, Bool, true, false, cond, not, ◌&&◌, ◌||◌, ◌==◌, List, [], ◌∷◌, ◌++◌, drop, Option, Some, None, is_some, refl, sym, ◌∙◌, ap, eq-eqb}
+use Rattle.std.proofs.Common.{◌≡◌, ℕ, ◌+◌, Bool, true, false, cond, ◌&&◌, ◌==◌, List, [], ◌∷◌, ◌++◌, drop, Option, Some, None, is_some, refl, sym, ◌∙◌, ap, eq-eqb}
 use Rattle.std.proofs.lemmas.Bool.{and_from, and_parts}
 use Rattle.bd_base.specs.declared.act.Act.TheVariants as acts
 use Rattle.bd_base.specs.declared.act.Token.{Token}
@@ -13,21 +13,20 @@ use Rattle.bd_machine.specs.declared.state.OpenWalk.{OpenWalk}
 use Rattle.bd_machine.specs.declared.state.Part.{Part}
 use Rattle.bd_machine.specs.declared.state.Registry.{Registry}
 use Rattle.bd_machine.specs.Alone.{held_after, held_by}
-use Rattle.bd_machine.specs.AsYet.{as_yet}
-use Rattle.bd_machine.specs.Guards.{is_built_token}
+use Rattle.bd_steps.specs.Served.{is_served_token}
 use Rattle.bd_machine.specs.Messages.{brings, count_at, taken_by}
 use Rattle.bd_machine.specs.Same.{same_id}
 use Rattle.bd_machine.specs.Table.{write}
 use Rattle.bd_machine.specs.View.{Change, Closed, Here, Move, Taking, id_of}
 use Rattle.bd_machine.proofs.Parts.{Core, taken_grows}
-use Rattle.bd_changes.specs.Begun.{begun, is_of_kind, stays, taken, token_moved}
-use Rattle.bd_changes.proofs.Arriving.{arrives}
+use Rattle.bd_rule_effects.specs.Begun.{begun, is_of_kind, stays, taken, token_moved}
+use Rattle.bd_rule_effects.proofs.Arriving.{arrives}
 use Rattle.bd_tokens.specs.Tokens.{left_of}
 use Rattle.bd_turns.specs.declared.queue.Message.{Message}
 use Rattle.bd_turns.specs.Local.{first_of}
 use Rattle.bd_turns.proofs.Going.{first_comes}
 use Rattle.bd_thread.specs.Seen.{local_at, untaken}
-use Rattle.bd_due.specs.Sending.{first_brought}
+use Rattle.bd_steps.specs.Sending.{first_brought}
 use Rattle.bd_thread.proofs.Going.{Steps, steps, local_eq, still_shut}
 
 module _ (setup : Setup) (t : ℕ) (p : Part) (here : Id → Option Kept) (registry : Registry) (shut : Bool) (stamp : ℕ) (queues : ℕ → List Message) (m : Message) (number : ℕ) where
@@ -37,7 +36,7 @@ module _ (setup : Setup) (t : ℕ) (p : Part) (here : Id → Option Kept) (regis
 
   pub took_steps : (new : Part) (here' : Id → Option Kept) (queues' : ℕ → List Message) (ms : List Message)
       → number ≡ count_at p.taken m.sender
-      → is_built_token m.what && brings m.what (Some m.kept) ≡ true
+      → is_served_token m.what && brings m.what (Some m.kept) ≡ true
       → new ≡ (taking_by (Some m.kept)).part
       → here' ≡ held_after (taking_by (Some m.kept)).moves here
       → queues t ≡ m ∷ ms
@@ -46,9 +45,9 @@ module _ (setup : Setup) (t : ℕ) (p : Part) (here : Id → Option Kept) (regis
   took_steps new here' queues' ms next brought part held first rest =
       let taking : Taking = record { source = m.sender; number = number; what = m.what } in
       let comes : first_of t (queues t) taking ≡ Some m.kept = ap (λ q. first_of t q taking) first ∙ first_comes t number m ms in
-      let may = and_parts (is_built_token m.what) (brings m.what (Some m.kept)) brought in
+      let may = and_parts (is_served_token m.what) (brings m.what (Some m.kept)) brought in
       let l' = local_at t (untaken new) here' registry shut (stamp + 1) queues' in
-      steps setup t (local_at t p here registry shut stamp queues) l' (acts.Took m.sender number m.what) refl (ap (λ b. not as_yet || b) may.0)
+      steps setup t (local_at t p here registry shut stamp queues) l' (acts.Took m.sender number m.what) refl refl
       (and_from (number == count_at p.taken m.sender) (brings m.what (first_of t (queues t) taking)) (eq-eqb number (count_at p.taken m.sender) next) (ap (brings m.what) comes ∙ may.1), tt)
       (local_eq _ l'
       (ap (λ (k : Option Kept). untaken (taking_by k).part) comes ∙ ap untaken (sym part))
@@ -56,8 +55,8 @@ module _ (setup : Setup) (t : ℕ) (p : Part) (here : Id → Option Kept) (regis
       refl refl refl (still_shut shut) refl (sym rest))
 
 -- the first message brings the token that it names, and is one that is built
-pub brought_first : (queue : List Message) (m : Message) (ms : List Message) → is_some (first_brought queue) ≡ true → queue ≡ m ∷ ms → is_built_token m.what && brings m.what (Some m.kept) ≡ true
-brought_first queue m ms h first = go (is_built_token m.what && brings m.what (Some m.kept)) (ap (λ q. is_some (first_brought q)) (sym first) ∙ h)
+pub brought_first : (queue : List Message) (m : Message) (ms : List Message) → is_some (first_brought queue) ≡ true → queue ≡ m ∷ ms → is_served_token m.what && brings m.what (Some m.kept) ≡ true
+brought_first queue m ms h first = go (is_served_token m.what && brings m.what (Some m.kept)) (ap (λ q. is_some (first_brought q)) (sym first) ∙ h)
   where
     go : (b : Bool) → is_some (cond b (Some m) None) ≡ true → b ≡ true
     go true h = refl

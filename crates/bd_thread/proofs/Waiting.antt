@@ -32,23 +32,24 @@ use Rattle.bd_machine.specs.Admission.{has_range, is_gone}
 use Rattle.bd_machine.specs.Asked.{may_close as closes}
 use Rattle.bd_machine.specs.Asked.{bound_to, busy_outcome, claim_outcome, close_outcome, is_handle_on, is_job_claim, is_job_close, is_job_open, is_job_remove, owes_removal, is_open_handle, is_script_blocked, is_waiting_job, is_waiting_line, job_of, most_requests, next_line, open_on, outcome_by, outcome_due, undecided_job, undecided_outcome}
 use Rattle.bd_machine.specs.Claims.{same_kind}
-use Rattle.bd_machine.specs.Guards.{is_built_token}
+use Rattle.bd_steps.specs.Served.{is_served_token}
 use Rattle.bd_machine.specs.Messages.{is_due, is_due_to, may_go}
 use Rattle.bd_machine.specs.Registry.{device_named, handle_of}
 use Rattle.bd_machine.specs.Same.{is_the, same_dev, same_handle, same_news, same_request}
 use Rattle.bd_machine.specs.Users.{is_base_handle}
 use Rattle.bd_machine.specs.View.{View}
 use Rattle.bd_machine.proofs.Tables.{request_same}
-use Rattle.bd_view.specs.Came.{came_between}
+use Rattle.bd_rule_view.specs.Came.{came_between}
 use Rattle.bd_links.specs.Queues.{is_full}
 use Rattle.bd_thread.specs.declared.links.Links.{Links}
 use Rattle.bd_thread.specs.declared.thread.Thread.{Thread}
 use Rattle.bd_thread.specs.declared.turn.Turned.{Turned}
 use Rattle.bd_thread.specs.declared.turn.Turned.TheVariants.{Moved, Quiet}
 use Rattle.bd_thread.specs.Acted.{Acted}
-use Rattle.bd_due.specs.Asking.{is_base_if_any}
-use Rattle.bd_due.specs.Duties.{duty_owed}
-use Rattle.bd_due.specs.Sending.{first_due, token_of}
+use Rattle.bd_thread.specs.Asleep.{is_asleep}
+use Rattle.bd_steps.specs.Asking.{is_base_if_any}
+use Rattle.bd_steps.specs.Duties.{duty_owed}
+use Rattle.bd_steps.specs.Sending.{first_due, token_of}
 use Rattle.bd_thread.specs.Duties.{NoDuty}
 use Rattle.bd_thread.specs.Lines.{claim_if_bound, claim_of, close_of, handle_if_any, if_asked, if_closable, may_ask, may_ask_after, may_close, open_of, remove_of}
 use Rattle.bd_thread.specs.Moves.{turned_of}
@@ -298,19 +299,24 @@ module _ (t : Thread) (links : Links) where
   next_waits (Some line) is o c k r s e = decided_waits line t.part.decided is refl o c k r s e
 
   pub line_waits : NoLine t links → is_line_waiting t links ≡ true
-  line_waits h = go links.shut links.registry.state.between h.opening h.closing h.claiming h.removing h.submission h.outcome
+  line_waits h = go links.shut links.registry.state.between (is_asleep t) h.opening h.closing h.claiming h.removing h.submission h.outcome
     where
-      go : (shut : Bool) (between : Option Between)
+      or_true : (b : Bool) → b || true ≡ true
+      or_true true = refl
+      or_true false = refl
+
+      go : (shut : Bool) (between : Option Between) (asleep : Bool)
           → if_asked t (stood shut between) (open_of (cond shut None asked)) ≡ None
           → if_closable t (stood shut between) (handle_if_any seen.handles (close_of t.part (cond shut None asked))) ≡ None
           → if_asked t (stood shut between) (claim_of t.part (cond shut None asked)) ≡ None
           → if_asked t (stood shut between) (remove_of (cond shut None asked)) ≡ None
           → is_submission (cond shut None asked) && nat_lt (length t.part.requests) most_requests ≡ false
-          → cond shut None (outcome_due t.setup.now t.me seen) ≡ None
-          → shut || is_some between || is_script_blocked t.setup.now t.me seen || asks_unbuilt t.setup.now seen asked ≡ true
-      go true between o c k r s e = refl
-      go false (Some b) o c k r s e = refl
-      go false None o c k r s e = next_waits (next_line t.setup.now t.me t.part) refl o c k r s e
+          → cond (shut || asleep) None (outcome_due t.setup.now t.me seen) ≡ None
+          → shut || is_some between || is_script_blocked t.setup.now t.me seen || asks_unbuilt t.setup.now seen asked || asleep ≡ true
+      go true between asleep o c k r s e = refl
+      go false (Some b) asleep o c k r s e = refl
+      go false None true o c k r s e = or_true (is_script_blocked t.setup.now t.me seen || asks_unbuilt t.setup.now seen asked)
+      go false None false o c k r s e = ap (λ b. b || false) (next_waits (next_line t.setup.now t.me t.part) refl o c k r s e)
 
 -- ---- what is still to be put
 
@@ -370,7 +376,7 @@ full_waits t links none = go t.part.due none
 
     go : (ds : List Due) → first_due links.queues.items ds ≡ None → may_post links ds ≡ false
     go [] e = refl
-    go (d ∷ ds) e = by_room (is_full links.queues.items d.receiver) (nat_lt d.receiver (vec_len links.queues)) (is_built_token (token_of d.news)) (d.receiver, token_of d.news) e
+    go (d ∷ ds) e = by_room (is_full links.queues.items d.receiver) (nat_lt d.receiver (vec_len links.queues)) (is_served_token (token_of d.news)) (d.receiver, token_of d.news) e
 
 pub due_waits : (t : Thread) (links : Links) (x : ℕ × Token) → first_due links.queues.items t.part.due ≡ Some x → may_put t links x.0 x.1 ≡ false → NothingToPost t links
 due_waits t links x first stays = go t.part.due refl first
@@ -384,7 +390,7 @@ due_waits t links x first stays = go t.part.due refl first
     go (d ∷ ds) due e =
         let is : (d.receiver, token_of d.news) ≡ x = is_first (is_full links.queues.items d.receiver) (d.receiver, token_of d.news) e in
         let stays_so : may_put t links d.receiver (token_of d.news) ≡ false = subst (λ (y : ℕ × Token). may_put t links y.0 y.1 ≡ false) (sym is) stays in
-        no_queue (nat_lt d.receiver (vec_len links.queues)) (is_built_token (token_of d.news)) (may_go t.setup.now t.me (local t links).view d.receiver (token_of d.news)) (not (is_full links.queues.items d.receiver))
+        no_queue (nat_lt d.receiver (vec_len links.queues)) (is_served_token (token_of d.news)) (may_go t.setup.now t.me (local t links).view d.receiver (token_of d.news)) (not (is_full links.queues.items d.receiver))
         stays_so
         (first_goes t.setup.now t.me (local t links).view d ds due)
 

@@ -20,12 +20,12 @@ use Rattle.bd_machine.specs.Walks.{change_visit, guards_visit, marked_by, visite
 use Rattle.bd_machine.proofs.Parts.{Core, visit_grows}
 use Rattle.bd_turns.specs.declared.queue.Message.{Message}
 use Rattle.bd_turns.specs.Local.{Local}
-use Rattle.bd_walks.specs.Walking.{with_channel}
+use Rattle.bd_rule_walks.specs.Walking.{with_channel}
 use Rattle.bd_links.specs.Entries.{longer}
 use Rattle.bd_links.specs.Queues.{queues_of}
 use Rattle.bd_tokens.specs.Tokens.{here_in}
 use Rattle.bd_links.proofs.Longer.{length-longer}
-use Rattle.bd_due.specs.Visiting.{if_visited, may_visit}
+use Rattle.bd_steps.specs.Visiting.{if_visited, may_visit}
 use Rattle.bd_thread.specs.declared.links.Links.{Links}
 use Rattle.bd_thread.specs.declared.thread.Thread.{Thread}
 use Rattle.bd_thread.specs.Acted.{Acted}

@@ -15,8 +15,8 @@ use Rattle.bd_machine.specs.BlockMap.{row_of}
 use Rattle.bd_machine.specs.Registry.{handle_of, is_live}
 use Rattle.bd_machine.specs.Same.{same_handle}
 use Rattle.bd_machine.specs.Users.{is_base_handle}
-use Rattle.bd_due.specs.Asking.{asks_registry, is_base_if_any, is_live_at}
-use Rattle.bd_due.specs.Duties.{duty_of, is_duty, removal_of}
+use Rattle.bd_steps.specs.Asking.{asks_registry, is_base_if_any, is_live_at}
+use Rattle.bd_steps.specs.Duties.{duty_of, is_duty, removal_of}
 use Rattle.bd_thread.specs.declared.links.Links.{Links}
 use Rattle.bd_thread.specs.declared.thread.Thread.{Thread}
 use Rattle.bd_thread.specs.Duties.{NoDuty}

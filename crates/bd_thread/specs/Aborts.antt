@@ -3,12 +3,13 @@ use Rattle.std.specs.Prelude.{◌≡◌, Bool, true, false, List, [], ◌∷◌,
 use Rattle.bd_base.specs.declared.act.Act.TheVariants as acts
 use Rattle.bd_base.specs.declared.id.ReqId.{ReqId}
 use Rattle.bd_base.specs.declared.request.AbortCause.{AbortCause}
+use Rattle.bd_held.specs.Holds.{without_hold}
 use Rattle.bd_machine.specs.declared.state.Id.TheVariants as ids
 use Rattle.bd_machine.specs.declared.state.Kept.TheVariants as keeps
 use Rattle.bd_machine.specs.declared.state.Open.{Open}
 use Rattle.bd_machine.specs.declared.state.OpenRequest.{OpenRequest}
 use Rattle.bd_machine.specs.Aborts.{aborted, stopped}
-use Rattle.bd_due.specs.Stopping.{abortable, channels_without, may_stop, without_unsent}
+use Rattle.bd_steps.specs.Stopping.{abortable, channels_without, may_stop, without_unsent}
 use Rattle.bd_links.specs.Entries.{longer}
 use Rattle.bd_tokens.specs.Tokens.{here_in, Sets}
 use Rattle.bd_thread.specs.declared.links.Links.{Links}
@@ -26,9 +27,9 @@ may_abort t links req cause = may_stop t.setup.now t.me (view_of t links) req ca
 abbrev pub abort_due : Thread → Links → ReqId → AbortCause → Option OpenRequest
 abort_due t links req cause = abortable t.setup.now t.me (view_of t links) req cause
 
--- one Abort: the request is aborted and waits at no limited device, and its pieces that wait unsent are no longer to be put, in flight or to be sent again
+-- one Abort: the request is aborted, waits at no limited device and is held no longer, and its pieces that wait unsent are no longer to be put, in flight or to be sent again
 pub record IsAborted (req : ReqId) (cause : AbortCause) (r : OpenRequest) (old : Thread) (before : Links) (new : Thread) (after : Links) : Type 0 where
-  pub thread : new ≡ record old { part = untaken (stopped old.setup.now old.part req (Some r)); held = new.held; outbox = new.outbox; retries = new.retries }
+  pub thread : new ≡ record old { part = untaken (stopped old.setup.now old.part req (Some r)); held = new.held; outbox = new.outbox; retries = new.retries; holds = without_hold old.holds req r.hold }
   pub held : Sets old.held.items new.held.items (ids.Request req) (Some (keeps.Request (aborted cause r)))
   pub outbox : new.outbox.items ≡ without_unsent req (here_in old.held.items) old.outbox.items
   pub retries : new.retries ≡ channels_without old.setup.now req (here_in old.held.items) old.outbox.items old.retries

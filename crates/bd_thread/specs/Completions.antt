@@ -8,10 +8,10 @@ use Rattle.bd_machine.specs.declared.state.Open.{Open}
 use Rattle.bd_machine.specs.declared.state.Part.{Part}
 use Rattle.bd_machine.specs.Requests.{change_complete}
 use Rattle.bd_machine.specs.Same.{same_request}
-use Rattle.bd_changes.specs.Lone.{lone}
-use Rattle.bd_due.specs.declared.completion.Ending.{Ending}
-use Rattle.bd_due.specs.Completions.{ended, ending_of, Shows}
-use Rattle.bd_due.specs.Stopping.{channels_left, left_by}
+use Rattle.bd_rule_effects.specs.Lone.{lone}
+use Rattle.bd_steps.specs.declared.completion.Ending.{Ending}
+use Rattle.bd_steps.specs.Completions.{ended, ending_of, Shows}
+use Rattle.bd_steps.specs.Stopping.{channels_left, left_by}
 use Rattle.bd_links.specs.Entries.{longer}
 use Rattle.bd_tokens.specs.Tokens.{here_in}
 use Rattle.bd_thread.specs.declared.links.Links.{Links}

@@ -6,7 +6,7 @@ use Rattle.bd_machine.specs.declared.state.OpenRequest.{OpenRequest}
 use Rattle.bd_machine.specs.Alone.{held_after}
 use Rattle.bd_machine.specs.Kept.{request_here}
 use Rattle.bd_machine.specs.Requests.{cut_into, extents_of, may_cut}
-use Rattle.bd_due.specs.Pieces.{channels_cut, outbox_cut}
+use Rattle.bd_steps.specs.Pieces.{channels_cut, outbox_cut}
 use Rattle.bd_links.specs.Entries.{longer}
 use Rattle.bd_tokens.specs.Tokens.{here_in}
 use Rattle.bd_thread.specs.declared.links.Links.{Links}

@@ -5,7 +5,7 @@ use Rattle.bd_base.specs.declared.id.DevId.{DevId}
 use Rattle.bd_blocks.specs.Digests.{digest_due}
 use Rattle.bd_machine.specs.BlockMap.{is_malloc}
 use Rattle.bd_machine.specs.Homes.{is_base, may_destruct}
-use Rattle.bd_view.specs.Came.{came_free}
+use Rattle.bd_rule_view.specs.Came.{came_free}
 use Rattle.bd_links.specs.Entries.{longer}
 use Rattle.bd_thread.specs.declared.links.Links.{Links}
 use Rattle.bd_thread.specs.declared.thread.Thread.{Thread}

@@ -1,7 +1,7 @@
 -- Which piece the disk of an aio device serves next.
 use Rattle.std.specs.Prelude.{◌≡◌, find, Option, None, option_and_then}
 use Rattle.bd_base.specs.declared.id.DevId.{DevId}
-use Rattle.bd_due.specs.Serving.{next_on_disk}
+use Rattle.bd_steps.specs.Serving.{next_on_disk}
 use Rattle.bd_machine.specs.declared.state.Id.{Id}
 use Rattle.bd_machine.specs.declared.state.OpenPiece.{OpenPiece}
 use Rattle.bd_machine.specs.Homes.{is_base}

@@ -1,7 +1,7 @@
 -- What the thread owes and an event does, where it may ask it.
 use Rattle.std.specs.Prelude.{◌≡◌, Bool, Option, None}
 use Rattle.bd_base.specs.declared.event.RegEvent.{RegEvent}
-use Rattle.bd_due.specs.Duties.{duty_owed}
+use Rattle.bd_steps.specs.Duties.{duty_owed}
 use Rattle.bd_thread.specs.declared.links.Links.{Links}
 use Rattle.bd_thread.specs.declared.thread.Thread.{Thread}
 use Rattle.bd_thread.specs.Lines.{if_asked, AsksBy}

@@ -7,8 +7,8 @@ use Rattle.bd_machine.specs.Admission.{is_gone}
 use Rattle.bd_machine.specs.Registry.{is_on}
 use Rattle.bd_thread.specs.declared.links.Links.{Links}
 use Rattle.bd_thread.specs.declared.thread.Thread.{Thread}
-use Rattle.bd_due.specs.Duties.{owes_nothing as owes_none}
-use Rattle.bd_due.specs.Duties.{removal_after}
+use Rattle.bd_steps.specs.Duties.{owes_nothing as owes_none}
+use Rattle.bd_steps.specs.Duties.{removal_after}
 use Rattle.bd_thread.specs.Lines.{if_asked, may_close, AsksBy, ClosesBy}
 use Rattle.bd_thread.specs.Seen.{view_of}
 

@@ -17,7 +17,7 @@ use Rattle.bd_machine.specs.Kept.{as_piece}
 use Rattle.bd_machine.specs.Same.{same_id}
 use Rattle.bd_machine.specs.Table.{change_first}
 use Rattle.bd_links.specs.Entries.{longer}
-use Rattle.bd_told.specs.Told.{contents_after}
+use Rattle.bd_law_disks.specs.Told.{contents_after}
 use Rattle.bd_tokens.specs.Tokens.{here_in}
 use Rattle.bd_thread.specs.declared.links.Links.{Links}
 use Rattle.bd_thread.specs.declared.thread.Thread.{Thread}

@@ -3,12 +3,14 @@ pub mod Cuts
 pub mod Sent
 pub mod Seen
 pub mod Acted
+pub mod Asleep
 pub mod Aborts
 pub mod Walking
 pub mod Lines
 pub mod Duties
 pub mod Served
 pub mod Requests
+pub mod Delays
 pub mod Destructs
 pub mod Refusals
 pub mod Retries

@@ -1,5 +1,5 @@
 -- What a line asks of the registry, and what the answer leaves; what has to follow there at once; what a line's end changes, and when it comes.
-use Rattle.std.specs.Prelude.{◌≡◌, ℕ, Bool, true, false, cond, ◌&&◌, List, [], ◌∷◌, ◌++◌, length, Option, Some, None}
+use Rattle.std.specs.Prelude.{◌≡◌, ℕ, Bool, true, false, cond, ◌&&◌, ◌||◌, List, [], ◌∷◌, ◌++◌, length, Option, Some, None}
 use Rattle.bd_base.specs.declared.act.Act.TheVariants as acts
 use Rattle.bd_base.specs.declared.act.Outcome.{Outcome}
 use Rattle.bd_base.specs.declared.event.Answer.{Answer}
@@ -25,17 +25,19 @@ use Rattle.bd_base.specs.declared.setup.Setup.{Setup}
 use Rattle.bd_machine.specs.Registry.{answer_to, handle_of}
 use Rattle.bd_machine.specs.View.{Change, View}
 use Rattle.bd_machine.specs.Scripts.{change_job}
-use Rattle.bd_changes.specs.Begun.{begun}
-use Rattle.bd_changes.specs.Lone.{lone}
+use Rattle.bd_rule_effects.specs.Begun.{begun}
+use Rattle.bd_rule_effects.specs.Lone.{lone}
 use Rattle.bd_registry.specs.State.{Registered, event_row}
-use Rattle.bd_view.specs.Came.{came_between, came_shut}
-use Rattle.bd_due.specs.Answering.{made_by as channels_made}
-use Rattle.bd_due.specs.Following.{close_due, get_due}
-use Rattle.bd_due.specs.Sending.{sent_off}
+use Rattle.bd_rule_view.specs.Came.{came_between, came_shut}
+use Rattle.bd_steps.specs.Answering.{made_by as channels_made}
+use Rattle.bd_steps.specs.Following.{close_due, get_due}
+use Rattle.bd_steps.specs.Sending.{sent_off}
 use Rattle.bd_links.specs.Entries.{longer, next_stamp}
+use Rattle.bd_moment.specs.Time.{with_line_ended}
 use Rattle.bd_tokens.specs.Tokens.{here_in}
 use Rattle.bd_thread.specs.declared.links.Links.{Links}
 use Rattle.bd_thread.specs.declared.thread.Thread.{Thread}
+use Rattle.bd_thread.specs.Asleep.{is_asleep}
 use Rattle.bd_thread.specs.Seen.{untaken, view_of}
 
 -- ---- what a line asks of the registry
@@ -198,11 +200,11 @@ Removes old before new after removed = AsksBy old before new after removed (remo
 abbrev pub done : Thread → Job → Part
 done t job = untaken (change_job t.setup.now (lone t.part) (Some job)).part
 
--- the next line ended so: it is done, one Script says how it ended, and all else stayed
+-- the next line ended so: it is done, the one after it is met in this turn, one Script says how it ended, and all else stayed
 pub record IsEnded (outcome : Outcome) (old : Thread) (before : Links) (new : Thread) (after : Links) : Type 0 where
   pub line : Line
   pub next : next_line old.setup.now old.me old.part ≡ Some line
-  pub thread : new ≡ record old { part = done old line.job }
+  pub thread : new ≡ record old { part = done old line.job; time = with_line_ended old.time }
   pub links : after ≡ record before { entries = longer old.me before.entries (acts.Script line.number outcome) }
 
 -- true where there is an outcome, and the line ended so; else nothing changes
@@ -210,9 +212,9 @@ abbrev pub EndsBy : Thread → Links → Thread → Links → Bool → Option Ou
 EndsBy old before new after ended None = (ended ≡ false) × (new ≡ old) × (after ≡ before)
 EndsBy old before new after ended (Some outcome) = (ended ≡ true) × IsEnded outcome old before new after
 
--- the outcome that the next line has, where it goes on and no Shutdown came
+-- the outcome that the next line has, where it goes on, doesn't sleep and no Shutdown came
 abbrev pub outcome_now : Thread → Links → Option Outcome
-outcome_now t links = cond links.shut None (outcome_due t.setup.now t.me (view_of t links))
+outcome_now t links = cond (links.shut || is_asleep t) None (outcome_due t.setup.now t.me (view_of t links))
 
 abbrev pub EndsLine : Thread → Links → Thread → Links → Bool → Type 0
 EndsLine old before new after ended = EndsBy old before new after ended (outcome_now old before)

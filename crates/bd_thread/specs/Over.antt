@@ -3,8 +3,8 @@ use Rattle.std.specs.Prelude.{◌≡◌, List, [], ◌++◌, vec_len}
 use Rattle.bd_base.specs.declared.act.Entry.{Entry}
 use Rattle.bd_base.specs.declared.id.DevId.{DevId}
 use Rattle.bd_machine.specs.declared.state.Content.{Content}
-use Rattle.bd_merged.specs.Journals.{events}
-use Rattle.bd_told.specs.Over.{LeadsOver}
+use Rattle.bd_law_logs.specs.Journals.{events}
+use Rattle.bd_law_disks.specs.Over.{LeadsOver}
 use Rattle.bd_thread.specs.declared.links.Links.{Links}
 use Rattle.bd_thread.specs.declared.thread.Thread.{Thread}
 use Rattle.bd_thread.specs.Seen.{local}

@@ -6,7 +6,7 @@ use Rattle.bd_base.specs.declared.id.DevId.{DevId}
 use Rattle.bd_base.specs.declared.id.ReqId.{ReqId}
 use Rattle.bd_machine.specs.Homes.{is_base, without_last}
 use Rattle.bd_machine.specs.Table.{change_first}
-use Rattle.bd_due.specs.Refusing.{here_refused, refusal_due}
+use Rattle.bd_steps.specs.Refusing.{here_refused, refusal_due}
 use Rattle.bd_links.specs.Entries.{longer}
 use Rattle.bd_tokens.specs.Tokens.{here_in}
 use Rattle.bd_thread.specs.declared.links.Links.{Links}

@@ -19,8 +19,8 @@ use Rattle.bd_machine.specs.Asked.{is_handle_on, is_job_submit, most_requests, n
 use Rattle.bd_machine.specs.Registry.{handle_of}
 use Rattle.bd_machine.specs.Requests.{change_accept, new_request}
 use Rattle.bd_machine.specs.Same.{same_request}
-use Rattle.bd_changes.specs.Lone.{lone}
-use Rattle.bd_view.specs.declared.names.Submission.{Submission}
+use Rattle.bd_rule_effects.specs.Lone.{lone}
+use Rattle.bd_rule_view.specs.declared.names.Submission.{Submission}
 use Rattle.bd_links.specs.Entries.{longer}
 use Rattle.bd_tokens.specs.Tokens.{Sets}
 use Rattle.bd_thread.specs.declared.links.Links.{Links}

@@ -5,8 +5,8 @@ use Rattle.bd_base.specs.declared.act.Act.TheVariants as acts
 use Rattle.bd_base.specs.declared.id.HandleId.{HandleId}
 use Rattle.bd_machine.specs.Asked.{is_script_blocked}
 use Rattle.bd_turns.specs.declared.queue.Message.{Message}
-use Rattle.bd_due.specs.Resting.{is_done_with}
-use Rattle.bd_due.specs.Resting.{is_settled as settles}
+use Rattle.bd_steps.specs.Resting.{is_done_with}
+use Rattle.bd_steps.specs.Resting.{is_settled as settles}
 use Rattle.bd_links.specs.Entries.{longer}
 use Rattle.bd_thread.specs.declared.links.Links.{Links}
 use Rattle.bd_thread.specs.declared.thread.Thread.{Thread}
@@ -20,6 +20,11 @@ is_settled t links id = settles t.setup.now (view_of t links) id
 abbrev pub rests : Thread → Links → Bool
 rests t links =
     (length t.held.items == 0) && (length t.part.due == 0) && (length t.part.owed == 0) && is_none t.part.injection && list_all (is_settled t links) t.part.gone
+
+-- each of its open requests is held, and nothing is still to be put or done
+abbrev pub rests_but_for_holds : Thread → Links → Bool
+rests_but_for_holds t links =
+    (length t.holds == length t.part.requests) && (length t.outbox.items == 0) && (length t.part.due == 0) && (length t.part.owed == 0) && is_none t.part.injection && list_all (is_settled t links) t.part.gone
 
 -- its script is at its end, or the next line waits
 abbrev pub is_blocked : Thread → Links → Bool

@@ -7,24 +7,24 @@ use Rattle.bd_base.specs.declared.id.ReqId.{ReqId}
 use Rattle.bd_base.specs.declared.setup.Setup.{Setup}
 use Rattle.bd_machine.specs.BlockMap.{home}
 use Rattle.bd_machine.specs.Messages.{count_at}
-use Rattle.bd_due.specs.Returning.{channels_back}
+use Rattle.bd_steps.specs.Returning.{channels_back}
 use Rattle.bd_links.specs.Entries.{longer}
 use Rattle.bd_retries.specs.declared.waiting.Waiting.{Waiting}
 use Rattle.bd_retries.specs.Channels.{changed_if_any, next_at, retried}
 use Rattle.bd_tokens.specs.Tokens.{here_in}
 use Rattle.bd_thread.specs.declared.links.Links.{Links}
 use Rattle.bd_thread.specs.declared.thread.Thread.{Thread}
-use Rattle.bd_thread.specs.Completions.{MayComplete}
+use Rattle.bd_thread.specs.Delays.{HoldsOrCompletes}
 use Rattle.bd_thread.specs.Sent.{may_send}
 
 -- ---- a piece that is back
 
--- its channel has one piece fewer in flight, a refused one waits to be sent again, and then its request completes, where it may
+-- its channel has one piece fewer in flight, a refused one waits to be sent again, and then its request is held or completes, where it may
 pub record IsBack (req : ReqId) (k : ℕ) (old : Thread) (before : Links) (new : Thread) (after : Links) : Type 0 where
   pub middle : Thread
   pub thread : middle ≡ record old { retries = middle.retries }
   pub retries : middle.retries ≡ channels_back req k (here_in old.held.items) old.retries
-  pub completes : MayComplete req middle before new after
+  pub carried : HoldsOrCompletes req middle before new after
 
 -- ---- sending again
 

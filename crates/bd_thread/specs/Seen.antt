@@ -12,6 +12,7 @@ use Rattle.bd_machine.specs.View.{View, is_of}
 use Rattle.bd_turns.specs.declared.queue.Message.{Message}
 use Rattle.bd_turns.specs.Local.{Local}
 use Rattle.bd_links.specs.Queues.{queues_of}
+use Rattle.bd_moment.specs.declared.time.Time.{Time}
 use Rattle.bd_tokens.specs.Tokens.{here_in}
 use Rattle.bd_thread.specs.declared.links.Links.{Links}
 use Rattle.bd_thread.specs.declared.thread.Thread.{Thread}
@@ -51,6 +52,10 @@ number_of t = t.me
 
 abbrev pub setup_of : Thread → Setup
 setup_of t = t.setup.now
+
+-- the moments that it goes by, for the crates above
+abbrev pub time_of : Thread → Time
+time_of t = t.time
 
 -- the bytes of a block of a device
 abbrev pub block_size : Thread → DevId → ℕ

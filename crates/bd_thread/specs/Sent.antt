@@ -3,11 +3,11 @@ use Rattle.std.specs.Prelude.{◌≡◌, ℕ, Bool, true, false, not, ◌&&◌, 
 use Rattle.bd_base.specs.declared.act.Act.TheVariants as acts
 use Rattle.bd_base.specs.declared.act.Token.{Token}
 use Rattle.bd_machine.specs.declared.state.Id.{Id}
-use Rattle.bd_machine.specs.Guards.{is_built_token}
+use Rattle.bd_steps.specs.Served.{is_served_token}
 use Rattle.bd_machine.specs.Messages.{count_at, may_go}
 use Rattle.bd_turns.specs.declared.queue.Message.{Message}
 use Rattle.bd_turns.specs.Tied.{id_next}
-use Rattle.bd_due.specs.Sending.{first_brought}
+use Rattle.bd_steps.specs.Sending.{first_brought}
 use Rattle.bd_links.specs.Entries.{longer}
 use Rattle.bd_links.specs.Queues.{is_full, queues_of}
 use Rattle.bd_thread.specs.declared.links.Links.{Links}
@@ -25,7 +25,7 @@ Takes old before new after id = TakesBy old before new after id (first_brought (
 
 -- there is a queue to this thread, the token is one that threads put as yet, and it may go there
 abbrev pub may_put : Thread → Links → ℕ → Token → Bool
-may_put t links to what = nat_lt to (vec_len links.queues) && is_built_token what && may_go t.setup.now t.me (local t links).view to what
+may_put t links to what = nat_lt to (vec_len links.queues) && is_served_token what && may_go t.setup.now t.me (local t links).view to what
 
 -- there is a queue to the thread, and it isn't full
 abbrev pub has_room : Links → ℕ → Bool
@@ -34,7 +34,7 @@ has_room links to = nat_lt to (vec_len links.queues) && not (is_full links.queue
 -- the first of these may go where it is to go, and there is room
 abbrev pub may_send : Thread → Links → List (ℕ × Token) → Bool
 may_send t links [] = false
-may_send t links (x ∷ xs) = has_room links x.0 && is_built_token x.1 && may_go t.setup.now t.me (local t links).view x.0 x.1
+may_send t links (x ∷ xs) = has_room links x.0 && is_served_token x.1 && may_go t.setup.now t.me (local t links).view x.0 x.1
 
 -- one Put of the token, where it may go there; else nothing changes
 abbrev pub PutsBy : Thread → Links → Thread → Links → ℕ → Token → Bool → Bool → Type 0

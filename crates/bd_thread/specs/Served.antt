@@ -3,7 +3,7 @@ use Rattle.std.specs.Prelude.{◌≡◌, cond, find, Option, Some, None}
 use Rattle.bd_base.specs.declared.act.Act.TheVariants as acts
 use Rattle.bd_base.specs.declared.act.ApplyEnd.TheVariants as ends
 use Rattle.bd_base.specs.declared.id.DevId.{DevId}
-use Rattle.bd_due.specs.Serving.{next_piece}
+use Rattle.bd_steps.specs.Serving.{next_piece}
 use Rattle.bd_machine.specs.declared.state.Id.{Id}
 use Rattle.bd_machine.specs.declared.state.Id.TheVariants as ids
 use Rattle.bd_machine.specs.BlockMap.{is_aio}

@@ -6,6 +6,7 @@ use Rattle.bd_registry.specs.State.{rows_of}
 use Rattle.bd_turns.specs.Laws.{view_at_start, shared_at_start}
 use Rattle.bd_turns.specs.Local.{Local}
 use Rattle.bd_links.specs.Queues.{empty_queues}
+use Rattle.bd_moment.specs.Time.{before_any}
 use Rattle.bd_thread.specs.declared.links.Links.{Links}
 use Rattle.bd_thread.specs.declared.thread.Thread.{Thread}
 use Rattle.bd_thread.specs.Seen.{local}
@@ -17,7 +18,7 @@ pub record IsNewLinks (setup : Setup) (links : Links) : Type 0 where
   pub entries : links.entries ≡ []
   pub running : links.shut ≡ false
 
--- it is thread number `me` of the setup with its part as it is at the start, holds no token, has nothing to put, nothing in flight and nothing that waits to be sent again, and keeps no ticket
+-- it is thread number `me` of the setup with its part as it is at the start, holds no token, has nothing to put, nothing in flight and nothing that waits to be sent again, keeps no ticket, had no turn, and holds no request
 pub record IsNew (me : ℕ) (setup : Setup) (t : Thread) : Type 0 where
   pub own : t.me ≡ me
   pub given : t.setup.now ≡ setup
@@ -26,6 +27,8 @@ pub record IsNew (me : ℕ) (setup : Setup) (t : Thread) : Type 0 where
   pub outbox : t.outbox.items ≡ []
   pub retries : t.retries ≡ []
   pub tickets : t.purse.ids ≡ []
+  pub time : t.time ≡ before_any
+  pub holds : t.holds ≡ []
 
 -- what a thread sees before any entry, with nothing told of its disks, and what is shared then
 abbrev pub local_at_start : Setup → ℕ → Local

@@ -12,12 +12,11 @@ use Rattle.bd_machine.specs.declared.state.Open.{Open}
 use Rattle.bd_machine.specs.Admission.{has_range}
 use Rattle.bd_machine.specs.Asked.{bound_to, is_script_blocked, most_requests, undecided_job}
 use Rattle.bd_machine.specs.BlockMap.{is_malloc}
-use Rattle.bd_machine.specs.Guards.{is_built_token}
+use Rattle.bd_steps.specs.Served.{is_served_token}
 use Rattle.bd_machine.specs.Homes.{is_base}
 use Rattle.bd_machine.specs.View.{View}
-use Rattle.bd_due.specs.Asking.{is_base_if_any}
-use Rattle.bd_due.specs.Completions.{ending_of}
-use Rattle.bd_due.specs.Sending.{first_brought, token_of}
+use Rattle.bd_steps.specs.Asking.{is_base_if_any}
+use Rattle.bd_steps.specs.Sending.{first_brought, token_of}
 use Rattle.bd_flight.specs.declared.next.Step.{Step}
 use Rattle.bd_flight.specs.declared.next.Step.TheVariants as steps
 use Rattle.bd_flight.specs.Next.{next_step}
@@ -26,6 +25,8 @@ use Rattle.bd_thread.specs.declared.links.Links.{Links}
 use Rattle.bd_thread.specs.declared.thread.Thread.{Thread}
 use Rattle.bd_thread.specs.declared.turn.Turned.{Turned}
 use Rattle.bd_thread.specs.declared.turn.Turned.TheVariants.{Moved, Quiet}
+use Rattle.bd_thread.specs.Asleep.{is_asleep}
+use Rattle.bd_thread.specs.Delays.{StandsStill}
 use Rattle.bd_thread.specs.Destructs.{may_device_go}
 use Rattle.bd_thread.specs.Duties.{NoDuty}
 use Rattle.bd_thread.specs.Endings.{left_on, removal_due}
@@ -82,16 +83,16 @@ NoRetry t links = (place : ℕ) → NoRetryAt place t links
 
 -- ---- open requests
 
--- a step that threads take as yet, beside the completion
+-- a step that threads take as yet, beside those of a request whose pieces are back
 abbrev pub is_abort_or_cut : Step → Bool
 is_abort_or_cut (steps.Abort cause) = true
 is_abort_or_cut steps.Cut = true
 is_abort_or_cut _ = false
 
--- the next step of the request is neither an abort by a mark nor the cut, and it can't be completed
+-- the next step of the request is neither an abort by a mark nor the cut, and it can't be released at the turn's moment, held or completed
 pub record NoStepOf (req : ReqId) (t : Thread) (links : Links) : Type 0 where
   pub step : is_abort_or_cut (next_step t.setup.now t.me (view_of t links) req) ≡ false
-  pub completion : ending_of t.setup.now t.me (view_of t links) req ≡ None
+  pub still : StandsStill req t links
 
 -- nor can any of the first n open requests
 abbrev pub NoStepBelow : ℕ → Thread → Links → Type 0
@@ -135,10 +136,10 @@ abbrev pub asks_unbuilt : Setup → View → Option Job → Bool
 asks_unbuilt setup v None = false
 asks_unbuilt setup v (Some job) = is_unbuilt setup v job
 
--- the Shutdown came, something has to follow at the registry, the script is at its end or blocked, or its next line asks for what no thread does yet
+-- the Shutdown came, something has to follow at the registry, the script is at its end or blocked, or its next line asks for what no thread does yet, or sleeps
 abbrev pub is_line_waiting : Thread → Links → Bool
 is_line_waiting t links =
-    links.shut || is_some links.registry.state.between || is_script_blocked t.setup.now t.me (view_of t links) || asks_unbuilt t.setup.now (view_of t links) (undecided_job t.setup.now t.me t.part)
+    links.shut || is_some links.registry.state.between || is_script_blocked t.setup.now t.me (view_of t links) || asks_unbuilt t.setup.now (view_of t links) (undecided_job t.setup.now t.me t.part) || is_asleep t
 
 -- ---- handles and devices that go
 
@@ -198,7 +199,7 @@ NothingToSend t links = may_send t links t.outbox.items ≡ false
 -- the first message that is due is one that threads put as yet, and there is room where it is to go
 abbrev pub may_post : Links → List Due → Bool
 may_post links [] = false
-may_post links (d ∷ ds) = has_room links d.receiver && is_built_token (token_of d.news)
+may_post links (d ∷ ds) = has_room links d.receiver && is_served_token (token_of d.news)
 
 abbrev pub NothingToPost : Thread → Links → Type 0
 NothingToPost t links = may_post links t.part.due ≡ false
@@ -215,7 +216,7 @@ pub record IsIdle (Waits : Thread → Links → Type 0) (old : Thread) (before :
 abbrev pub Idles : (Thread → Links → Type 0) → Thread → Links → Thread → Links → Type 0
 Idles Waits old before new after = length after.entries ≤ length before.entries → IsIdle Waits old before new after
 
--- all that a thread waits for: a message that it can take, a piece that it can send back or send again, something that it owes and can do, a piece that it can serve on a device whose home it is, an open request that it can abort by a mark, cut or complete, a line that can go on, after Shutdown on thread 0 a device that it can remove, a handle that it can close by itself or a device that it can destruct, and room for the first of its outbox, if that may go there, and for the first message that is due
+-- all that a thread waits for: a message that it can take, a piece that it can send back or send again, a pending action that it can do, a piece that it can serve on a device whose home it is, an open request that it can abort by a mark, cut, release at the turn's moment, hold or complete, a line that can go on, after Shutdown on thread 0 a device that it can remove, a handle that it can close by itself or a device that it can destruct, and room for the first of its outbox, if that may go there, and for the first message that is due
 pub record IsWaiting (t : Thread) (links : Links) : Type 0 where
   pub message : NoMessage t links
   pub refusal : NoRefusal t links

@@ -10,8 +10,8 @@ use Rattle.bd_machine.specs.declared.state.OpenWalk.{OpenWalk}
 use Rattle.bd_machine.specs.Alone.{held_after}
 use Rattle.bd_machine.specs.View.{Change}
 use Rattle.bd_machine.specs.Walks.{change_visit, visited}
-use Rattle.bd_due.specs.Sending.{goes_on, sent_off}
-use Rattle.bd_due.specs.Visiting.{visitor}
+use Rattle.bd_steps.specs.Sending.{goes_on, sent_off}
+use Rattle.bd_steps.specs.Visiting.{visitor}
 use Rattle.bd_links.specs.Entries.{longer}
 use Rattle.bd_tokens.specs.Tokens.{here_in}
 use Rattle.bd_thread.specs.declared.links.Links.{Links}

@@ -6,9 +6,9 @@ use Rattle.bd_base.specs.declared.act.Entry.{Entry}
 use Rattle.bd_base.specs.declared.setup.Setup.{Setup}
 use Rattle.bd_machine.specs.Messages.{count_at}
 use Rattle.bd_machine.specs.Users.{dev_of}
-use Rattle.bd_merged.specs.Journals.{events}
-use Rattle.bd_due.specs.Asking.{asks_registry, is_live_at}
-use Rattle.bd_due.specs.Duties.{is_duty}
+use Rattle.bd_law_logs.specs.Journals.{events}
+use Rattle.bd_steps.specs.Asking.{asks_registry, is_live_at}
+use Rattle.bd_steps.specs.Duties.{is_duty}
 use Rattle.bd_thread.specs.declared.links.Links.{Links}
 use Rattle.bd_thread.specs.declared.thread.Thread.{Thread}
 use Rattle.bd_thread.specs.declared.turn.Turned.{Turned}

@@ -7,14 +7,14 @@ ghost use Rattle.bd_thread.specs.Requests.{KeepsTickets};
 use crate::links::Links;
 use crate::thread::Thread;
 use bd_base::{AbortCause, Act, OutOfMemory, ReqId};
-use bd_course::aborted;
-use bd_due::{abortable, drop_unsent, stop_waiting};
 use bd_machine::{Id, Kept};
+use bd_rule_faults::aborted;
+use bd_steps::{abortable, drop_unsent, stop_waiting};
 
 impl<'a> Thread<'a> {
     /// Aborts a request that is here, where the rules let it for this cause (it has a range, is neither
     /// aborted nor to fail, and isn't cut, or a piece of it waits here unsent, or it is held): true, and
-    /// its pieces that wait unsent are no longer to be put, nor to be sent again. Else the answer is false, and nothing changed.
+    /// its pieces that wait unsent are no longer to be put, nor to be sent again, and nothing holds it any more. Else the answer is false, and nothing changed.
     pub(crate) fn abort(
         &mut self,
         links: &mut Links,
@@ -35,7 +35,8 @@ impl<'a> Thread<'a> {
             self.setup,
             req,
         );
-        stop_waiting(self.alloc, &mut self.part, self.setup, req, r);
+        stop_waiting(&mut self.part, self.setup, req, r);
+        self.holds.remove(req, r.hold);
         let kept = Kept::Request(aborted(cause, r));
         self.held.hold(Id::Request(req), kept)?;
         self.note(links, Act::Abort { req, cause })?;

@@ -11,9 +11,9 @@ use crate::links::Links;
 use crate::thread::Thread;
 use bd_base::{Act, DevId, OutOfMemory, Token};
 use bd_blocks::size_of;
-use bd_due::next_on_disk;
 use bd_home::{Given, serve_as_given};
 use bd_machine::{Id, Kept, OpenPiece};
+use bd_steps::next_on_disk;
 
 impl<'a> Thread<'a> {
     /// The bytes of a block of a device.

@@ -11,7 +11,7 @@ ghost use Rattle.bd_registry.specs.State.{rows_of};
 use crate::links::Links;
 use crate::thread::Thread;
 use bd_base::OutOfMemory;
-use bd_due::duty_owed;
+use bd_steps::duty_owed;
 
 impl<'a> Thread<'a> {
     // Does the first of what the thread owes that an event does, where the rules let the thread ask it:

@@ -11,9 +11,9 @@ ghost use Rattle.bd_registry.specs.State.{rows_of};
 use crate::links::Links;
 use crate::thread::Thread;
 use bd_base::{DevId, OutOfMemory};
-use bd_due::{owes_nothing, removal_after};
 use bd_machine::Handle;
-use bd_rules::is_gone;
+use bd_rule_requests::is_gone;
+use bd_steps::{owes_nothing, removal_after};
 
 impl<'a> Thread<'a> {
     // Whether the thread closes the handle by itself: its remove event was taken, and it may be closed (no

@@ -14,11 +14,11 @@ use crate::links::Links;
 use crate::thread::Thread;
 use bd_base::{Act, ApplyEnd, DevId, OutOfMemory, ReqId, Token};
 use bd_blocks::{digest_due, is_aio, size_of};
-use bd_changes::destructed;
-use bd_due::{next_due, refusal_due, refuse};
 use bd_home::{drop_last, serve};
 use bd_machine::{Id, Kept};
-use bd_rules::may_destruct;
+use bd_rule_effects::destructed;
+use bd_rule_requests::may_destruct;
+use bd_steps::{next_due, refusal_due, refuse};
 
 impl<'a> Thread<'a> {
     /// Serves the first piece in the device's queue, and gives its id. None, and nothing changes,

@@ -2,6 +2,7 @@
 #![tactic(auto)]
 
 mod aborts;
+mod delays;
 mod disks;
 mod duties;
 mod ending;
@@ -15,6 +16,7 @@ mod resting;
 mod retries;
 mod steps;
 mod thread;
+mod time;
 mod turn;
 mod view;
 mod walks;

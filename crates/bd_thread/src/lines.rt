@@ -1,13 +1,13 @@
 //! The lines of a thread's script: opens with their channels, closes with their puts, claims, removals,
 //! and each line's end.
 ghost use Rattle.std.specs.Prelude.{◌≡◌, ◌<◌, true, vec_len, IfOk, IfSome, OnOk};
-ghost use Rattle.bd_changes.specs.Begun.{with_walk};
+ghost use Rattle.bd_rule_effects.specs.Begun.{with_walk};
 ghost use Rattle.bd_machine.specs.Events.{change_reg};
-ghost use Rattle.bd_machine.specs.Guards.{is_built_event};
+ghost use Rattle.bd_steps.specs.Served.{is_served_event};
 ghost use Rattle.bd_machine.specs.View.{View};
 ghost use Rattle.bd_registry.specs.State.{rows_of};
-ghost use Rattle.bd_view.specs.Came.{came_shut};
-ghost use Rattle.bd_due.specs.Following.{close_due};
+ghost use Rattle.bd_rule_view.specs.Came.{came_shut};
+ghost use Rattle.bd_steps.specs.Following.{close_due};
 ghost use Rattle.bd_thread.specs.Acted.{Acted};
 ghost use Rattle.bd_thread.specs.Lines.{close_asked, made_by, may_ask, may_ask_after, may_close, Claims, Closes, EndsLine, Follows, IsAnswered, IsFollowed, Opens, Removes};
 ghost use Rattle.bd_thread.specs.Requests.{KeepsTickets};
@@ -15,18 +15,19 @@ ghost use Rattle.bd_base.specs.declared.event.RegEvent.TheVariants as events;
 
 use crate::links::Links;
 use crate::thread::Thread;
-use bd_asked::{asks_event, bound_to, next_line, outcome_of, undecided_job};
 use bd_base::{Act, Answer, Boxed, DevId, Job, OutOfMemory, RegEvent, WalkId};
-use bd_changes::{closed, decide, line_done};
-use bd_due::{begin_walk, close_due, get_due, made_by, removal_answered};
-use bd_events::{dropped, freed, got, put_down};
 use bd_links::next_stamp;
 use bd_machine::{Between, Handle, OpenWalk};
-use bd_view::{Records, Sees};
+use bd_rule_effects::{closed, decide, line_done};
+use bd_rule_events::{dropped, freed, got, put_down};
+use bd_rule_script::{asks_event, bound_to, next_line, outcome_of, undecided_job};
+use bd_rule_view::{Records, Sees};
+use bd_steps::{begin_walk, close_due, get_due, made_by, removal_answered};
 
 impl<'a> Thread<'a> {
-    /// Ends the next line, where it goes on: true. Else, or after Shutdown, nothing changes. More
-    /// open requests of a handle than 32 bits count answer out of memory.
+    /// Ends the next line, where it goes on: true, and the line after it is met in this turn. Else, as while it
+    /// sleeps, or after Shutdown, nothing changes. More open requests of a handle than 32 bits count answer out of
+    /// memory.
     pub(crate) fn end_line(&mut self, links: &mut Links) -> Result<bool, OutOfMemory>
         requires me { self.old.me < vec_len links.old.queues }
         ensures acted { OnOk result (Acted self.old links.old self.new links.new) }
@@ -40,10 +41,14 @@ impl<'a> Thread<'a> {
         let Some(line) = next_line(setup, self.me, &self.part) else {
             return Ok(false);
         };
+        if self.time.is_asleep(&line.job) {
+            return Ok(false);
+        }
         let Some(outcome) = outcome_of(&self.seen(links), &line.job)? else {
             return Ok(false);
         };
         line_done(self.alloc, &mut self.part, setup, Some(&line.job))?;
+        self.time.line_ended();
         let number = line.number;
         self.note(
             links,
@@ -85,7 +90,7 @@ impl<'a> Thread<'a> {
         event: &RegEvent,
         answer: &Answer,
     ) -> Result<Option<(WalkId, OpenWalk)>, OutOfMemory>
-        requires { is_built_event event.now ≡ true }
+        requires { is_served_event event.now ≡ true }
         ensures thread { OnOk result (self.new ≡ record self.old { part = self.new.part }) }
         ensures change { IfOk result (λ walk. (v : View) → v.part ≡ self.old.part → made.now ≡ made_by self.old.setup.now v event.now
             → with_walk self.new.part walk ≡ change_reg self.old.setup.now self.old.me v (came_shut shut) event.now answer.now) }
@@ -130,7 +135,7 @@ impl<'a> Thread<'a> {
     // The registry answers an event, and the part is as the answer leaves it; a walk that begins by it is
     // here, and to be put. Where stamps run out it answers out of memory.
     pub(crate) fn ask(&mut self, links: &mut Links, event: RegEvent) -> Result<(), OutOfMemory>
-        requires built { is_built_event event ≡ true }
+        requires built { is_served_event event ≡ true }
         requires asked { may_ask self.old links.old event ≡ true }
         requires rows { links.old.registry.setup ≡ rows_of self.old.setup.now }
         ensures acted { OnOk result (Acted self.old links.old self.new links.new) }
@@ -157,7 +162,7 @@ impl<'a> Thread<'a> {
 
     // Asks at once for what has to follow, where anything has.
     fn follow(&mut self, links: &mut Links, due: Option<RegEvent>) -> Result<(), OutOfMemory>
-        requires built { IfSome due (λ event. is_built_event event ≡ true) }
+        requires built { IfSome due (λ event. is_served_event event ≡ true) }
         requires asked { IfSome due (λ event. may_ask self.old links.old event ≡ true) }
         requires rows { links.old.registry.setup ≡ rows_of self.old.setup.now }
         ensures acted { OnOk result (Acted self.old links.old self.new links.new) }

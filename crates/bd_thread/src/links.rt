@@ -1,4 +1,4 @@
-//! What the threads share: a queue of messages to each, the registry, and the list of entries.
+//! A thread's own side of what threads have together: a queue of messages to each, a registry, and its entries.
 ghost use Rattle.std.specs.Prelude.{◌≡◌, IfOk, OnOk};
 ghost use Rattle.bd_thread.specs.Resting.{are_empty, shut_down};
 ghost use Rattle.bd_thread.specs.Starts.{IsNewLinks};
@@ -8,7 +8,7 @@ use bd_links::{Queue, add, empty_queues};
 use bd_registry::Registry;
 use std::alloc::Global;
 
-/// What the threads share.
+/// A thread's own side of what threads have together: each thread has links for itself.
 #[derive(Drop)]
 pub struct Links {
     pub queues: Vec<Queue>,
@@ -19,7 +19,7 @@ pub struct Links {
 }
 
 impl Links {
-    /// What the threads share before any entry: an empty queue for each, the registry with the base
+    /// The links before any entry: an empty queue for each thread, the registry with the base
     /// handles and the channels of limited devices' homes, and no entry.
     #[tactic(auto, using(bd_registry::proofs::Rows::start_of_rows))]
     pub fn new(alloc: Global, setup: &Setup) -> Result<Links, OutOfMemory>

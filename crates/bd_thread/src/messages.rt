@@ -7,13 +7,12 @@ ghost use Rattle.bd_thread.specs.Sent.{may_put, KeepsRequests, Puts, Takes};
 use crate::links::Links;
 use crate::thread::Thread;
 use bd_base::{Act, OutOfMemory, Token};
-use bd_changes::{arrived, took};
-use bd_due::{copy_of, leave, may_take};
 use bd_links::{pop, push};
 use bd_machine::Id;
-use bd_rules::{count_at, id_of, may_go};
+use bd_rule_effects::{arrived, took};
+use bd_rule_requests::{count_at, id_of, may_go};
+use bd_steps::{copy_of, is_served_token, leave, may_take};
 use bd_turns::Message;
-use bd_view::is_built_token;
 
 impl<'a> Thread<'a> {
     /// Takes the first message, where it brings the token that it names, and that is one that threads
@@ -63,7 +62,7 @@ impl<'a> Thread<'a> {
         ensures { result ≡ may_put self.now links.now to what.now }
     {
         (to as usize) < links.queues.len()
-            && is_built_token(what)
+            && is_served_token(what)
             && may_go(&self.seen(links), self.setup, self.me, to, what)
     }
 
@@ -101,7 +100,7 @@ impl<'a> Thread<'a> {
         ensures puts { OnOk result (Puts self.old links.old self.new links.new to what true) }
     {
         let number = count_at(self.part.put.as_slice(), to);
-        bd_changes::put(&mut self.part, to, number, &what)?;
+        bd_rule_effects::put(&mut self.part, to, number, &what)?;
         let id = id_of(self.me, to, number, &what);
         let kept = leave(self.alloc, &mut self.held, id, &what)?;
         let told = copy_of(&what)?;

@@ -5,7 +5,7 @@ ghost use Rattle.bd_machine.specs.Kept.{request_here};
 ghost use Rattle.bd_machine.specs.Registry.{handle_of};
 ghost use Rattle.bd_machine.specs.Requests.{may_cut};
 ghost use Rattle.bd_thread.specs.Acted.{Acted};
-ghost use Rattle.bd_due.specs.Completions.{ending_of, Shows};
+ghost use Rattle.bd_steps.specs.Completions.{ending_of, Shows};
 ghost use Rattle.bd_thread.specs.Completions.{Completes, IsCompleted};
 ghost use Rattle.bd_thread.specs.Cuts.{Cuts, IsCut};
 ghost use Rattle.bd_thread.specs.Requests.{refusal, IsAccepted, IsAsked, IsFresh, IsOpened, IsRefused, KeepsTickets, Refuses};
@@ -13,22 +13,22 @@ ghost use Rattle.bd_thread.specs.Seen.{number_of, view_of};
 
 use crate::links::Links;
 use crate::thread::Thread;
-use bd_asked::next_line;
 use bd_base::{Act, DevId, Errno, HandleId, OutOfMemory, ReqId, Shown};
 use bd_blocks::extents;
-use bd_changes::{accepted, completed};
-use bd_due::{
+use bd_machine::{Decided, Id, Kept, Open, OpenRequest};
+use bd_msg::Ticket;
+use bd_rule_effects::{accepted, completed};
+use bd_rule_lines::has_room;
+use bd_rule_requests::{admit, new_request, uncut};
+use bd_rule_script::next_line;
+use bd_rule_view::Submission;
+use bd_steps::{
     Ending, drop_left, drop_request, ending_of, hold_pieces, piece_count, send_cut, shown_now,
     spend,
 };
-use bd_machine::{Decided, Id, Kept, Open, OpenRequest};
-use bd_msg::Ticket;
-use bd_rules::{admit, new_request, uncut};
-use bd_user::has_room;
-use bd_view::Submission;
 
 /// Why a submission isn't accepted.
-#[derive(Clone, Copy, Debug, PartialEq, Eq)]
+#[derive(Clone, Copy, PartialEq, Eq)]
 pub enum Refused {
     /// It can't be done: `NoDev` where the handle's device is being removed here; then `BadDesc`
     /// where the handle isn't open, or for a write, zeroes, unmap or flush where it is open for

@@ -1,11 +1,11 @@
 //! When a thread has nothing under way.
 ghost use Rattle.std.specs.Prelude.{◌≡◌};
-ghost use Rattle.bd_thread.specs.Resting.{has_destructed_all, is_blocked, rests};
+ghost use Rattle.bd_thread.specs.Resting.{has_destructed_all, is_blocked, rests, rests_but_for_holds};
 
 use crate::links::Links;
 use crate::thread::Thread;
-use bd_asked::is_script_blocked;
-use bd_due::{are_done_with, are_settled};
+use bd_rule_script::is_script_blocked;
+use bd_steps::{are_done_with, are_settled};
 
 impl<'a> Thread<'a> {
     /// Whether no token is on the thread, nothing is still to be put or done, each handle whose remove
@@ -14,6 +14,19 @@ impl<'a> Thread<'a> {
         ensures { result ≡ rests self.now links.now }
     {
         self.held.len() == 0
+            && self.part.due.len() == 0
+            && self.part.owed.len() == 0
+            && self.part.injection.is_none()
+            && are_settled(&self.seen(links), self.setup)
+    }
+
+    /// Whether each of its open requests is held, and nothing is still to be put or done: nothing goes on by itself
+    /// here but its holds and its script.
+    pub fn rests_but_for_holds(&self, links: &Links) -> bool
+        ensures { result ≡ rests_but_for_holds self.now links.now }
+    {
+        self.holds.len() == self.part.requests.len()
+            && self.outbox.len() == 0
             && self.part.due.len() == 0
             && self.part.owed.len() == 0
             && self.part.injection.is_none()

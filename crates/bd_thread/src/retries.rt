@@ -13,12 +13,12 @@ use crate::thread::Thread;
 use crate::turn::BATCH;
 use bd_base::{OutOfMemory, ReqId, Token};
 use bd_blocks::home;
-use bd_due::piece_back;
 use bd_links::is_full;
+use bd_steps::piece_back;
 
 impl<'a> Thread<'a> {
     /// A piece that isn't out came: where it is this thread's it is back. Its channel has one fewer in flight,
-    /// a refused one waits to be sent again, and its request completes, where the rules let it.
+    /// a refused one waits to be sent again, and its request is held or completes, where the rules let it.
     pub(crate) fn take_back(
         &mut self,
         links: &mut Links,
@@ -34,7 +34,7 @@ impl<'a> Thread<'a> {
             return Ok(());
         }
         piece_back(&mut self.retries, &self.held, req, k)?;
-        self.complete(links, req)?;
+        self.hold_or_complete(links, req)?;
         Ok(())
     }
 

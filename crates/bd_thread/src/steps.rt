@@ -12,7 +12,7 @@ use bd_flight::{Step, next_step};
 
 impl<'a> Thread<'a> {
     // Takes the next step of the request, where that is one that threads take as yet: it is aborted by a
-    // mark, cut, or completed.
+    // mark, cut, released, held, or completed.
     fn carry(&mut self, links: &mut Links, req: ReqId) -> Result<(), OutOfMemory>
         requires { self.old.me < vec_len links.old.queues }
         ensures acted { OnOk result (Acted self.old links.old self.new links.new) }
@@ -30,7 +30,7 @@ impl<'a> Thread<'a> {
                 Ok(())
             }
             _ => {
-                self.complete(links, req)?;
+                self.go_on(links, req)?;
                 Ok(())
             }
         }
@@ -38,8 +38,8 @@ impl<'a> Thread<'a> {
 
     /// Carries the open requests on, in order of acceptance, up to the first that can take a step, and only
     /// where there are still as many entries as there were: in a turn that did nothing else. A request is
-    /// cut as it is accepted, aborted as the mark comes, and completes as its last piece comes back, so
-    /// there is hardly ever one.
+    /// cut as it is accepted, aborted as the mark comes, held or completed as its last piece comes back, and
+    /// released in the turn whose moment it is held until, so there is hardly ever one.
     pub(crate) fn carry_all(&mut self, links: &mut Links, entries: usize) -> Result<(), OutOfMemory>
         requires { self.old.me < vec_len links.old.queues }
         ensures acted { OnOk result (Acted self.old links.old self.new links.new) }

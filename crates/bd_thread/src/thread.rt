@@ -8,8 +8,10 @@ ghost use Rattle.bd_thread.specs.Starts.{IsNew};
 use crate::links::Links;
 use bd_base::{Act, OutOfMemory, Setup, Token};
 use bd_blocks::part_at_start;
+use bd_held::Held;
 use bd_links::add;
 use bd_machine::Part;
+use bd_moment::Time;
 use bd_msg::Purse;
 use bd_retries::Retries;
 use bd_tokens::Tokens;
@@ -30,6 +32,10 @@ pub struct Thread<'a> {
     pub(crate) retries: Retries,
     // the tickets of its open requests
     pub(crate) purse: Purse,
+    // the moment of its turn, and when the next line was first met
+    pub(crate) time: Time,
+    // its requests that delay devices hold, in the order in which their holds end
+    pub(crate) holds: Held,
 }
 
 impl<'a> Thread<'a> {
@@ -49,6 +55,8 @@ impl<'a> Thread<'a> {
             outbox: VecDeque::new(alloc),
             retries: Retries::new(alloc),
             purse: Purse::new(alloc),
+            time: Time::new(),
+            holds: Held::new(alloc),
         })
     }
 
@@ -73,6 +81,8 @@ impl<'a> Thread<'a> {
             outbox: _,
             retries: _,
             purse,
+            time: _,
+            holds: _,
         } = self;
         purse.abandon();
     }

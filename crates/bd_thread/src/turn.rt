@@ -16,20 +16,20 @@ ghost use Rattle.bd_registry.specs.State.{rows_of};
 use crate::links::Links;
 use crate::requests::Refused;
 use crate::thread::Thread;
-use bd_asked::{bound_to, undecided_job};
 use bd_base::{DevId, Errno, HandleId, Job, OutOfMemory, ReqId, Token};
-use bd_due::{first_due, next_ticket};
 use bd_machine::{Id, Progress};
-use bd_rules::has_range;
-use bd_user::has_room;
-use bd_view::{Submission, as_piece};
+use bd_rule_lines::has_room;
+use bd_rule_requests::has_range;
+use bd_rule_script::{bound_to, undecided_job};
+use bd_rule_view::{Submission, as_piece};
+use bd_steps::{first_due, next_ticket};
 
 /// How many messages a turn takes, pieces of a store it serves, and lines it does, at most (SPDK's
 /// batch of messages).
 pub(crate) const BATCH: u32 = 8;
 
 /// The outcome of a turn.
-#[derive(Clone, Copy, Debug, PartialEq, Eq)]
+#[derive(Clone, Copy, PartialEq, Eq)]
 pub enum Turned {
     /// This number of acts was made.
     Moved(usize),
@@ -356,12 +356,12 @@ impl<'a> Thread<'a> {
         Ok(())
     }
 
-    /// A turn: at most 8 messages, at most 8 pieces of each base device that are sent again, what the thread
-    /// owes, at most 8 pieces of each store, at most 8 lines of
-    /// the script, the closes of handles whose device is being removed (after Shutdown of all) and the
+    /// A turn: at most 8 messages, at most 8 pieces of each base device that are sent again, the pending
+    /// actions, at most 8 pieces of each base device whose home it is and that is no aio device, the releases
+    /// of held requests that are due, at most 8 lines of the script, the closes of handles whose device is being removed (after Shutdown of all) and the
     /// destructs that are due, and what is still to be put, until the queue that it goes to is full; where
-    /// it did none of this, it cuts or completes the first open request that can be. `Quiet` only where
-    /// nothing could be done. It answers out of memory also where a number runs out: after 2^62 requests
+    /// it did none of this, it cuts, holds or completes the first open request that can be, or sends back a piece that is
+    /// one too many at a device. `Quiet` only where nothing could be done. It answers out of memory also where a number runs out: after 2^62 requests
     /// of the thread, or where a count of messages, handles, pieces or lines would pass its type.
     pub fn turn(&mut self, links: &mut Links) -> Result<Turned, OutOfMemory>
         requires me { number_of self.old < vec_len links.old.queues }
@@ -376,6 +376,7 @@ impl<'a> Thread<'a> {
         self.retry_all(links)?;
         self.discharge_all(links)?;
         self.serve_all(links)?;
+        self.release_all(links)?;
         self.command_all(links)?;
         self.end_all(links)?;
         self.put_outbox(links)?;

@@ -9,8 +9,8 @@ use crate::thread::Thread;
 use bd_base::{DevId, HandleId};
 use bd_machine::{Handle, Id, Kept, Part};
 use bd_registry::Registry;
+use bd_rule_view::{Records, Sees};
 use bd_tokens::Tokens;
-use bd_view::{Records, Sees};
 
 /// What a thread sees: its part, what it holds of tokens, and of the registry its own handles and
 /// channels.

@@ -7,11 +7,11 @@ ghost use Rattle.bd_thread.specs.Walking.{visit_due, IsVisited, StopsFor, Visits
 use crate::links::Links;
 use crate::thread::Thread;
 use bd_base::{AbortCause, Act, DevId, OutOfMemory, WalkId, WalkKind};
-use bd_changes::walk_on;
-use bd_due::{begin_walk, send_on, visitor};
 use bd_machine::OpenWalk;
-use bd_view::Sees;
-use bd_walks::{mark, visited};
+use bd_rule_effects::walk_on;
+use bd_rule_view::Sees;
+use bd_rule_walks::{mark, visited};
+use bd_steps::{begin_walk, send_on, visitor};
 
 impl<'a> Thread<'a> {
     // The walk visits this thread: the marks of its device are set or taken, and it ends, or is to be put to

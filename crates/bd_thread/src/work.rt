@@ -11,11 +11,11 @@ ghost use Rattle.bd_thread.specs.Work.{has_left, is_left_at, put_count, taken_co
 use crate::links::Links;
 use crate::thread::Thread;
 use crate::turn::{BATCH, Turned, tell};
-use bd_asked::undecided_job;
 use bd_base::{DevId, OutOfMemory};
-use bd_due::{asks_registry, has_duty, is_any_live};
-use bd_rules::count_at;
-use bd_view::Records;
+use bd_rule_requests::count_at;
+use bd_rule_script::undecided_job;
+use bd_rule_view::Records;
+use bd_steps::{asks_registry, has_duty, is_any_live};
 
 impl<'a> Thread<'a> {
     // Submits what the next lines ask for, and ends lines, as far as they go on by this alone.
@@ -36,9 +36,9 @@ impl<'a> Thread<'a> {
     }
 
     /// A turn that asks the registry for nothing, and leaves it as it is: at most 8 messages, at most 8
-    /// pieces of each base device that are sent again, at most 8 pieces of each store, at most 8 lines of the script as far as they submit or only end, the
+    /// pieces of each base device that are sent again, at most 8 pieces of each store, the releases of held requests that are due, at most 8 lines of the script as far as they submit or only end, the
     /// destructs that are due, and what is still to be put, until the queue that it goes to is full;
-    /// where it did none of this, it cuts or completes the first open request that can be. `Quiet` only
+    /// where it did none of this, it cuts, holds or completes the first open request that can be. `Quiet` only
     /// where nothing could be done. It answers out of memory where `turn` does.
     pub fn work(&mut self, links: &mut Links) -> Result<Turned, OutOfMemory>
         requires { number_of self.old < vec_len links.old.queues }
@@ -52,6 +52,7 @@ impl<'a> Thread<'a> {
         self.receive_all(links)?;
         self.retry_all(links)?;
         self.serve_all(links)?;
+        self.release_all(links)?;
         self.submit_all(links)?;
         self.destruct_all(links)?;
         self.put_outbox(links)?;

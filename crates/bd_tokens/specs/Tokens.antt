@@ -5,7 +5,7 @@ use Rattle.bd_machine.specs.declared.state.Id.{Id}
 use Rattle.bd_machine.specs.declared.state.Kept.{Kept}
 use Rattle.bd_machine.specs.Same.{same_id}
 use Rattle.bd_machine.specs.Table.{look_up}
-use Rattle.bd_changes.specs.Begun.{stays, taken}
+use Rattle.bd_rule_effects.specs.Begun.{stays, taken}
 use Rattle.bd_tokens.specs.declared.key.Key.{Key}
 
 -- what is held: each token once, in no order, with what is kept of it; and how many more can be held even where memory runs out

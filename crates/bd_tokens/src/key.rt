@@ -2,11 +2,11 @@
 ghost use Rattle.std.specs.Prelude.{◌≡◌};
 
 use bd_machine::Id;
-use bd_view::same_id;
+use bd_rule_view::same_id;
 use std::hash::{Hash, Hasher};
 
 /// An id. Two are equal that name the same token.
-#[derive(Clone, Copy, Debug)]
+#[derive(Clone, Copy)]
 pub struct Key {
     pub id: Id,
 }

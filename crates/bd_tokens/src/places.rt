@@ -7,7 +7,7 @@ ghost use Rattle.bd_tokens.specs.Tokens.{here_in};
 use bd_base::DevId;
 use bd_machine::{Id, Kept, News};
 use bd_parcel::Parcel;
-use bd_view::same_id;
+use bd_rule_view::same_id;
 use std::alloc::Global;
 
 /// How many places there are.

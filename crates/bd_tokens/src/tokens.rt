@@ -1,7 +1,7 @@
 //! What a thread holds of the tokens that are on it.
 ghost use Rattle.std.specs.Prelude.{◌≡◌, ◌+◌, ◌<◌, ◌≤◌, [], length, slice_index_or, option_copied, true, vec_len, IfNone, IfOk, OnOk, OnErr, IsOk, None, Some};
 ghost use Rattle.std.specs.HashMap.{spare};
-ghost use Rattle.bd_changes.specs.Begun.{begun, taken, walk_moved};
+ghost use Rattle.bd_rule_effects.specs.Begun.{begun, taken, walk_moved};
 ghost use Rattle.bd_machine.specs.Alone.{held_after};
 ghost use Rattle.bd_tokens.specs.Places.{is_free, items_with, place_of, AreKept};
 ghost use Rattle.bd_tokens.specs.Tokens.{here_in, left_of, Sets};
@@ -12,9 +12,9 @@ use crate::places::{
     Row, clear_at, count, free_place, kept_at_place, make_places, own_place, put_at, take_at,
 };
 use bd_base::{OutOfMemory, Token, WalkId};
-use bd_changes::{is_at_end, progress_took, stays};
 use bd_machine::{Id, Kept, OpenWalk};
 use bd_parcel::Parcel;
+use bd_rule_effects::{is_at_end, progress_took, stays};
 use std::alloc::Global;
 use std::collections::HashMap;
 use std::marker::Model;

@@ -26,8 +26,8 @@ use Rattle.bd_machine.specs.Step.{after, carried_out, change_in}
 use Rattle.bd_machine.specs.Users.{dev_of}
 use Rattle.bd_machine.specs.View.{blank_part, came_for, part_of, view, Change}
 use Rattle.bd_machine.proofs.Laws.{part-other, part-own}
-use Rattle.bd_opened.proofs.Lists.{dev_self, is_below}
-use Rattle.bd_told.proofs.Kept.{bases_stay}
+use Rattle.bd_disk_pool.proofs.Lists.{dev_self, is_below}
+use Rattle.bd_law_disks.proofs.Kept.{bases_stay}
 use Rattle.bd_top.specs.DiskRows.{content_at_home}
 
 -- what a state has of a device at its home

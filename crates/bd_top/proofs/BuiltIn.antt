@@ -14,8 +14,8 @@ use Rattle.bd_config.specs.declared.command.Command.{Command}
 use Rattle.bd_config.specs.declared.command.Command.TheVariants.{Malloc, Passthru}
 use Rattle.bd_outside.specs.File.{Told}
 use Rattle.bd_outside.specs.Host.{HostState}
-use Rattle.bd_top.specs.declared.configure.ConfigureNo.{ConfigureNo}
-use Rattle.bd_top.specs.declared.configure.ConfigureNo.TheVariants.{OutOfMemory, Text, Shape, Method}
+use Rattle.bd_top.specs.declared.configure.ConfigureError.{ConfigureError}
+use Rattle.bd_top.specs.declared.configure.ConfigureError.TheVariants.{OutOfMemory, Text, Shape, Method}
 use Rattle.bd_top.specs.declared.fault.Fault.{Fault}
 use Rattle.bd_top.specs.declared.fault.Fault.TheVariants as faults
 use Rattle.bd_top.specs.Configure.{CauseBy, Configures, IsRefused, NotRefused}
@@ -74,7 +74,7 @@ never : (index : ℕ) (code : ℤ) → NotRefused commands index code → ⊥
 never index code refused = refused
 
 -- nothing but want of memory keeps it from being read as its commands
-pub nothing_wrong_with_it : (why : ConfigureNo) → CauseBy NotRefused built_in why → why ≡ OutOfMemory
+pub nothing_wrong_with_it : (why : ConfigureError) → CauseBy NotRefused built_in why → why ≡ OutOfMemory
 nothing_wrong_with_it why cause = nothing_wrong NotRefused built_in commands is_config refl never why cause
 
 pub is_text : CauseBy NotRefused built_in Text → ⊥

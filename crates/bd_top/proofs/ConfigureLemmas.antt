@@ -7,27 +7,27 @@ use Rattle.bd_config.specs.declared.command.Command.{Command}
 use Rattle.bd_building.specs.Progress.{Progress, configured}
 use Rattle.bd_building.specs.Served.{first_unserved}
 use Rattle.bd_outside.specs.File.{Told}
-use Rattle.bd_top.specs.declared.configure.ConfigureNo.{ConfigureNo}
-use Rattle.bd_top.specs.declared.configure.ConfigureNo.TheVariants.{OutOfMemory, Text, Shape, Method}
+use Rattle.bd_top.specs.declared.configure.ConfigureError.{ConfigureError}
+use Rattle.bd_top.specs.declared.configure.ConfigureError.TheVariants.{OutOfMemory, Text, Shape, Method}
 use Rattle.bd_top.specs.Configure.{IsUnserved, IsRefused, IsRefusedAnyhow, IsUndone, NotRefused, CommandsCause, UnservedCause, CauseBy}
 use Rattle.bd_top.specs.Disks.{AreDisksOf}
 
 -- ---- the step that found it
 
-pub read_cause : (bytes : List ℕ) (no : ConfigureNo) → CommandsCause bytes no → CauseBy NotRefused bytes no
+pub read_cause : (bytes : List ℕ) (no : ConfigureError) → CommandsCause bytes no → CauseBy NotRefused bytes no
 read_cause bytes OutOfMemory cause = tt
 read_cause bytes Text cause = cause
 read_cause bytes (Shape place) cause = cause
 read_cause bytes (Method index code) cause = inl cause
 
-pub unserved_cause : (bytes : List ℕ) (commands : List Command) (no : ConfigureNo) → IsConfig bytes commands → UnservedCause commands no → CauseBy NotRefused bytes no
+pub unserved_cause : (bytes : List ℕ) (commands : List Command) (no : ConfigureError) → IsConfig bytes commands → UnservedCause commands no → CauseBy NotRefused bytes no
 unserved_cause bytes commands OutOfMemory asks cause = tt
 unserved_cause bytes commands Text asks cause = absurd cause
 unserved_cause bytes commands (Shape place) asks cause = absurd cause
 unserved_cause bytes commands (Method index code) asks cause = inr (record { commands = commands; asks = asks; why = inl cause })
 
 -- a cause before any command is done is one however commands are refused
-pub cause_by : (Refused : List Command → ℕ → ℤ → Type 0) (bytes : List ℕ) (no : ConfigureNo) → CauseBy NotRefused bytes no → CauseBy Refused bytes no
+pub cause_by : (Refused : List Command → ℕ → ℤ → Type 0) (bytes : List ℕ) (no : ConfigureError) → CauseBy NotRefused bytes no → CauseBy Refused bytes no
 cause_by Refused bytes OutOfMemory cause = tt
 cause_by Refused bytes Text cause = cause
 cause_by Refused bytes (Shape place) cause = cause
@@ -77,7 +77,7 @@ module _ (Refused : List Command → ℕ → ℤ → Type 0) (bytes : List ℕ) 
       go (inr refused) = never index code (subst (λ (cs : List Command). Refused cs index code) same refused.1)
 
   -- nothing but want of memory is wrong with bytes whose commands are all served and never refused
-  pub nothing_wrong : (no : ConfigureNo) → CauseBy Refused bytes no → no ≡ OutOfMemory
+  pub nothing_wrong : (no : ConfigureError) → CauseBy Refused bytes no → no ≡ OutOfMemory
   nothing_wrong OutOfMemory cause = refl
   nothing_wrong Text cause = absurd (cause asks.value asks.json)
   nothing_wrong (Shape place) cause = absurd (config_has_shape bytes commands place asks cause)

@@ -14,11 +14,11 @@ use Rattle.bd_disks.specs.Rows.{disk_of}
 use Rattle.bd_machine.specs.BlockMap.{base_of_row, has_kind, home, is_base_kind, row_of}
 use Rattle.bd_machine.specs.Content.{content_told}
 use Rattle.bd_node.specs.Disks.{blocks_in, told_at, told_of}
-use Rattle.bd_opened.specs.Covering.{AreApart, Begun, IsAtHome}
-use Rattle.bd_opened.proofs.Lists.{found}
+use Rattle.bd_disk_pool.specs.Covering.{AreApart, Begun, IsAtHome}
+use Rattle.bd_disk_pool.proofs.Lists.{found}
 use Rattle.bd_outside.specs.Disk.{DiskState}
-use Rattle.bd_storage.specs.Contents.{content_if, contents_of}
-use Rattle.bd_told.specs.Told.{AreBasesLowest}
+use Rattle.bd_disks.specs.Contents.{contents_of, content_if}
+use Rattle.bd_law_disks.specs.Told.{AreBasesLowest}
 
 -- base devices that stand on nothing by the rows of their setup do so by their numbers
 pub bases_lowest : (setup : Setup) → AreBasesAlone setup → AreBasesLowest setup

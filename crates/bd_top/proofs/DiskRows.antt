@@ -31,22 +31,22 @@ use Rattle.bd_machine.specs.Run.{state_after}
 use Rattle.bd_machine.specs.Start.{start}
 use Rattle.bd_machine.specs.Users.{dev_of}
 use Rattle.bd_node.specs.Disks.{disks_at, told_of, SaysOfDisks}
-use Rattle.bd_opened.specs.Closing.{closing_all}
-use Rattle.bd_opened.specs.Covering.{AreClosed, AreDone, Begun, HasAdded, HaveGoneOn, IsClosed, IsDone}
-use Rattle.bd_opened.specs.Held.{none_held, with_disk, Held}
-use Rattle.bd_opened.proofs.Lists.{at_last, at_second, has_at, is_below, some_same}
-use Rattle.bd_opened.proofs.EachClosed.{name_same, untold_all}
-use Rattle.bd_opened.proofs.AllThere.{all_are_closed}
-use Rattle.bd_opened.proofs.Opens.{closed_so, none_open, one_more as one_more_open, raised}
+use Rattle.bd_disk_pool.specs.Closing.{closing_all}
+use Rattle.bd_disk_pool.specs.Covering.{AreClosed, AreDone, Begun, HasAdded, HaveGoneOn, IsClosed, IsDone}
+use Rattle.bd_disk_pool.specs.Held.{none_held, with_disk, Held}
+use Rattle.bd_disk_pool.proofs.Lists.{at_last, at_second, has_at, is_below, some_same}
+use Rattle.bd_disk_pool.proofs.EachClosed.{name_same, untold_all}
+use Rattle.bd_disk_pool.proofs.AllThere.{all_are_closed}
+use Rattle.bd_disk_pool.proofs.Opens.{closed_so, none_open, one_more as one_more_open, raised}
 use Rattle.bd_outside.specs.Count.{last_count, one_more, Rises}
 use Rattle.bd_outside.specs.Disk.{closing_of, DiskState, HasWholeBlocks, IsOpenedOver}
 use Rattle.bd_outside.specs.File.{Told}
 use Rattle.bd_outside.specs.Host.{HostState, IsLater, Opens}
 use Rattle.bd_outside.specs.Opening.{close_at, closed_row, open_row, openings_closed, AddsOpening}
 use Rattle.bd_outside.specs.declared.opening.Opening.{Opening}
-use Rattle.bd_served.specs.Served.{served_in, ServedPiece}
-use Rattle.bd_storage.specs.Contents.{content_if, contents_of}
-use Rattle.bd_storage.specs.Served.{DidPieces, DidPiecesIf}
+use Rattle.bd_law_served.specs.Served.{served_in, ServedPiece}
+use Rattle.bd_disks.specs.Contents.{contents_of, content_if}
+use Rattle.bd_disks.specs.Done.{DidPieces, DidPiecesIf}
 use Rattle.bd_top.proofs.AtHome.{base_last, begins_as_told}
 use Rattle.bd_top.proofs.Contents.{told_at_home}
 use Rattle.bd_top.specs.DiskRows.{content_at_home, is_fault, is_flushed, AreFresh, AreSetOut, HasDisks, IsDiskOf, IsFresh, IsSetOut, OpensFor, StandOpen, TellDisks, TellsSo}

@@ -5,23 +5,23 @@ use Rattle.bd_base.specs.Errno.{number_of}
 use Rattle.bd_base.specs.declared.request.Errno.{Errno}
 use Rattle.bd_building.specs.Disks.{DiskFile, file_of, other_disks}
 use Rattle.bd_building.specs.Progress.{Progress}
-use Rattle.bd_building.specs.declared.building.BuildNo.{BuildNo}
-use Rattle.bd_building.specs.declared.building.BuildNo.TheVariants as builds
+use Rattle.bd_building.specs.declared.building.BuildError.{BuildError}
+use Rattle.bd_building.specs.declared.building.BuildError.TheVariants as builds
 use Rattle.bd_config.specs.Commands.{minus}
 use Rattle.bd_config.specs.declared.command.Command.{Command}
-use Rattle.bd_opened.specs.Closing.{KeepsCounts}
-use Rattle.bd_opened.proofs.EachClosed.{kept_same}
+use Rattle.bd_disk_pool.specs.Closing.{KeepsCounts}
+use Rattle.bd_disk_pool.proofs.EachClosed.{kept_same}
 use Rattle.bd_outside.specs.Count.{Rises}
 use Rattle.bd_outside.specs.File.{Told, IsAbsent}
 use Rattle.bd_outside.specs.Host.{HostState, IsLater, FailsAt, Misses}
-use Rattle.bd_top.specs.declared.configure.ConfigureNo.{ConfigureNo}
-use Rattle.bd_top.specs.declared.configure.ConfigureNo.TheVariants as config_nos
+use Rattle.bd_top.specs.declared.configure.ConfigureError.{ConfigureError}
+use Rattle.bd_top.specs.declared.configure.ConfigureError.TheVariants as config_nos
 use Rattle.bd_top.specs.declared.fault.Fault.{Fault}
 use Rattle.bd_top.specs.declared.fault.Fault.TheVariants as faults
-use Rattle.bd_top.specs.declared.files.ReadNo.{ReadNo}
-use Rattle.bd_top.specs.declared.files.ReadNo.TheVariants as nos
-use Rattle.bd_top.specs.declared.inputs.ScriptNo.{ScriptNo}
-use Rattle.bd_top.specs.declared.inputs.ScriptNo.TheVariants as script_nos
+use Rattle.bd_top.specs.declared.files.ReadError.{ReadError}
+use Rattle.bd_top.specs.declared.files.ReadError.TheVariants as errors
+use Rattle.bd_top.specs.declared.inputs.ScriptError.{ScriptError}
+use Rattle.bd_top.specs.declared.inputs.ScriptError.TheVariants as script_nos
 use Rattle.bd_top.specs.Configure.{CauseBy, IsRefused, NotRefused}
 use Rattle.bd_top.specs.Disks.{AreDisksOf, BeginsWith, IsNamed, MayHave, MayGive, Opens}
 use Rattle.bd_top.specs.Fault.{IsFaultOf, IsScriptFault, config_fault}
@@ -90,58 +90,58 @@ module _ (old mid end new : HostState) (name config jobs : List ℕ) (threads : 
   TooLongNow text = IsDue old config jobs threads text × IsTooLong (old.told text)
 
   -- the fault of a file that wasn't read
-  pub of_read : (why : ReadNo) (fault : Fault) → ReadCause mid end name why → IsFaultOf name why fault → FileCause old new config jobs threads fault
-  of_read nos.Absent faults.Usage cause is = absurd is
-  of_read nos.Absent (faults.NoFile text) cause is = subst MissesNow (sym is) (inl due, absent_at (mid.told name) (old.told name) (later.told name) cause.0, misses_kept old end new name (misses_from old mid end name later cause.1) kept)
-  of_read nos.Absent (faults.TooLong text) cause is = absurd is
-  of_read nos.Absent (faults.ReadFault text) cause is = absurd is
-  of_read nos.Absent faults.ConfigText cause is = absurd is
-  of_read nos.Absent (faults.ConfigShape place) cause is = absurd is
-  of_read nos.Absent (faults.Method index code) cause is = absurd is
-  of_read nos.Absent (faults.JobText line) cause is = absurd is
-  of_read nos.Absent faults.WriteFault cause is = absurd is
-  of_read nos.Absent faults.OutOfMemory cause is = tt
-  of_read nos.TooLong faults.Usage cause is = absurd is
-  of_read nos.TooLong (faults.NoFile text) cause is = absurd is
-  of_read nos.TooLong (faults.TooLong text) cause is = subst TooLongNow (sym is) (due, subst IsTooLong (later.told name) cause)
-  of_read nos.TooLong (faults.ReadFault text) cause is = absurd is
-  of_read nos.TooLong faults.ConfigText cause is = absurd is
-  of_read nos.TooLong (faults.ConfigShape place) cause is = absurd is
-  of_read nos.TooLong (faults.Method index code) cause is = absurd is
-  of_read nos.TooLong (faults.JobText line) cause is = absurd is
-  of_read nos.TooLong faults.WriteFault cause is = absurd is
-  of_read nos.TooLong faults.OutOfMemory cause is = tt
-  of_read nos.Failed faults.Usage cause is = absurd is
-  of_read nos.Failed (faults.NoFile text) cause is = absurd is
-  of_read nos.Failed (faults.TooLong text) cause is = absurd is
-  of_read nos.Failed (faults.ReadFault text) cause is = subst FailsNow (sym is) (inl due, fails_kept old end new name (fails_from old mid end name later cause) kept)
-  of_read nos.Failed faults.ConfigText cause is = absurd is
-  of_read nos.Failed (faults.ConfigShape place) cause is = absurd is
-  of_read nos.Failed (faults.Method index code) cause is = absurd is
-  of_read nos.Failed (faults.JobText line) cause is = absurd is
-  of_read nos.Failed faults.WriteFault cause is = absurd is
-  of_read nos.Failed faults.OutOfMemory cause is = tt
-  of_read nos.OutOfMemory faults.Usage cause is = absurd is
-  of_read nos.OutOfMemory (faults.NoFile text) cause is = absurd is
-  of_read nos.OutOfMemory (faults.TooLong text) cause is = absurd is
-  of_read nos.OutOfMemory (faults.ReadFault text) cause is = absurd is
-  of_read nos.OutOfMemory faults.ConfigText cause is = absurd is
-  of_read nos.OutOfMemory (faults.ConfigShape place) cause is = absurd is
-  of_read nos.OutOfMemory (faults.Method index code) cause is = absurd is
-  of_read nos.OutOfMemory (faults.JobText line) cause is = absurd is
-  of_read nos.OutOfMemory faults.WriteFault cause is = absurd is
-  of_read nos.OutOfMemory faults.OutOfMemory cause is = tt
+  pub of_read : (why : ReadError) (fault : Fault) → ReadCause mid end name why → IsFaultOf name why fault → FileCause old new config jobs threads fault
+  of_read errors.Absent faults.Usage cause is = absurd is
+  of_read errors.Absent (faults.NoFile text) cause is = subst MissesNow (sym is) (inl due, absent_at (mid.told name) (old.told name) (later.told name) cause.0, misses_kept old end new name (misses_from old mid end name later cause.1) kept)
+  of_read errors.Absent (faults.TooLong text) cause is = absurd is
+  of_read errors.Absent (faults.ReadFault text) cause is = absurd is
+  of_read errors.Absent faults.ConfigText cause is = absurd is
+  of_read errors.Absent (faults.ConfigShape place) cause is = absurd is
+  of_read errors.Absent (faults.Method index code) cause is = absurd is
+  of_read errors.Absent (faults.JobText line) cause is = absurd is
+  of_read errors.Absent faults.WriteFault cause is = absurd is
+  of_read errors.Absent faults.OutOfMemory cause is = tt
+  of_read errors.TooLong faults.Usage cause is = absurd is
+  of_read errors.TooLong (faults.NoFile text) cause is = absurd is
+  of_read errors.TooLong (faults.TooLong text) cause is = subst TooLongNow (sym is) (due, subst IsTooLong (later.told name) cause)
+  of_read errors.TooLong (faults.ReadFault text) cause is = absurd is
+  of_read errors.TooLong faults.ConfigText cause is = absurd is
+  of_read errors.TooLong (faults.ConfigShape place) cause is = absurd is
+  of_read errors.TooLong (faults.Method index code) cause is = absurd is
+  of_read errors.TooLong (faults.JobText line) cause is = absurd is
+  of_read errors.TooLong faults.WriteFault cause is = absurd is
+  of_read errors.TooLong faults.OutOfMemory cause is = tt
+  of_read errors.Failed faults.Usage cause is = absurd is
+  of_read errors.Failed (faults.NoFile text) cause is = absurd is
+  of_read errors.Failed (faults.TooLong text) cause is = absurd is
+  of_read errors.Failed (faults.ReadFault text) cause is = subst FailsNow (sym is) (inl due, fails_kept old end new name (fails_from old mid end name later cause) kept)
+  of_read errors.Failed faults.ConfigText cause is = absurd is
+  of_read errors.Failed (faults.ConfigShape place) cause is = absurd is
+  of_read errors.Failed (faults.Method index code) cause is = absurd is
+  of_read errors.Failed (faults.JobText line) cause is = absurd is
+  of_read errors.Failed faults.WriteFault cause is = absurd is
+  of_read errors.Failed faults.OutOfMemory cause is = tt
+  of_read errors.OutOfMemory faults.Usage cause is = absurd is
+  of_read errors.OutOfMemory (faults.NoFile text) cause is = absurd is
+  of_read errors.OutOfMemory (faults.TooLong text) cause is = absurd is
+  of_read errors.OutOfMemory (faults.ReadFault text) cause is = absurd is
+  of_read errors.OutOfMemory faults.ConfigText cause is = absurd is
+  of_read errors.OutOfMemory (faults.ConfigShape place) cause is = absurd is
+  of_read errors.OutOfMemory (faults.Method index code) cause is = absurd is
+  of_read errors.OutOfMemory (faults.JobText line) cause is = absurd is
+  of_read errors.OutOfMemory faults.WriteFault cause is = absurd is
+  of_read errors.OutOfMemory faults.OutOfMemory cause is = tt
 
 -- the fault of a configuration that wasn't read
-pub of_bytes : (old new : HostState) (config jobs : List ℕ) (threads : ℕ) (why : ReadNo) (fault : Fault) → ReadCause old new config why → IsFaultOf config why fault → FileCause old new config jobs threads fault
+pub of_bytes : (old new : HostState) (config jobs : List ℕ) (threads : ℕ) (why : ReadError) (fault : Fault) → ReadCause old new config why → IsFaultOf config why fault → FileCause old new config jobs threads fault
 of_bytes old new config jobs threads why fault cause is = of_read old old new new config config jobs threads (inl refl) (later_same old) (kept_same new) why fault cause is
 
 -- the fault of a configuration whose bytes ask for no commands that are served
-pub of_config : (old new : HostState) (config jobs : List ℕ) (threads : ℕ) (bytes : List ℕ) (why : ConfigureNo) → IsRead (old.told config) bytes → CauseBy NotRefused bytes why
+pub of_config : (old new : HostState) (config jobs : List ℕ) (threads : ℕ) (bytes : List ℕ) (why : ConfigureError) → IsRead (old.told config) bytes → CauseBy NotRefused bytes why
     → FileCause old new config jobs threads (config_fault why)
 of_config old new config jobs threads bytes why read cause = go why (cause_by (IsRefused threads old.told) bytes why cause)
   where
-    go : (no : ConfigureNo) → CauseBy (IsRefused threads old.told) bytes no → FileCause old new config jobs threads (config_fault no)
+    go : (no : ConfigureError) → CauseBy (IsRefused threads old.told) bytes no → FileCause old new config jobs threads (config_fault no)
     go config_nos.OutOfMemory cause = tt
     go config_nos.Text cause = record { bytes = bytes; read = read; outside = cause }
     go (config_nos.Shape place) cause = record { bytes = bytes; read = read; outside = cause }
@@ -149,7 +149,7 @@ of_config old new config jobs threads bytes why read cause = go why (cause_by (I
 
 -- the fault of a script that gives no scripts
 module _ (old mid end new : HostState) (config jobs : List ℕ) (threads : ℕ) (made : IsConfigured threads old.told (old.told config)) (later : IsLater old mid) (kept : KeepsCounts end new) where
-  pub of_script : (why : ScriptNo) (fault : Fault) → ScriptCause mid end jobs threads why → IsScriptFault jobs why fault → FileCause old new config jobs threads fault
+  pub of_script : (why : ScriptError) (fault : Fault) → ScriptCause mid end jobs threads why → IsScriptFault jobs why fault → FileCause old new config jobs threads fault
   of_script (script_nos.File why) fault cause is = of_read old mid end new jobs config jobs threads (inr (refl, made)) later kept why fault cause is
   of_script (script_nos.Text line) fault cause is = subst (FileCause old new config jobs threads) (sym is) (made, inl (subst (λ (t : Told). IsNoText threads t line) (later.told jobs) cause))
   of_script (script_nos.NotBuilt line) fault cause is = subst (FileCause old new config jobs threads) (sym is) (made, inr (subst (λ (t : Told). IsNotSupported threads t line) (later.told jobs) cause))
@@ -179,7 +179,7 @@ module _ (old new : HostState) (file : DiskFile) (R : ℕ → ℤ → Type 0) wh
   abbrev FailsDisk : List ℕ → Type 0
   FailsDisk text = IsNamed (Some file) text × FailsAt old new text
 
-  pub of_absent : (fault : Fault) → IsAbsent (old.told file.name) → Misses old new file.name → IsFaultOf file.name nos.Absent fault → DoingCause old new (IsNamed (Some file)) R fault
+  pub of_absent : (fault : Fault) → IsAbsent (old.told file.name) → Misses old new file.name → IsFaultOf file.name errors.Absent fault → DoingCause old new (IsNamed (Some file)) R fault
   of_absent faults.Usage absent misses is = absurd is
   of_absent (faults.NoFile text) absent misses is = subst MissesDisk (sym is) (refl, absent, misses)
   of_absent (faults.TooLong text) absent misses is = absurd is
@@ -191,7 +191,7 @@ module _ (old new : HostState) (file : DiskFile) (R : ℕ → ℤ → Type 0) wh
   of_absent faults.WriteFault absent misses is = absurd is
   of_absent faults.OutOfMemory absent misses is = tt
 
-  pub of_failed : (fault : Fault) → FailsAt old new file.name → IsFaultOf file.name nos.Failed fault → DoingCause old new (IsNamed (Some file)) R fault
+  pub of_failed : (fault : Fault) → FailsAt old new file.name → IsFaultOf file.name errors.Failed fault → DoingCause old new (IsNamed (Some file)) R fault
   of_failed faults.Usage fails is = absurd is
   of_failed (faults.NoFile text) fails is = absurd is
   of_failed (faults.TooLong text) fails is = absurd is
@@ -204,7 +204,7 @@ module _ (old new : HostState) (file : DiskFile) (R : ℕ → ℤ → Type 0) wh
   of_failed faults.OutOfMemory fails is = tt
 
 -- the fault of a command that is refused
-pub of_build : (old new : HostState) (N : List ℕ → Type 0) (R : ℕ → ℤ → Type 0) (no : BuildNo) (fault : Fault) → ((index : ℕ) (errno : Errno) → no ≡ builds.Refused index errno → R index (minus (number_of errno)))
+pub of_build : (old new : HostState) (N : List ℕ → Type 0) (R : ℕ → ℤ → Type 0) (no : BuildError) (fault : Fault) → ((index : ℕ) (errno : Errno) → no ≡ builds.Refused index errno → R index (minus (number_of errno)))
     → IsBuildFault no fault → DoingCause old new N R fault
 of_build old new N R builds.OutOfMemory fault refusals is = subst (DoingCause old new N R) (sym is) tt
 of_build old new N R (builds.Refused index errno) fault refusals is = subst (DoingCause old new N R) (sym is) (refusals index errno refl)

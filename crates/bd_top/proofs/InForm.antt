@@ -11,8 +11,8 @@ use Rattle.bd_jobs.proofs.ReadLemmas.{from-append, from-none}
 use Rattle.bd_outside.specs.File.{Told, Content}
 use Rattle.bd_outside.specs.Host.{HostState}
 use Rattle.bd_outside.specs.Sink.{SinkState}
-use Rattle.bd_top.specs.declared.configure.ConfigureNo.{ConfigureNo}
-use Rattle.bd_top.specs.declared.configure.ConfigureNo.TheVariants as config_nos
+use Rattle.bd_top.specs.declared.configure.ConfigureError.{ConfigureError}
+use Rattle.bd_top.specs.declared.configure.ConfigureError.TheVariants as config_nos
 use Rattle.bd_top.specs.declared.fault.Fault.{Fault}
 use Rattle.bd_top.specs.declared.fault.Fault.TheVariants as faults
 use Rattle.bd_top.specs.Built.{lines_in, AreBuilt, is_built_line, is_not_built_at, IsFirstNotBuilt}
@@ -32,7 +32,7 @@ read_told t file bytes e read =
 
 -- ---- no other fault
 
-config_inside : (threads : ℕ) (told : List ℕ → Told) (t : Told) (file : List ℕ) (why : ConfigureNo) → t ≡ Content file → ConfiguresAnyhow threads told file → IsOutside threads told t why → why ≡ config_nos.OutOfMemory
+config_inside : (threads : ℕ) (told : List ℕ → Told) (t : Told) (file : List ℕ) (why : ConfigureError) → t ≡ Content file → ConfiguresAnyhow threads told file → IsOutside threads told t why → why ≡ config_nos.OutOfMemory
 config_inside threads told t file why e means out =
     let P : List ℕ → Type 0 = λ bytes. ConfigureCause threads told bytes why in
     nothing_wrong (IsRefused threads told) file means.commands means.asks means.served (λ index code. not_refused threads told means.commands index code means.made) why
@@ -101,7 +101,7 @@ module _ (asked : Arguments) (old new : HostState) (before after : SinkState) (f
   none_too_long name (inr due) long = not_too_long (old.told name) form.jobs (ap old.told due.0 ∙ form.jobs_told) form.jobs_short long
 
   -- nothing is wrong with the bytes of the configuration
-  config_gives_none : (why : ConfigureNo) → IsOutside asked.playing.threads old.told (old.told asked.config) why → why ≡ config_nos.OutOfMemory
+  config_gives_none : (why : ConfigureError) → IsOutside asked.playing.threads old.told (old.told asked.config) why → why ≡ config_nos.OutOfMemory
   config_gives_none why out = config_inside asked.playing.threads old.told (old.told asked.config) form.config why form.config_told form.config_means out
 
   -- nor with those of the script

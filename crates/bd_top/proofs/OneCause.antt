@@ -6,14 +6,14 @@ use Rattle.serde_json.specs.Data.{Data}
 use Rattle.bd_base.specs.Errno.{number_of}
 use Rattle.bd_base.specs.declared.request.Errno.{Errno}
 use Rattle.bd_config.specs.Commands.{minus}
-use Rattle.bd_config.specs.Config.{IsJson, IsShapeNo, IsMethodNo, HasShape, first_outside, shape_fault, first_refused, answers_of}
+use Rattle.bd_config.specs.Config.{IsJson, IsShapeError, IsMethodError, HasShape, first_outside, shape_fault, first_refused, answers_of}
 use Rattle.bd_config.specs.Shape.{subsystems_of, is_subsystem}
 use Rattle.bd_config.proofs.Exact.{config_once, config_has_shape, config_has_commands}
 use Rattle.bd_config.specs.declared.command.Command.{Command}
 use Rattle.bd_building.specs.Served.{first_unserved}
 use Rattle.bd_outside.specs.File.{Told}
-use Rattle.bd_top.specs.declared.configure.ConfigureNo.{ConfigureNo}
-use Rattle.bd_top.specs.declared.configure.ConfigureNo.TheVariants.{OutOfMemory, Text, Shape, Method}
+use Rattle.bd_top.specs.declared.configure.ConfigureError.{ConfigureError}
+use Rattle.bd_top.specs.declared.configure.ConfigureError.TheVariants.{OutOfMemory, Text, Shape, Method}
 use Rattle.bd_top.specs.Configure.{CauseBy, IsUnserved, IsRefused, IsRefusedAnyhow, IsUndone}
 
 -- the same index and the same code
@@ -32,13 +32,13 @@ one_of o x y p q = ap (some_or x) (sym p ∙ q)
 same_value : (bytes : List ℕ) (v w : Data) → IsJson bytes v → IsJson bytes w → v ≡ w
 same_value bytes v w a b = one_of _ v w a.reads b.reads
 
-shape_once : (bytes : List ℕ) (m n : ℕ) → IsShapeNo bytes m → IsShapeNo bytes n → m ≡ n
+shape_once : (bytes : List ℕ) (m n : ℕ) → IsShapeError bytes m → IsShapeError bytes n → m ≡ n
 shape_once bytes m n p q = one_of _ m n p.first (ap (λ v. shape_fault (subsystems_of v)) (same_value bytes _ _ p.json q.json) ∙ q.first)
 
 same_subsystems : (v w : Data) (a b : List Data) → v ≡ w → HasShape v a → HasShape w b → a ≡ b
 same_subsystems v w a b e p q = one_of _ a b p.found (ap subsystems_of e ∙ q.found)
 
-method_once : (bytes : List ℕ) (i j : ℕ) (c d : ℤ) → IsMethodNo bytes i c → IsMethodNo bytes j d → Same i c j d
+method_once : (bytes : List ℕ) (i j : ℕ) (c d : ℤ) → IsMethodError bytes i c → IsMethodError bytes j d → Same i c j d
 method_once bytes i j c d p q =
     let e : p.refuses.subsystems ≡ q.refuses.subsystems = same_subsystems _ _ _ _ (same_value bytes _ _ p.json q.json) p.refuses.shape q.refuses.shape in
     one_of _ (i, c) (j, d) p.refuses.first (ap (λ s. first_refused 0 (answers_of s)) e ∙ q.refuses.first)
@@ -55,7 +55,7 @@ none_is_some o x none some =
     let both : None ≡ Some x = sym none ∙ some in
     absurd (cc)
 
-shape_or_method : (bytes : List ℕ) (n i : ℕ) (c : ℤ) → IsShapeNo bytes n → IsMethodNo bytes i c → ⊥
+shape_or_method : (bytes : List ℕ) (n i : ℕ) (c : ℤ) → IsShapeError bytes n → IsMethodError bytes i c → ⊥
 shape_or_method bytes n i c p q =
     let found : subsystems_of p.value ≡ Some q.refuses.subsystems = ap subsystems_of (same_value bytes _ _ p.json q.json) ∙ q.refuses.shape.found in
     none_is_some (shape_fault (subsystems_of p.value)) n (ap shape_fault found ∙ inside 1 q.refuses.subsystems q.refuses.shape.each) p.first
@@ -78,7 +78,7 @@ json_of : (Refused : List Command → ℕ → ℤ → Type 0) (bytes : List ℕ)
 json_of Refused bytes i c (inl p) = (p.value, p.json)
 json_of Refused bytes i c (inr p) = (p.asks.value, p.asks.json)
 
-no_shape : (Refused : List Command → ℕ → ℤ → Type 0) (bytes : List ℕ) (n i : ℕ) (c : ℤ) → IsShapeNo bytes n → CauseBy Refused bytes (Method i c) → ⊥
+no_shape : (Refused : List Command → ℕ → ℤ → Type 0) (bytes : List ℕ) (n i : ℕ) (c : ℤ) → IsShapeError bytes n → CauseBy Refused bytes (Method i c) → ⊥
 no_shape Refused bytes n i c p (inl q) = shape_or_method bytes n i c p q
 no_shape Refused bytes n i c p (inr q) = config_has_shape bytes q.commands n q.asks p
 
@@ -118,7 +118,7 @@ module _ (P Q : List Command → ℕ → ℤ → Type 0) (once : (commands : Lis
   method_cause_once bytes i j c d (inr p) (inr q) = undone_once bytes i j c d p q
 
   -- two causes of one configuration are one, but for want of memory
-  pub one_cause : (bytes : List ℕ) (a b : ConfigureNo) → CauseBy P bytes a → CauseBy Q bytes b → (a ≡ b) ⊎ ((a ≡ OutOfMemory) ⊎ (b ≡ OutOfMemory))
+  pub one_cause : (bytes : List ℕ) (a b : ConfigureError) → CauseBy P bytes a → CauseBy Q bytes b → (a ≡ b) ⊎ ((a ≡ OutOfMemory) ⊎ (b ≡ OutOfMemory))
   one_cause bytes OutOfMemory b p q = inr (inl refl)
   one_cause bytes Text OutOfMemory p q = inr (inr refl)
   one_cause bytes Text Text p q = inl refl

@@ -16,8 +16,8 @@ use Rattle.bd_outside.specs.File.{Told, Content}
 use Rattle.bd_outside.specs.Host.{HostState}
 use Rattle.bd_outside.specs.Sink.{SinkState}
 use Rattle.bd_building.specs.Progress.{Progress}
-use Rattle.bd_top.specs.declared.configure.ConfigureNo.{ConfigureNo}
-use Rattle.bd_top.specs.declared.configure.ConfigureNo.TheVariants as config_nos
+use Rattle.bd_top.specs.declared.configure.ConfigureError.{ConfigureError}
+use Rattle.bd_top.specs.declared.configure.ConfigureError.TheVariants as config_nos
 use Rattle.bd_top.specs.declared.fault.Fault.{Fault}
 use Rattle.bd_top.specs.declared.fault.Fault.TheVariants as faults
 use Rattle.bd_top.specs.Built.{lines_in, is_built_line, is_not_built_at, is_built_before, IsFirstNotBuilt}
@@ -112,7 +112,7 @@ line_once threads m n t file e (inr p) (inr q) = supported_once threads m n t fi
 
 -- ---- one thing
 
-same_fault : (threads : ℕ) (told : List ℕ → Told) (config : List ℕ) (why given : ConfigureNo) → ConfigureCauseAnyhow threads told config why → ¬ (why ≡ config_nos.OutOfMemory) → ConfigureCause threads told config given
+same_fault : (threads : ℕ) (told : List ℕ → Told) (config : List ℕ) (why given : ConfigureError) → ConfigureCauseAnyhow threads told config why → ¬ (why ≡ config_nos.OutOfMemory) → ConfigureCause threads told config given
     → (config_fault given ≡ config_fault why) ⊎ (config_fault given ≡ faults.OutOfMemory)
 same_fault threads told config why given cause known other = go (one_cause (IsRefusedAnyhow threads told) (IsRefused threads told) (refused_once threads told) config why given cause other)
   where
@@ -121,7 +121,7 @@ same_fault threads told config why given cause known other = go (one_cause (IsRe
     go (inr (inl e)) = absurd (known e)
     go (inr (inr e)) = inr (ap config_fault e)
 
-outside_bytes : (threads : ℕ) (told : List ℕ → Told) (t : Told) (config : List ℕ) (why : ConfigureNo) → t ≡ Content config → IsOutside threads told t why → ConfigureCause threads told config why
+outside_bytes : (threads : ℕ) (told : List ℕ → Told) (t : Told) (config : List ℕ) (why : ConfigureError) → t ≡ Content config → IsOutside threads told t why → ConfigureCause threads told config why
 outside_bytes threads told t config why e out = subst (λ (bytes : List ℕ). ConfigureCause threads told bytes why) (read_told t config out.bytes e out.read) out.outside
 
 module _ (words : List (List ℕ)) (host : HostState) (fault : Fault) (wrong : IsWrong words host fault) where
@@ -143,19 +143,19 @@ module _ (words : List (List ℕ)) (host : HostState) (fault : Fault) (wrong : I
       (λ index code. not_refused_anyhow threads host.told is.means.commands index code is.disks devices is.opened is.means.made) bad.why bad.cause)
 
   -- of a configuration that makes devices the bytes have no cause
-  no_cause : (why : ConfigureNo) → IsScriptWrong threads host.told wrong.config jobs_told fault → IsOutside threads host.told config_told why → why ≡ config_nos.OutOfMemory
+  no_cause : (why : ConfigureError) → IsScriptWrong threads host.told wrong.config jobs_told fault → IsOutside threads host.told config_told why → why ≡ config_nos.OutOfMemory
   no_cause why bad out =
       nothing_wrong (IsRefused threads host.told) wrong.config bad.means.commands bad.means.asks bad.means.served
       (λ index code. not_refused threads host.told bad.means.commands index code bad.means.made) why (outside_bytes threads host.told config_told wrong.config why wrong.told out)
 
-  of_config : (given : ConfigureNo) → (given ≡ config_nos.OutOfMemory → ⊥) → IsOutside threads host.told config_told given → config_fault given ≡ fault
+  of_config : (given : ConfigureError) → (given ≡ config_nos.OutOfMemory → ⊥) → IsOutside threads host.told config_told given → config_fault given ≡ fault
   of_config given some out = go wrong.wrong
     where
       one : (bad : IsConfigWrong threads host.told wrong.config fault) → (config_fault given ≡ config_fault bad.why) ⊎ (config_fault given ≡ faults.OutOfMemory) → config_fault given ≡ fault
       one bad (inl e) = e ∙ sym bad.is
       one bad (inr e) = absurd (some (memory given e))
         where
-          memory : (why : ConfigureNo) → config_fault why ≡ faults.OutOfMemory → why ≡ config_nos.OutOfMemory
+          memory : (why : ConfigureError) → config_fault why ≡ faults.OutOfMemory → why ≡ config_nos.OutOfMemory
           memory config_nos.OutOfMemory e = refl
           memory config_nos.Text e = absurd (cc)
           memory (config_nos.Shape place) e = absurd (cc)

@@ -7,7 +7,7 @@ use Rattle.bd_base.specs.declared.job.Line.{Line}
 use Rattle.bd_base.specs.declared.job.Script.{Script}
 use Rattle.bd_machine.specs.Admission.{has_range}
 
--- the command is carried out: it opens, closes, claims, submits on a range, waits, posts or awaits a mark
+-- the command is carried out: each but a submission without a range of blocks, a reset or an abort
 abbrev pub is_built_job : Job → Bool
 is_built_job (jobs.Open handle dev write) = true
 is_built_job (jobs.Close handle) = true
@@ -16,9 +16,9 @@ is_built_job (jobs.Submit handle op lba count) = has_range op
 is_built_job (jobs.Remove dev) = true
 is_built_job (jobs.Gone handle) = true
 is_built_job jobs.Wait = true
+is_built_job (jobs.Sleep micros) = true
 is_built_job (jobs.Post mark) = true
 is_built_job (jobs.Await mark) = true
-is_built_job _ = false
 
 abbrev pub is_built_line : Line → Bool
 is_built_line line = is_built_job line.job

@@ -4,13 +4,13 @@ use Rattle.serde_json.specs.Data.{Data}
 use Rattle.bd_base.specs.Errno.{number_of}
 use Rattle.bd_base.specs.declared.request.Errno.{Errno}
 use Rattle.bd_config.specs.Commands.{minus, not_supported}
-use Rattle.bd_config.specs.Config.{IsJson, IsConfig, IsShapeNo, IsMethodNo}
+use Rattle.bd_config.specs.Config.{IsJson, IsConfig, IsShapeError, IsMethodError}
 use Rattle.bd_config.specs.declared.command.Command.{Command}
 use Rattle.bd_building.specs.Progress.{Progress, configured}
 use Rattle.bd_building.specs.Served.{first_unserved}
 use Rattle.bd_outside.specs.File.{Told}
-use Rattle.bd_top.specs.declared.configure.ConfigureNo.{ConfigureNo}
-use Rattle.bd_top.specs.declared.configure.ConfigureNo.TheVariants.{OutOfMemory, Text, Shape, Method}
+use Rattle.bd_top.specs.declared.configure.ConfigureError.{ConfigureError}
+use Rattle.bd_top.specs.declared.configure.ConfigureError.TheVariants.{OutOfMemory, Text, Shape, Method}
 use Rattle.bd_top.specs.Disks.{AreDisksOf}
 
 -- the bytes are a configuration whose commands are all served, and come to these devices
@@ -67,14 +67,14 @@ pub record IsUndone (Refused : List Command → ℕ → ℤ → Type 0) (bytes :
 -- ---- causes
 
 -- why bytes ask for no commands; out of memory is the one free answer
-abbrev pub CommandsCause : List ℕ → ConfigureNo → Type 0
+abbrev pub CommandsCause : List ℕ → ConfigureError → Type 0
 CommandsCause bytes OutOfMemory = Unit {0}
 CommandsCause bytes Text = IsNoJson bytes
-CommandsCause bytes (Shape place) = IsShapeNo bytes place
-CommandsCause bytes (Method index code) = IsMethodNo bytes index code
+CommandsCause bytes (Shape place) = IsShapeError bytes place
+CommandsCause bytes (Method index code) = IsMethodError bytes index code
 
 -- why commands of which one isn't served aren't done
-abbrev pub UnservedCause : List Command → ConfigureNo → Type 0
+abbrev pub UnservedCause : List Command → ConfigureError → Type 0
 UnservedCause commands OutOfMemory = Unit {0}
 UnservedCause commands Text = ⊥
 UnservedCause commands (Shape place) = ⊥
@@ -82,16 +82,16 @@ UnservedCause commands (Method index code) = IsUnserved commands index code
 
 -- why bytes configure no devices: no text; a wrong shape; the first command that can't be read; else the first that can't be done,
 -- which is one that isn't served or is refused so
-abbrev pub CauseBy : (List Command → ℕ → ℤ → Type 0) → List ℕ → ConfigureNo → Type 0
+abbrev pub CauseBy : (List Command → ℕ → ℤ → Type 0) → List ℕ → ConfigureError → Type 0
 CauseBy Refused bytes OutOfMemory = Unit {0}
 CauseBy Refused bytes Text = IsNoJson bytes
-CauseBy Refused bytes (Shape place) = IsShapeNo bytes place
-CauseBy Refused bytes (Method index code) = IsMethodNo bytes index code ⊎ IsUndone Refused bytes index code
+CauseBy Refused bytes (Shape place) = IsShapeError bytes place
+CauseBy Refused bytes (Method index code) = IsMethodError bytes index code ⊎ IsUndone Refused bytes index code
 
 -- why bytes configure no devices, where disks have blocks that they may have by what the host tells
-abbrev pub ConfigureCause : ℕ → (List ℕ → Told) → List ℕ → ConfigureNo → Type 0
+abbrev pub ConfigureCause : ℕ → (List ℕ → Told) → List ℕ → ConfigureError → Type 0
 ConfigureCause threads told bytes why = CauseBy (IsRefused threads told) bytes why
 
 -- why they configure none, whatever blocks the disks may have
-abbrev pub ConfigureCauseAnyhow : ℕ → (List ℕ → Told) → List ℕ → ConfigureNo → Type 0
+abbrev pub ConfigureCauseAnyhow : ℕ → (List ℕ → Told) → List ℕ → ConfigureError → Type 0
 ConfigureCauseAnyhow threads told bytes why = CauseBy (IsRefusedAnyhow threads told) bytes why

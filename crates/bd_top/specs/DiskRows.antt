@@ -19,15 +19,15 @@ use Rattle.bd_machine.specs.Homes.{base_here}
 use Rattle.bd_machine.specs.Run.{state_after}
 use Rattle.bd_machine.specs.Start.{start}
 use Rattle.bd_machine.specs.View.{view}
-use Rattle.bd_opened.specs.Covering.{AreOpen, Begun, WhereTold}
-use Rattle.bd_opened.specs.Held.{Held}
+use Rattle.bd_disk_pool.specs.Covering.{AreOpen, Begun, WhereTold}
+use Rattle.bd_disk_pool.specs.Held.{Held}
 use Rattle.bd_outside.specs.Count.{last_count}
 use Rattle.bd_outside.specs.Disk.{closing_of, DiskState, HasWholeBlocks, IsOpenedOver}
 use Rattle.bd_outside.specs.File.{Told}
 use Rattle.bd_outside.specs.Host.{HostState}
 use Rattle.bd_outside.specs.declared.opening.Opening.{Opening}
-use Rattle.bd_served.specs.Served.{served_in, ServedPiece}
-use Rattle.bd_storage.specs.Served.{DidPieces}
+use Rattle.bd_law_served.specs.Served.{served_in, ServedPiece}
+use Rattle.bd_disks.specs.Done.{DidPieces}
 
 -- ---- open
 

@@ -4,13 +4,13 @@ use Rattle.bd_building.specs.Disks.{DiskFile, file_of, other_disks}
 use Rattle.bd_config.specs.declared.command.Command.{Command}
 use Rattle.bd_outside.specs.File.{Told, Untold, NoFile, Content}
 
--- a disk of blocks of this size over a file may have so many blocks: the whole ones of the file, where the host tells it
+-- a disk of blocks of this size over a file may have this number of blocks: the whole ones of the file, where the host tells it
 abbrev pub MayHave : Told → ℕ → ℕ → Type 0
 MayHave Untold size blocks = Unit {0}
 MayHave NoFile size blocks = Unit {0}
 MayHave (Content file) size blocks = blocks ≡ length file / size
 
--- the disk of a command that opens this file may have so many blocks; 0 where it opens none
+-- the disk of a command that opens this file may have this number of blocks; 0 where it opens none
 abbrev pub MayGive : (List ℕ → Told) → Option DiskFile → ℕ → Type 0
 MayGive told None blocks = blocks ≡ 0
 MayGive told (Some file) blocks = MayHave (told file.name) file.size blocks

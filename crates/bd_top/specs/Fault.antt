@@ -3,12 +3,12 @@ use Rattle.std.specs.Prelude.{◌≡◌, ℕ, List, ◌++◌, codes, decimal, st
 use Rattle.std.specs.Fmt.{signed_decimal}
 use Rattle.bd_top.specs.declared.fault.Fault.{Fault}
 use Rattle.bd_top.specs.declared.fault.Fault.TheVariants.{Usage, NoFile, TooLong, ReadFault, ConfigText, ConfigShape, Method, JobText, WriteFault, OutOfMemory}
-use Rattle.bd_top.specs.declared.configure.ConfigureNo.{ConfigureNo}
-use Rattle.bd_top.specs.declared.configure.ConfigureNo.TheVariants as config_nos
-use Rattle.bd_top.specs.declared.files.ReadNo.{ReadNo}
-use Rattle.bd_top.specs.declared.files.ReadNo.TheVariants as nos
-use Rattle.bd_top.specs.declared.inputs.ScriptNo.{ScriptNo}
-use Rattle.bd_top.specs.declared.inputs.ScriptNo.TheVariants as script_nos
+use Rattle.bd_top.specs.declared.configure.ConfigureError.{ConfigureError}
+use Rattle.bd_top.specs.declared.configure.ConfigureError.TheVariants as config_nos
+use Rattle.bd_top.specs.declared.files.ReadError.{ReadError}
+use Rattle.bd_top.specs.declared.files.ReadError.TheVariants as errors
+use Rattle.bd_top.specs.declared.inputs.ScriptError.{ScriptError}
+use Rattle.bd_top.specs.declared.inputs.ScriptError.TheVariants as script_nos
 
 abbrev pub status_of : Fault → ℕ
 status_of (TooLong name) = 1
@@ -36,22 +36,22 @@ fault_line WriteFault = codes "write fault"
 fault_line OutOfMemory = codes "out of memory"
 
 -- the fault of a file of this name that isn't read, or out of memory
-abbrev pub IsFaultOf : List ℕ → ReadNo → Fault → Type 0
-IsFaultOf name nos.Absent (NoFile text) = string_bytes text ≡ name
-IsFaultOf name nos.TooLong (TooLong text) = string_bytes text ≡ name
-IsFaultOf name nos.Failed (ReadFault text) = string_bytes text ≡ name
+abbrev pub IsFaultOf : List ℕ → ReadError → Fault → Type 0
+IsFaultOf name errors.Absent (NoFile text) = string_bytes text ≡ name
+IsFaultOf name errors.TooLong (TooLong text) = string_bytes text ≡ name
+IsFaultOf name errors.Failed (ReadFault text) = string_bytes text ≡ name
 IsFaultOf name why OutOfMemory = Unit {0}
 IsFaultOf name why _ = ⊥
 
 -- the fault of a script's file of this name that gives no scripts, or out of memory
-abbrev pub IsScriptFault : List ℕ → ScriptNo → Fault → Type 0
+abbrev pub IsScriptFault : List ℕ → ScriptError → Fault → Type 0
 IsScriptFault name (script_nos.File why) fault = IsFaultOf name why fault
 IsScriptFault name (script_nos.Text line) fault = fault ≡ JobText line
 IsScriptFault name (script_nos.NotBuilt line) fault = fault ≡ JobText line
 IsScriptFault name script_nos.OutOfMemory fault = fault ≡ OutOfMemory
 
 -- the fault of a configuration whose bytes configure no devices
-abbrev pub config_fault : ConfigureNo → Fault
+abbrev pub config_fault : ConfigureError → Fault
 config_fault config_nos.OutOfMemory = OutOfMemory
 config_fault config_nos.Text = ConfigText
 config_fault (config_nos.Shape place) = ConfigShape place

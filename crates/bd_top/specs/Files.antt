@@ -2,8 +2,8 @@
 use Rattle.std.specs.Prelude.{ℕ, ◌<◌, ◌≤◌, List, length}
 use Rattle.bd_outside.specs.File.{Told, Untold, NoFile, Content, IsAbsent, IsWhole}
 use Rattle.bd_outside.specs.Host.{HostState, FailsAt, Misses}
-use Rattle.bd_top.specs.declared.files.ReadNo.{ReadNo}
-use Rattle.bd_top.specs.declared.files.ReadNo.TheVariants.{Absent, TooLong, Failed, OutOfMemory}
+use Rattle.bd_top.specs.declared.files.ReadError.{ReadError}
+use Rattle.bd_top.specs.declared.files.ReadError.TheVariants.{Absent, TooLong, Failed, OutOfMemory}
 
 -- the most bytes that a file may have
 abbrev pub max_file : ℕ
@@ -21,7 +21,7 @@ IsTooLong NoFile = ⊥
 IsTooLong (Content file) = max_file < length file
 
 -- why the file of a name isn't read; out of memory is the one free answer
-abbrev pub ReadCause : HostState → HostState → List ℕ → ReadNo → Type 0
+abbrev pub ReadCause : HostState → HostState → List ℕ → ReadError → Type 0
 ReadCause old new name Absent = IsAbsent (old.told name) × Misses old new name
 ReadCause old new name TooLong = IsTooLong (old.told name)
 ReadCause old new name Failed = FailsAt old new name

@@ -4,8 +4,8 @@ use Rattle.bd_base.specs.Errno.{number_of}
 use Rattle.bd_base.specs.declared.request.Errno.{Errno}
 use Rattle.bd_building.specs.Disks.{file_of}
 use Rattle.bd_building.specs.Progress.{Progress, configured, stepped}
-use Rattle.bd_building.specs.declared.building.BuildNo.{BuildNo}
-use Rattle.bd_building.specs.declared.building.BuildNo.TheVariants as builds
+use Rattle.bd_building.specs.declared.building.BuildError.{BuildError}
+use Rattle.bd_building.specs.declared.building.BuildError.TheVariants as builds
 use Rattle.bd_config.specs.Commands.{minus}
 use Rattle.bd_config.specs.declared.command.Command.{Command}
 use Rattle.bd_outside.specs.File.{Told, IsAbsent}
@@ -51,6 +51,6 @@ DoingCause old new AreOpened AreRefused (Method index code) = AreRefused index c
 DoingCause old new AreOpened AreRefused _ = ⊥
 
 -- the fault of a command that is refused, or out of memory
-abbrev pub IsBuildFault : BuildNo → Fault → Type 0
+abbrev pub IsBuildFault : BuildError → Fault → Type 0
 IsBuildFault builds.OutOfMemory fault = fault ≡ OutOfMemory
 IsBuildFault (builds.Refused index errno) fault = fault ≡ Method index (minus (number_of errno))

@@ -6,9 +6,11 @@ use Rattle.bd_base.specs.declared.id.DevId.{DevId}
 use Rattle.bd_base.specs.declared.id.ReqId.{ReqId}
 use Rattle.bd_base.specs.declared.job.Script.{Script}
 use Rattle.bd_base.specs.declared.setup.Setup.{Setup}
+use Rattle.bd_law_runs.specs.Ledger.{KeepsBudget}
+use Rattle.bd_law_runs.specs.Quiescence.{IsOver, is_accept_above, is_reset_accept}
 use Rattle.bd_machine.specs.Content.{Told as Contents}
 use Rattle.bd_machine.specs.Destruction.{IsAfterLastClose}
-use Rattle.bd_machine.specs.Laws.{IsCompletedOnce, count_of, is_destruct_of}
+use Rattle.bd_machine.specs.Laws.{IsCompletedOnce, count_of, is_complete_of, is_destruct_of}
 use Rattle.bd_machine.specs.Lines.{GoesAsFar}
 use Rattle.bd_machine.specs.Run.{IsCompleteRun}
 use Rattle.bd_machine.specs.Users.{dev_of}
@@ -25,10 +27,10 @@ use Rattle.bd_report.specs.Report.{report_of}
 use Rattle.bd_report.specs.Writing.{AppendsPrefix}
 use Rattle.bd_top.specs.declared.fault.Fault.{Fault}
 use Rattle.bd_top.specs.declared.fault.Fault.TheVariants.{Usage, NoFile, TooLong, ReadFault, ConfigText, ConfigShape, Method, JobText, WriteFault, OutOfMemory}
-use Rattle.bd_top.specs.declared.configure.ConfigureNo.{ConfigureNo}
-use Rattle.bd_top.specs.declared.configure.ConfigureNo.TheVariants as config_nos
-use Rattle.bd_top.specs.declared.inputs.ScriptNo.{ScriptNo}
-use Rattle.bd_top.specs.declared.inputs.ScriptNo.TheVariants as script_nos
+use Rattle.bd_top.specs.declared.configure.ConfigureError.{ConfigureError}
+use Rattle.bd_top.specs.declared.configure.ConfigureError.TheVariants as config_nos
+use Rattle.bd_top.specs.declared.inputs.ScriptError.{ScriptError}
+use Rattle.bd_top.specs.declared.inputs.ScriptError.TheVariants as script_nos
 use Rattle.bd_top.specs.Built.{lines_in, AreBuilt, IsFirstNotBuilt}
 use Rattle.bd_top.specs.Configure.{Configures, ConfiguresAnyhow, ConfigureCause, ConfigureCauseAnyhow}
 use Rattle.bd_top.specs.Disks.{AreDisksOf, Opens}
@@ -58,6 +60,17 @@ AreDestructedOnce setup trace = (n : ℕ) → n < length setup.devices → count
 abbrev pub AreAfterLastClose : Setup → Contents → List Entry → Type 0
 AreAfterLastClose setup contents trace = (dev : DevId) (before : List Entry) (e : Entry) (after : List Entry)
     → trace ≡ before ++ e ∷ after → is_destruct_of dev e.act ≡ true → IsAfterLastClose setup contents dev before after
+
+-- each device keeps the budget of its limits
+abbrev pub AreBudgetsKept : Setup → List Entry → Type 0
+AreBudgetsKept setup trace = (dev : DevId) → KeepsBudget setup dev trace
+
+-- where a reset is completed, each request but resets that was accepted before the reset, over its device, is over
+abbrev pub AreOverAtResets : Setup → Contents → List Entry → Type 0
+AreOverAtResets setup contents trace =
+    (reset : ReqId) (dev : DevId) (before : List Entry) (accept : Entry) (between : List Entry) (complete : Entry) (after : List Entry)
+    → trace ≡ before ++ accept ∷ between ++ complete ∷ after → is_reset_accept reset dev accept.act ≡ true → is_complete_of reset complete.act ≡ true
+    → (r : ReqId) → 0 < count_of (is_accept_above setup dev r) before → IsOver setup contents r (before ++ accept ∷ between)
 
 -- ---- Ok
 
@@ -107,6 +120,8 @@ pub record IsPlayed (setup : Setup) (contents : Contents) (full : Bool) (trace :
   pub once : AreCompletedOnce trace
   pub destructed : AreDestructedOnce setup trace
   pub last_close : AreAfterLastClose setup contents trace
+  pub budgets : AreBudgetsKept setup trace
+  pub quiesces : AreOverAtResets setup contents trace
   pub says : report ≡ report_of full setup trace
 
 -- the two files were played, with a full report, over what the disks told at their opening; what the host then keeps of the disks is
@@ -150,7 +165,7 @@ abbrev pub IsConfigured : ℕ → (List ℕ → Told) → Told → Type 0
 IsConfigured threads told config = (devices : Progress) × IsDevices threads told config devices
 
 -- the bytes of the configuration make no devices, and this is why
-pub record IsOutside (threads : ℕ) (told : List ℕ → Told) (config : Told) (why : ConfigureNo) : Type 0 where
+pub record IsOutside (threads : ℕ) (told : List ℕ → Told) (config : Told) (why : ConfigureError) : Type 0 where
   pub bytes : List ℕ
   pub read : IsRead config bytes
   pub outside : ConfigureCause threads told bytes why
@@ -179,7 +194,7 @@ abbrev pub IsWanted : HostState → List ℕ → List ℕ → ℕ → List ℕ �
 IsWanted host config jobs threads name = IsDue host config jobs threads name ⊎ AsksForDisk (host.told config) name
 
 -- why a file gives no scripts of this number of threads
-abbrev pub ScriptCause : HostState → HostState → List ℕ → ℕ → ScriptNo → Type 0
+abbrev pub ScriptCause : HostState → HostState → List ℕ → ℕ → ScriptError → Type 0
 ScriptCause old new jobs threads (script_nos.File why) = ReadCause old new jobs why
 ScriptCause old new jobs threads (script_nos.Text line) = IsNoText threads (old.told jobs) line
 ScriptCause old new jobs threads (script_nos.NotBuilt line) = IsNotSupported threads (old.told jobs) line
@@ -273,7 +288,7 @@ NamesNoFile (Generate numbers threads) = Unit {0}
 
 -- the bytes of a configuration make no devices, whatever blocks its disks may have, and the fault says why
 pub record IsConfigWrong (threads : ℕ) (told : List ℕ → Told) (config : List ℕ) (fault : Fault) : Type 0 where
-  pub why : ConfigureNo
+  pub why : ConfigureError
   pub cause : ConfigureCauseAnyhow threads told config why
   pub known : ¬ (why ≡ config_nos.OutOfMemory)
   pub is : fault ≡ config_fault why

@@ -24,10 +24,10 @@ fn is_built_job(job: &Job) -> bool
         | Job::Remove { .. }
         | Job::Gone { .. }
         | Job::Wait
+        | Job::Sleep(_)
         | Job::Post(_)
         | Job::Await(_) => true,
         Job::Submit { op, .. } => has_range(op),
-        Job::Sleep(_) => false,
     }
 }
 

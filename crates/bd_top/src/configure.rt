@@ -9,12 +9,12 @@ ghost use Rattle.bd_top.specs.Configure.{CauseBy, CommandsCause, NotRefused, Uns
 
 use bd_base::Errno;
 use bd_building::first_unserved;
-use bd_config::{Command, ConfigNo, read_config};
+use bd_config::{Command, ConfigError, read_config};
 use std::alloc::Global;
 
 /// Why bytes configure no devices.
-#[derive(Clone, Copy, Debug, PartialEq, Eq)]
-pub(crate) enum ConfigureNo {
+#[derive(Clone, Copy, PartialEq, Eq)]
+pub(crate) enum ConfigureError {
     OutOfMemory,
     /// They are no JSON text.
     Text,
@@ -40,38 +40,38 @@ pub(crate) fn code_of(errno: Errno) -> i32
 }
 
 // The commands that bytes ask for.
-fn commands(alloc: Global, bytes: &[u8]) -> Result<Vec<Command>, ConfigureNo>
+fn commands(alloc: Global, bytes: &[u8]) -> Result<Vec<Command>, ConfigureError>
     ensures ok { IfOk result (λ commands. IsConfig bytes.now commands.items) }
     ensures openable { IfOk result (λ commands. All IsOpenable commands.items) }
     ensures cause { IfErr result (CommandsCause bytes.now) }
 {
     match read_config(alloc, bytes) {
         Ok(commands) => Ok(commands),
-        Err(ConfigNo::OutOfMemory) => Err(ConfigureNo::OutOfMemory),
-        Err(ConfigNo::Text) => Err(ConfigureNo::Text),
-        Err(ConfigNo::Shape(place)) => Err(ConfigureNo::Shape(place)),
-        Err(ConfigNo::Method { index, code }) => Err(ConfigureNo::Method { index, code }),
+        Err(ConfigError::OutOfMemory) => Err(ConfigureError::OutOfMemory),
+        Err(ConfigError::Text) => Err(ConfigureError::Text),
+        Err(ConfigError::Shape(place)) => Err(ConfigureError::Shape(place)),
+        Err(ConfigError::Method { index, code }) => Err(ConfigureError::Method { index, code }),
     }
 }
 
 // Why commands aren't done, where the one at this place is the first that isn't served. A place without
 // a number of 32 bits answers out of memory.
-fn unserved(place: usize) -> ConfigureNo
+fn unserved(place: usize) -> ConfigureError
     ensures { (commands : List Asked) → first_unserved commands ≡ Some place → UnservedCause commands result }
 {
     match u32::try_from(place) {
-        Ok(index) => ConfigureNo::Method {
+        Ok(index) => ConfigureError::Method {
             index,
             code: code_of(Errno::NotSup),
         },
-        Err(_) => ConfigureNo::OutOfMemory,
+        Err(_) => ConfigureError::OutOfMemory,
     }
 }
 
 /// The commands of a configuration, which are all served. What is wrong is looked for in this order:
 /// its text; its shape; commands that can't be read; commands that aren't served as yet.
 #[tactic(auto, using(crate::proofs::ConfigureLemmas::read_cause, crate::proofs::ConfigureLemmas::unserved_cause))]
-pub(crate) fn commands_of(alloc: Global, bytes: &[u8]) -> Result<Vec<Command>, ConfigureNo>
+pub(crate) fn commands_of(alloc: Global, bytes: &[u8]) -> Result<Vec<Command>, ConfigureError>
     ensures ok { IfOk result (λ commands. IsConfig bytes.now commands.items) }
     ensures openable { IfOk result (λ commands. All IsOpenable commands.items) }
     ensures served { IfOk result (λ commands. first_unserved commands.items ≡ None) }

@@ -2,7 +2,7 @@
 ghost use Rattle.std.specs.Prelude.{◌≡◌, ◌<◌, ℕ, List, length, Option, IfOk, IfErr, OnErr, All};
 ghost use Rattle.bd_building.specs.Disks.{file_of};
 ghost use Rattle.bd_config.specs.Commands.{IsOpenable};
-ghost use Rattle.bd_opened.specs.Covering.{AreClosed};
+ghost use Rattle.bd_disk_pool.specs.Covering.{AreClosed};
 ghost use Rattle.bd_outside.specs.File.{Told};
 ghost use Rattle.bd_outside.specs.Host.{IsLater};
 ghost use Rattle.bd_outside.specs.declared.opening.Opening.{Opening};
@@ -13,12 +13,12 @@ ghost use Rattle.bd_top.specs.Opening.{AreDone, DoingCause, IsBuildFault, IsStep
 
 use crate::configure::code_of;
 use crate::fault::Fault;
-use crate::files::{ReadNo, fault_of};
+use crate::files::{ReadError, fault_of};
 use bd_base::DevId;
-use bd_building::{BuildNo, Building};
+use bd_building::{BuildError, Building};
 use bd_config::Command;
-use bd_opened::{OpenDisks, close_all};
-use bd_outside::{Disk, Host, HostNo};
+use bd_disk_pool::{OpenDisks, close_all};
+use bd_outside::{Disk, Host, HostError};
 use std::alloc::Global;
 use std::str;
 
@@ -61,8 +61,8 @@ fn open_for<H: Host>(
     };
     let disk = match host.open_disk(name, *size) {
         Ok(disk) => disk,
-        Err(HostNo::Absent) => return Err(fault_of(alloc, name, ReadNo::Absent)),
-        Err(HostNo::Failed) => return Err(fault_of(alloc, name, ReadNo::Failed)),
+        Err(HostError::Absent) => return Err(fault_of(alloc, name, ReadError::Absent)),
+        Err(HostError::Failed) => return Err(fault_of(alloc, name, ReadError::Failed)),
     };
     let blocks = disk.blocks();
     match disks.add(DevId(dev), kept, disk) {
@@ -75,12 +75,12 @@ fn open_for<H: Host>(
 }
 
 // The fault of a command that is refused, or out of memory.
-fn build_fault(no: BuildNo) -> Fault
-    ensures { IsBuildFault no result }
+fn build_fault(error: BuildError) -> Fault
+    ensures { IsBuildFault error result }
 {
-    match no {
-        BuildNo::OutOfMemory => Fault::OutOfMemory,
-        BuildNo::Refused { index, errno } => Fault::Method {
+    match error {
+        BuildError::OutOfMemory => Fault::OutOfMemory,
+        BuildError::Refused { index, errno } => Fault::Method {
             index,
             code: code_of(errno),
         },
@@ -120,9 +120,9 @@ fn do_command<H: Host>(
     };
     match devices.step(alloc, index, command, blocks) {
         Ok(devices) => Ok(Opened { devices, disks }),
-        Err(no) => {
+        Err(error) => {
             close_all(host, disks);
-            Err(build_fault(no))
+            Err(build_fault(error))
         }
     }
 }

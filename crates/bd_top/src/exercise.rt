@@ -6,17 +6,18 @@ ghost use Rattle.bd_config.specs.Commands.{IsOpenable};
 ghost use Rattle.bd_config.specs.Config.{IsConfig};
 ghost use Rattle.bd_jobs.specs.Generated.{generated};
 ghost use Rattle.bd_jobs.specs.ScriptGrammar.{scripts_of};
+ghost use Rattle.bd_machine.specs.BlockMap.{StandsOnEarlier};
 ghost use Rattle.bd_top.specs.Configure.{Configures};
 ghost use Rattle.bd_top.specs.Exercise.{built_in, IsExercise};
 
-use crate::configure::{ConfigureNo, commands_of};
+use crate::configure::{ConfigureError, commands_of};
 use crate::devices::{Opened, open_devices};
 use crate::fault::Fault;
 use crate::setup::{Ready, setup_of};
 use bd_base::{OutOfMemory, Rows, Script};
 use bd_config::Command;
+use bd_disk_pool::close_all;
 use bd_jobs::generated_scripts;
-use bd_opened::close_all;
 use bd_outside::Host;
 use std::alloc::Global;
 
@@ -33,10 +34,10 @@ fn commands(alloc: Global) -> Result<Vec<Command>, OutOfMemory>
 {
     match commands_of(alloc, BUILT_IN.as_bytes()) {
         Ok(commands) => Ok(commands),
-        Err(ConfigureNo::OutOfMemory) => Err(OutOfMemory),
-        Err(ConfigureNo::Text) => unreachable!(),
-        Err(ConfigureNo::Shape(_)) => unreachable!(),
-        Err(ConfigureNo::Method { .. }) => unreachable!(),
+        Err(ConfigureError::OutOfMemory) => Err(OutOfMemory),
+        Err(ConfigureError::Text) => unreachable!(),
+        Err(ConfigureError::Shape(_)) => unreachable!(),
+        Err(ConfigureError::Method { .. }) => unreachable!(),
     }
 }
 
@@ -83,6 +84,7 @@ pub(crate) fn exercise_setup<H: Host>(
     ensures threads { IfOk result (λ r. r.setup.threads ≡ threads) }
     ensures disks { IfOk result (λ r. length r.disks.threads ≡ threads) }
     ensures alone { IfOk result (λ r. AreBasesAlone r.setup) }
+    ensures earlier { IfOk result (λ r. StandsOnEarlier r.setup) }
 {
     let scripts = scripts(alloc, numbers, threads)?;
     let Opened { devices, disks } = devices(alloc, host, threads)?;

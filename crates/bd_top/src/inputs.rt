@@ -3,33 +3,34 @@ ghost use Rattle.std.specs.Prelude.{◌≡◌, ◌<◌, ℕ, List, length, IfOk,
 ghost use Rattle.bd_config.specs.Commands.{IsOpenable};
 ghost use Rattle.bd_outside.specs.Host.{IsLater};
 ghost use Rattle.bd_building.specs.AioDevices.{aio_devices, AreBasesAlone};
-ghost use Rattle.bd_opened.specs.Covering.{AreClosed};
+ghost use Rattle.bd_machine.specs.BlockMap.{StandsOnEarlier};
+ghost use Rattle.bd_disk_pool.specs.Covering.{AreClosed};
 ghost use Rattle.bd_top.specs.DiskRows.{AreSetOut, StandOpen};
 ghost use Rattle.bd_top.specs.Fault.{IsScriptFault, config_fault};
 ghost use Rattle.bd_top.specs.Run.{AreCommands, IsDevices, IsScript, IsMeant, ScriptCause, FileCause};
 
 use crate::built::first_not_built;
-use crate::configure::{ConfigureNo, commands_of};
+use crate::configure::{ConfigureError, commands_of};
 use crate::devices::{Opened, open_devices};
 use crate::fault::Fault;
-use crate::files::{ReadNo, fault_of, read_file};
+use crate::files::{ReadError, fault_of, read_file};
 use crate::setup::{Ready, setup_of};
 use bd_base::{OutOfMemory, Rows, Script};
 use bd_config::Command;
-use bd_jobs::{JobNo, read_jobs};
-use bd_opened::close_all;
+use bd_disk_pool::close_all;
+use bd_jobs::{JobError, read_jobs};
 use bd_outside::Host;
 use std::alloc::Global;
 
 // The fault of a configuration whose bytes ask for no commands that are served.
-fn config_fault(no: ConfigureNo) -> Fault
-    ensures { result ≡ config_fault no }
+fn config_fault(error: ConfigureError) -> Fault
+    ensures { result ≡ config_fault error }
 {
-    match no {
-        ConfigureNo::OutOfMemory => Fault::OutOfMemory,
-        ConfigureNo::Text => Fault::ConfigText,
-        ConfigureNo::Shape(place) => Fault::ConfigShape(place),
-        ConfigureNo::Method { index, code } => Fault::Method { index, code },
+    match error {
+        ConfigureError::OutOfMemory => Fault::OutOfMemory,
+        ConfigureError::Text => Fault::ConfigText,
+        ConfigureError::Shape(place) => Fault::ConfigShape(place),
+        ConfigureError::Method { index, code } => Fault::Method { index, code },
     }
 }
 
@@ -44,11 +45,11 @@ fn read_commands<H: Host>(alloc: Global, host: &mut H, name: &str) -> Result<Vec
 {
     let bytes = match read_file(alloc, host, name) {
         Ok(bytes) => bytes,
-        Err(no) => return Err(fault_of(alloc, name, no)),
+        Err(error) => return Err(fault_of(alloc, name, error)),
     };
     match commands_of(alloc, bytes.as_slice()) {
         Ok(commands) => Ok(commands),
-        Err(no) => Err(config_fault(no)),
+        Err(error) => Err(config_fault(error)),
     }
 }
 
@@ -73,10 +74,10 @@ fn read_devices<H: Host>(
 }
 
 /// Why a file gives no scripts.
-#[derive(Clone, Copy, Debug, PartialEq, Eq)]
-pub(crate) enum ScriptNo {
+#[derive(Clone, Copy, PartialEq, Eq)]
+pub(crate) enum ScriptError {
     /// It wasn't read.
-    File(ReadNo),
+    File(ReadError),
     /// The line of this number is the first outside the grammar.
     Text(u32),
     /// The line of this number is the first whose command isn't carried out.
@@ -90,7 +91,7 @@ fn scripts<H: Host>(
     host: &mut H,
     name: &str,
     threads: u32,
-) -> Result<Rows<Script>, ScriptNo>
+) -> Result<Rows<Script>, ScriptError>
     ensures script { IfOk result (IsScript threads ((H.state host.old).told name.now)) }
     ensures cause { IfErr result (ScriptCause (H.state host.old) (H.state host.new) name.now threads) }
     ensures later { IsLater (H.state host.old) (H.state host.new) }
@@ -98,28 +99,28 @@ fn scripts<H: Host>(
 {
     let bytes = match read_file(alloc, host, name) {
         Ok(bytes) => bytes,
-        Err(no) => return Err(ScriptNo::File(no)),
+        Err(error) => return Err(ScriptError::File(error)),
     };
     let scripts = match read_jobs(alloc, bytes.as_slice(), threads) {
         Ok(scripts) => scripts,
-        Err(JobNo::Line(line)) => return Err(ScriptNo::Text(line)),
-        Err(JobNo::OutOfMemory) => return Err(ScriptNo::OutOfMemory),
+        Err(JobError::Line(line)) => return Err(ScriptError::Text(line)),
+        Err(JobError::OutOfMemory) => return Err(ScriptError::OutOfMemory),
     };
     match first_not_built(scripts.as_slice()) {
         None => Ok(scripts),
-        Some(line) => Err(ScriptNo::NotBuilt(line)),
+        Some(line) => Err(ScriptError::NotBuilt(line)),
     }
 }
 
 // The fault of a script's file that gives no scripts.
-fn script_fault(alloc: Global, name: &str, no: ScriptNo) -> Fault
-    ensures { IsScriptFault name.now no result }
+fn script_fault(alloc: Global, name: &str, error: ScriptError) -> Fault
+    ensures { IsScriptFault name.now error result }
 {
-    match no {
-        ScriptNo::File(no) => fault_of(alloc, name, no),
-        ScriptNo::Text(line) => Fault::JobText(line),
-        ScriptNo::NotBuilt(line) => Fault::JobText(line),
-        ScriptNo::OutOfMemory => Fault::OutOfMemory,
+    match error {
+        ScriptError::File(error) => fault_of(alloc, name, error),
+        ScriptError::Text(line) => Fault::JobText(line),
+        ScriptError::NotBuilt(line) => Fault::JobText(line),
+        ScriptError::OutOfMemory => Fault::OutOfMemory,
     }
 }
 
@@ -142,14 +143,15 @@ pub(crate) fn read_setup<H: Host>(
     ensures opened { IfOk result (λ r. AreSetOut H.Disk.state (H.state host.old).told (length r.setup.devices) (aio_devices r.setup) r.disks
         (H.state host.old).openings (H.state host.new).openings) }
     ensures alone { IfOk result (λ r. AreBasesAlone r.setup) }
+    ensures earlier { IfOk result (λ r. StandsOnEarlier r.setup) }
     ensures closed { OnErr result (AreClosed (H.state host.old).openings (H.state host.new).openings) }
 {
     let Opened { devices, disks } = read_devices(alloc, host, config, threads)?;
     let scripts = match scripts(alloc, host, jobs, threads) {
         Ok(scripts) => scripts,
-        Err(no) => {
+        Err(error) => {
             close_all(host, disks);
-            return Err(script_fault(alloc, jobs, no));
+            return Err(script_fault(alloc, jobs, error));
         }
     };
     match setup_of(alloc, threads, devices, scripts) {

@@ -1,10 +1,11 @@
 //! What a run begins from.
 ghost use Rattle.std.specs.Prelude.{◌≡◌, IfOk};
+ghost use Rattle.bd_machine.specs.BlockMap.{StandsOnEarlier};
 ghost use Rattle.bd_top.specs.Setup.{setup_of};
 
 use bd_base::{OutOfMemory, Rows, Script, Setup};
 use bd_building::Building;
-use bd_opened::OpenDisks;
+use bd_disk_pool::OpenDisks;
 use std::alloc::Global;
 
 /// A setup, and the disks of its devices.
@@ -20,7 +21,8 @@ pub(crate) fn setup_of(
     devices: Building,
     scripts: Rows<Script>,
 ) -> Result<Setup, OutOfMemory>
-    ensures { IfOk result (λ setup. setup ≡ setup_of threads devices scripts) }
+    ensures setup { IfOk result (λ setup. setup ≡ setup_of threads devices scripts) }
+    ensures earlier { IfOk result StandsOnEarlier }
 {
     let mut setup = devices.finish(alloc, scripts)?;
     setup.threads = threads;

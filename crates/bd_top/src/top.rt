@@ -1,8 +1,9 @@
 //! The top call.
 ghost use Rattle.std.specs.Prelude.{◌≡◌, ◌<◌, ◌≤◌, ◌⊎◌, ℕ, List, length, map, string_bytes, IfOk, IfErr, MatchResult, Option, None, Some, Err};
 ghost use Rattle.bd_building.specs.AioDevices.{aio_devices, AreBasesAlone};
+ghost use Rattle.bd_machine.specs.BlockMap.{StandsOnEarlier};
 ghost use Rattle.bd_node.specs.Disks.{told_of};
-ghost use Rattle.bd_opened.specs.Covering.{AreClosed};
+ghost use Rattle.bd_disk_pool.specs.Covering.{AreClosed};
 ghost use Rattle.bd_outside.specs.File.{Told};
 ghost use Rattle.bd_outside.specs.declared.opening.Opening.{Opening};
 ghost use Rattle.bd_outside.specs.Sink.{StaysUntold};
@@ -17,9 +18,9 @@ use crate::inputs::read_setup;
 use crate::setup::Ready;
 use crate::words::{Arguments, Asked, Playing, parse};
 use bd_base::OutOfMemory;
+use bd_disk_pool::{close_all, close_shelf};
 use bd_jobs::generate;
-use bd_node::{Drive, History, Played, play};
-use bd_opened::{close_all, close_shelf};
+use bd_node::{Drive, History, Outside, Played, play};
 use bd_outside::{Clock, Failed, Gate, Host, MemHost, Sink};
 use bd_report::report::report_with;
 use bd_report::writing::write_all;
@@ -30,7 +31,7 @@ use std::thread::Threads;
 
 /// A call that did what it was asked: its status, which is 0, and the history of what it played; none
 /// where it played nothing.
-#[derive(Debug, Drop)]
+#[derive(Drop)]
 pub struct Ran {
     pub status: u8,
     pub trace: History,
@@ -45,20 +46,25 @@ struct Done {
 
 // Plays the scripts of a setup over its disks as the drive has it, makes the report, and closes the
 // disks, however that ends.
-fn play_and_report<R: AllocGlobal + Threads + Wait + Sync, H: Host, G: Gate + Sync>(
+fn play_and_report<
+    R: AllocGlobal + Threads + Wait + Sync,
+    H: Host,
+    C: Clock + Sync,
+    G: Gate + Sync,
+>(
     rt: &R,
     host: &mut H,
     ready: Ready<H::Disk>,
     drive: Drive,
-    gate: &G,
+    outside: &Outside<C, G>,
     full: bool,
 ) -> Result<Done, OutOfMemory>
 where
     H::Disk: Send,
     requires some { 0 < ready.setup.threads }
     requires disks { length ready.disks.threads ≡ ready.setup.threads }
-    ensures played { AreBasesAlone ready.setup → IfOk result (λ done. IsPlayed ready.setup (told_of H.Disk.state ready.setup ready.disks.threads) full
-        done.trace done.text.items) }
+    ensures played { AreBasesAlone ready.setup → StandsOnEarlier ready.setup
+        → IfOk result (λ done. IsPlayed ready.setup (told_of H.Disk.state ready.setup ready.disks.threads) full done.trace done.text.items) }
     ensures disks { (told : List ℕ → Told) (base : Option (List Opening)) → AreBasesAlone ready.setup
         → AreSetOut H.Disk.state told (length ready.setup.devices) (aio_devices ready.setup) ready.disks base (H.state host.old).openings
         → IfOk result (λ done. TellDisks told (told_of H.Disk.state ready.setup ready.disks.threads) ready.setup done.trace base
@@ -75,7 +81,7 @@ where
             return Err(OutOfMemory);
         }
     };
-    let (played, shelf) = play(rt, rt.alloc(), &setup, shelf, drive, gate);
+    let (played, shelf) = play(rt, rt.alloc(), &setup, shelf, drive, outside);
     close_shelf(host, &names, shelf);
     let Played {
         history: trace,
@@ -86,11 +92,11 @@ where
 }
 
 // Plays two files.
-fn run_files<R: AllocGlobal + Threads + Wait + Sync, H: Host, G: Gate + Sync>(
+fn run_files<R: AllocGlobal + Threads + Wait + Sync, H: Host, C: Clock + Sync, G: Gate + Sync>(
     rt: &R,
     arguments: Arguments<'_>,
     host: &mut H,
-    gate: &G,
+    outside: &Outside<C, G>,
 ) -> Result<Done, Fault>
 where
     H::Disk: Send,
@@ -106,7 +112,7 @@ where
         playing,
     } = arguments;
     let ready = read_setup(rt.alloc(), host, config, jobs, playing.threads)?;
-    match play_and_report(rt, host, ready, playing.drive, gate, true) {
+    match play_and_report(rt, host, ready, playing.drive, outside, true) {
         Ok(done) => Ok(done),
         Err(OutOfMemory) => Err(Fault::OutOfMemory),
     }
@@ -114,11 +120,11 @@ where
 
 // Plays the built-in configuration with the generated script. They open no file, so a host without
 // files serves.
-fn exercise<R: AllocGlobal + Threads + Wait + Sync, G: Gate + Sync>(
+fn exercise<R: AllocGlobal + Threads + Wait + Sync, C: Clock + Sync, G: Gate + Sync>(
     rt: &R,
     numbers: u32,
     playing: Playing,
-    gate: &G,
+    outside: &Outside<C, G>,
 ) -> Result<Done, OutOfMemory>
     requires numbers { numbers ≤ 500 }
     requires threads { IsThreadCount playing.threads }
@@ -127,7 +133,7 @@ fn exercise<R: AllocGlobal + Threads + Wait + Sync, G: Gate + Sync>(
     let alloc = rt.alloc();
     let mut host = MemHost::new(alloc, Vec::new(alloc), 0, Vec::new(alloc))?;
     let ready = exercise_setup(alloc, &mut host, numbers, playing.threads)?;
-    play_and_report(rt, &mut host, ready, playing.drive, gate, false)
+    play_and_report(rt, &mut host, ready, playing.drive, outside, false)
 }
 
 // Makes the generated script.
@@ -144,11 +150,11 @@ fn generate_only(alloc: Global, numbers: u32, threads: u32) -> Result<Done, OutO
 }
 
 // Does what is asked.
-fn do_asked<R: AllocGlobal + Threads + Wait + Sync, H: Host, G: Gate + Sync>(
+fn do_asked<R: AllocGlobal + Threads + Wait + Sync, H: Host, C: Clock + Sync, G: Gate + Sync>(
     rt: &R,
     asked: Asked<'_>,
     host: &mut H,
-    gate: &G,
+    outside: &Outside<C, G>,
 ) -> Result<Done, Fault>
 where
     H::Disk: Send,
@@ -159,8 +165,8 @@ where
     ensures unread { NamesNoFile (seen asked.entry) → H.state host.new ≡ H.state host.old }
 {
     match asked {
-        Asked::Run(arguments) => run_files(rt, arguments, host, gate),
-        Asked::Exercise { numbers, playing } => Ok(exercise(rt, numbers, playing, gate)?),
+        Asked::Run(arguments) => run_files(rt, arguments, host, outside),
+        Asked::Exercise { numbers, playing } => Ok(exercise(rt, numbers, playing, outside)?),
         Asked::Generate { numbers, threads } => Ok(generate_only(rt.alloc(), numbers, threads)?),
     }
 }
@@ -172,7 +178,8 @@ where
 /// numbers (1 to 500) for each thread; it reads no file, and its report has no lines for single commands.
 /// Both play on as many threads as `--threads` says (1 to 16, else 1). The threads are driven by as many
 /// reactors as `--reactors` says (1 to 8, else 1), beside each other, each of which passes the gate before
-/// a turn; or they take turns by the schedule that the number of `--schedule` seeds. `generate N` writes
+/// a turn; or they take turns by the schedule that the number of `--schedule` seeds. For each turn the clock is asked
+/// once; where time alone has to pass, it pauses between rounds. `generate N` writes
 /// the generated script for as many threads as `--threads` says, and plays nothing.
 ///
 /// The file of each aio device is opened as a disk just before its command is done, and all disks are
@@ -188,14 +195,13 @@ where
 /// once the configuration makes its devices. A disk that fails while it serves is no fault of this call:
 /// the request that it failed at ends so.
 #[tactic(auto, using(crate::proofs::Answers::of_asked, crate::proofs::Answers::names_none, crate::proofs::InForm::only_memory, crate::proofs::Wrong::only_this, crate::proofs::Wrong::not_done))]
-pub fn run<R: AllocGlobal + Threads + Wait + Sync, H: Host, K: Sink, C: Clock, G: Gate + Sync>(
-    rt: &R,
-    words: &[String],
-    host: &mut H,
-    out: &mut K,
-    _clock: &C,
-    gate: &G,
-) -> Result<Ran, Fault>
+pub fn run<
+    R: AllocGlobal + Threads + Wait + Sync,
+    H: Host,
+    K: Sink,
+    C: Clock + Sync,
+    G: Gate + Sync,
+>(rt: &R, words: &[String], host: &mut H, out: &mut K, clock: &C, gate: &G) -> Result<Ran, Fault>
 where
     H::Disk: Send,
     ensures run { IfOk result (λ r. IsRun (map string_bytes words.now) (H.state host.old) (H.state host.new) r.trace (K.state out.old) (K.state out.new)) }
@@ -217,7 +223,8 @@ where
     let Some(asked) = parse(words) else {
         return Err(Fault::Usage);
     };
-    let done = do_asked(rt, asked, host, gate)?;
+    let outside = Outside { clock, gate };
+    let done = do_asked(rt, asked, host, &outside)?;
     let Done { trace, text } = done;
     match write_all(out, text.as_slice()) {
         Ok(()) => Ok(Ran { status: 0, trace }),

@@ -7,14 +7,14 @@ use bd_jobs::number;
 use bd_node::Drive;
 
 /// Who plays: how many threads (1 to 16), and who drives them.
-#[derive(Clone, Copy, Debug, PartialEq, Eq)]
+#[derive(Clone, Copy, PartialEq, Eq)]
 pub(crate) struct Playing {
     pub threads: u32,
     pub drive: Drive,
 }
 
 /// What a run is asked: its two files, and who plays.
-#[derive(Clone, Copy, Debug, PartialEq, Eq)]
+#[derive(Clone, Copy, PartialEq, Eq)]
 pub(crate) struct Arguments<'a> {
     pub config: &'a str,
     pub jobs: &'a str,
@@ -22,7 +22,7 @@ pub(crate) struct Arguments<'a> {
 }
 
 /// What the words ask.
-#[derive(Clone, Copy, Debug, PartialEq, Eq)]
+#[derive(Clone, Copy, PartialEq, Eq)]
 pub(crate) enum Asked<'a> {
     /// That two files are played.
     Run(Arguments<'a>),

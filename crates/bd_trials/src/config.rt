@@ -4,7 +4,7 @@ mod command;
 
 use crate::words::{decoded, first_word};
 use bd_base::OutOfMemory;
-use bd_config::{Command, ConfigNo, read_config};
+use bd_config::{Command, ConfigError, read_config};
 use std::alloc::Global;
 
 pub(crate) fn answer(alloc: Global, case: &str) -> Result<String, OutOfMemory> {
@@ -42,10 +42,10 @@ fn with_calls(alloc: Global, calls: &[u8]) -> Result<Vec<u8>, OutOfMemory> {
 fn meaning(alloc: Global, text: &[u8]) -> Result<String, OutOfMemory> {
     match read_config(alloc, text) {
         Ok(commands) => told(alloc, commands.as_slice()),
-        Err(ConfigNo::OutOfMemory) => Err(OutOfMemory),
-        Err(ConfigNo::Text) => Ok(String::from_str(alloc, "text")?),
-        Err(ConfigNo::Shape(place)) => Ok(format!(in alloc; "shape {place}")?),
-        Err(ConfigNo::Method { index, code }) => Ok(format!(in alloc; "method {index} {code}")?),
+        Err(ConfigError::OutOfMemory) => Err(OutOfMemory),
+        Err(ConfigError::Text) => Ok(String::from_str(alloc, "text")?),
+        Err(ConfigError::Shape(place)) => Ok(format!(in alloc; "shape {place}")?),
+        Err(ConfigError::Method { index, code }) => Ok(format!(in alloc; "method {index} {code}")?),
     }
 }
 

@@ -2,7 +2,7 @@
 use crate::steps::{Subject, said};
 use crate::words::small;
 use bd_base::{DevId, DevRow, ErrKind, Errno, IoSet, Kind, Name, OutOfMemory, RateSet};
-use bd_devices::{Devices, RegisterNo};
+use bd_devices::{Devices, RegisterError};
 use std::alloc::Global;
 
 fn kind(word: &str) -> Kind {
@@ -35,8 +35,8 @@ fn row(alloc: Global, words: [&str; 4]) -> Result<DevRow, OutOfMemory> {
 fn register(alloc: Global, devices: &mut Devices, row: DevRow) -> Result<u32, OutOfMemory> {
     match devices.register(alloc, row) {
         Ok(_) => Ok(0),
-        Err(RegisterNo::Refused(errno)) => Ok(errno.number()),
-        Err(RegisterNo::OutOfMemory) => Err(OutOfMemory),
+        Err(RegisterError::Refused(errno)) => Ok(errno.number()),
+        Err(RegisterError::OutOfMemory) => Err(OutOfMemory),
     }
 }
 

@@ -4,7 +4,7 @@ mod command;
 use crate::steps::said;
 use crate::words::{decoded, escaped, first_word, small};
 use bd_base::{OutOfMemory, Rows, Script, digest_of};
-use bd_jobs::{JobNo, generate, generated_scripts, read_jobs};
+use bd_jobs::{JobError, generate, generated_scripts, read_jobs};
 use std::alloc::Global;
 
 pub(crate) fn answer(alloc: Global, case: &str) -> Result<String, OutOfMemory> {
@@ -24,8 +24,8 @@ pub(crate) fn answer(alloc: Global, case: &str) -> Result<String, OutOfMemory> {
 fn outcome(alloc: Global, text: &[u8], threads: u32) -> Result<String, OutOfMemory> {
     match read_jobs(alloc, text, threads) {
         Ok(scripts) => told(alloc, scripts.as_slice()),
-        Err(JobNo::Line(line)) => Ok(format!(in alloc; "line {line}")?),
-        Err(JobNo::OutOfMemory) => Err(OutOfMemory),
+        Err(JobError::Line(line)) => Ok(format!(in alloc; "line {line}")?),
+        Err(JobError::OutOfMemory) => Err(OutOfMemory),
     }
 }
 

@@ -5,7 +5,7 @@ ghost use Rattle.std.specs.Prelude.{◌≡◌, IfOk};
 use crate::steps::{Subject, said, told};
 use crate::words::{first_word, small};
 use bd_base::{Act, Entry, OutOfMemory, ThreadId};
-use bd_log::{Log, LogNo, merge, merge_onto};
+use bd_log::{Log, LogError, merge, merge_onto};
 use std::alloc::Global;
 
 pub(crate) fn answer(alloc: Global, case: &str) -> Result<String, OutOfMemory> {
@@ -27,8 +27,8 @@ impl Subject for Log {
             }
             ["push"] => match self.push(Act::Shutdown) {
                 Ok(stamp) => Ok(format!(in alloc; "{stamp}")?),
-                Err(LogNo::OutOfMemory) => Err(OutOfMemory),
-                Err(LogNo::StampsSpent(last)) => Ok(format!(in alloc; "spent at {last}")?),
+                Err(LogError::OutOfMemory) => Err(OutOfMemory),
+                Err(LogError::StampsSpent(last)) => Ok(format!(in alloc; "spent at {last}")?),
             },
             ["meet", stamp] => {
                 self.meet(stamp.parse().unwrap_or(0));

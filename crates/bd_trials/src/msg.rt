@@ -8,9 +8,9 @@ use std::alloc::Global;
 pub(crate) fn answer(alloc: Global, numbers: &str) -> Result<String, OutOfMemory> {
     let mut mint = Mint::new(ThreadId(3));
     let mut purse = Purse::new(alloc);
-    if let Err(no) = purse.reserve(2) {
+    if let Err(error) = purse.reserve(2) {
         purse.abandon();
-        return Err(no);
+        return Err(error);
     }
     purse.keep(mint.issue());
     mint.meet(6);

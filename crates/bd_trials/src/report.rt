@@ -9,7 +9,7 @@ use bd_outside::MemSink;
 use bd_report::counter::{Counter, stats};
 use bd_report::counts::Counts;
 use bd_report::report::report;
-use bd_report::writing::{ReportNo, write_report};
+use bd_report::writing::{ReportError, write_report};
 use std::alloc::Global;
 
 pub(crate) fn answer(alloc: Global, case: &str, full: bool) -> Result<String, OutOfMemory> {
@@ -43,7 +43,7 @@ pub(crate) fn statistics(alloc: Global, case: &str) -> Result<String, OutOfMemor
     Ok(text)
 }
 
-/// What a sink with room for so many bytes takes of a report that isn't full.
+/// What a sink with room for a number of bytes takes of a report that isn't full.
 pub(crate) fn written(alloc: Global, case: &str) -> Result<String, OutOfMemory> {
     let (room, rest) = first_word(case);
     let (setup, trace) = run(alloc, rest)?;
@@ -52,8 +52,8 @@ pub(crate) fn written(alloc: Global, case: &str) -> Result<String, OutOfMemory> 
     let mut sink = MemSink::new(alloc, number(room))?;
     let word = match write_report(alloc, &mut sink, &setup, trace, &stats, false) {
         Ok(()) => "whole",
-        Err(ReportNo::WriteFault) => "write fault",
-        Err(ReportNo::OutOfMemory) => return Err(OutOfMemory),
+        Err(ReportError::WriteFault) => "write fault",
+        Err(ReportError::OutOfMemory) => return Err(OutOfMemory),
     };
     let text = escaped(alloc, sink.bytes())?;
     Ok(format!(in alloc; "{word}; {text}")?)

@@ -2,7 +2,7 @@
 //! the thread sees; the answer has the moves, up to the first that waits.
 use crate::words::{first_word, number, op, small};
 use bd_base::{ClaimKind, Job, Line, Name, NameList, OutOfMemory, Rows, View};
-use bd_user::{Move, User};
+use bd_rule_lines::{Move, User};
 use std::alloc::Global;
 
 pub(crate) fn answer(alloc: Global, case: &str) -> Result<String, OutOfMemory> {

@@ -51,7 +51,7 @@ use Rattle.bd_machine.specs.Destruction.{named}
 use Rattle.bd_machine.specs.Events.{decided_by, paid, owing, with_due, alone, device_due, channel_due, gone_due, go_due, closed_by, destruct_of, born, all_born, got_by, put_down_by, put_paid, dropped_by, removal_paid, with_reset, advanced, reset_finishes, freed_by, removing, reset_begun, reset_thaws, injection_taken, change_reg, first_req}
 use Rattle.bd_machine.specs.Homes.{base_here, change_applied, is_told}
 use Rattle.bd_machine.specs.Kept.{request_here, piece_here, walk_here}
-use Rattle.bd_machine.specs.Limits.{arrived, departed, next_limited, is_limited}
+use Rattle.bd_machine.specs.Limits.{arrived, departed, next_limited, waits_at, is_limited}
 use Rattle.bd_machine.specs.Marks.{remarked, frozen_as, freeze_set, removal_set}
 use Rattle.bd_machine.specs.Messages.{is_due_to, due_after, news_of, request_took, removals_owed, told_part, freezes, went, told_walk, taken_by, arrived_walk, closed_notice}
 use Rattle.bd_machine.specs.Registry.{made, device_named, close_answer, drop_answer, handle_of, references, is_count}
@@ -281,7 +281,7 @@ departed_alike p req (Some dev) = record { due_is = refl; owed_is = refl }
 
 stopped_alike : (setup : Setup) (p : Part) (req : ReqId) (x : Option OpenRequest) → Alike p (stopped setup p req x)
 stopped_alike setup p req None = same_as p
-stopped_alike setup p req (Some r) = departed_alike p req (next_limited setup r)
+stopped_alike setup p req (Some r) = departed_alike p req (waits_at setup r)
 
 request_alike : (setup : Setup) (req : ReqId) (r : OpenRequest) (trip : Trip) (p : Part) → Alike p (request_took setup req r trip p)
 request_alike setup req r trips.Out p = arrived_alike p req (next_limited setup r)

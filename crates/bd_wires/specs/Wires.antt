@@ -4,9 +4,8 @@ use Rattle.bd_base.specs.declared.journal.Start.{Start}
 use Rattle.bd_turns.specs.declared.queue.Post.{Post}
 use Rattle.bd_registry.specs.State.{Registered, start_of}
 use Rattle.bd_ring.specs.Posts.{sent_by}
-use Rattle.bd_ring.specs.Rings.{Place, Sender}
+use Rattle.bd_ring.specs.Rings.{AreSendsTo, Place, Sender}
 use Rattle.bd_ring.specs.SlotRule.{StartsWith, rows_of}
-use Rattle.bd_seat.specs.Outgoing.{AreSendsTo}
 use Rattle.bd_wires.specs.declared.wires.Passes.{Passes}
 use Rattle.bd_wires.specs.declared.wires.Wires.{Wires}
 

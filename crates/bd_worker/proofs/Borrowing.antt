@@ -8,11 +8,11 @@ use Rattle.bd_log.specs.Merge.{entries_of}
 use Rattle.bd_registry.specs.State.{Registered, start_of}
 use Rattle.bd_ring.specs.SlotRule.{AddsOwn, StartsWith, rows_of}
 use Rattle.bd_ring.specs.Slots.{Holder, after_give, after_take, IsTakenBy}
-use Rattle.bd_apart.specs.Course.{Course, Phase}
+use Rattle.bd_law_threads.specs.Course.{Course, Phase}
 use Rattle.bd_turns.specs.declared.queue.Post.{Post}
-use Rattle.bd_storage.specs.Contents.{contents_of}
-use Rattle.bd_storage.specs.Served.{AreDoneBy}
-use Rattle.bd_storage.proofs.Served.{done_same, done_then}
+use Rattle.bd_disks.specs.Contents.{contents_of}
+use Rattle.bd_disks.specs.Done.{AreDoneBy}
+use Rattle.bd_disks.proofs.Done.{done_then, done_same}
 use Rattle.bd_wires.specs.declared.wires.Wires.{Wires}
 use Rattle.bd_worker.specs.declared.seat.Seat.{Seat}
 use Rattle.bd_worker.specs.declared.worker.Worker.{Worker}

@@ -10,15 +10,15 @@ use Rattle.bd_turns.specs.declared.queue.Message.{Message}
 use Rattle.bd_turns.specs.declared.queue.Post.{Post}
 use Rattle.bd_turns.specs.Local.{Local}
 use Rattle.bd_links.specs.Queues.{queues_of}
-use Rattle.bd_ring.specs.Rings.{Sender}
-use Rattle.bd_apart.specs.Course.{Course, IsCourse, Phase}
-use Rattle.bd_apart.specs.Steps.{sent_more, with_queues, Goes}
-use Rattle.bd_apart.proofs.Leaving.{departures_are_stamped}
-use Rattle.bd_seat.specs.Outgoing.{AreSendsTo, FlushedAll, FlushedIf}
+use Rattle.bd_ring.specs.Rings.{AreSendsTo, Sender}
+use Rattle.bd_law_threads.specs.Course.{Course, IsCourse, Phase}
+use Rattle.bd_law_threads.specs.Steps.{sent_more, with_queues, Goes}
+use Rattle.bd_law_threads.proofs.Leaving.{departures_are_stamped}
+use Rattle.bd_seat.specs.Outgoing.{FlushedAll, FlushedIf}
 use Rattle.bd_thread.specs.declared.links.Links.{Links}
-use Rattle.bd_storage.specs.Contents.{contents_of}
+use Rattle.bd_disks.specs.Contents.{contents_of}
 use Rattle.bd_thread.specs.Seen.{local}
-use Rattle.bd_told.specs.Told.{told_local, AreBasesLowest}
+use Rattle.bd_law_disks.specs.Told.{told_local, AreBasesLowest}
 use Rattle.bd_wires.specs.declared.wires.Passes.{Passes}
 use Rattle.bd_wires.specs.declared.wires.Wires.{Wires}
 use Rattle.bd_wires.specs.Wires.{put_by, put_into}

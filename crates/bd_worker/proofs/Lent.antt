@@ -4,7 +4,7 @@ use Rattle.std.proofs.Math.Seq.{take-append_seam}
 use Rattle.bd_base.specs.declared.act.Entry.{Entry}
 use Rattle.bd_base.specs.declared.setup.Setup.{Setup}
 use Rattle.bd_machine.specs.Start.{registry_at_start}
-use Rattle.bd_merged.specs.Journals.{registry_by}
+use Rattle.bd_law_logs.specs.Journals.{registry_by}
 use Rattle.bd_registry.specs.State.{Registered, start_of}
 use Rattle.bd_registry.proofs.Alike.{leaves_alike}
 use Rattle.bd_worker.specs.declared.worker.Worker.{Worker}

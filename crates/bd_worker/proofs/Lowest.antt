@@ -6,7 +6,7 @@ use Rattle.bd_base.specs.declared.id.DevId.{DevId}
 use Rattle.bd_base.specs.declared.setup.Setup.{Setup}
 use Rattle.bd_machine.specs.BlockMap.{has_kind, is_base_kind, row_of, stands_on}
 use Rattle.bd_machine.specs.Users.{dev_of}
-use Rattle.bd_told.specs.Told.{AreBasesLowest}
+use Rattle.bd_law_disks.specs.Told.{AreBasesLowest}
 use Rattle.bd_worker.proofs.Places.{all_below, is_below}
 
 abbrev is_base : Setup → ℕ → Bool

@@ -10,11 +10,11 @@ use Rattle.bd_machine.specs.declared.state.Registry.{Registry}
 use Rattle.bd_machine.specs.Changes.{registry_after}
 use Rattle.bd_machine.specs.Step.{is_shutdown}
 use Rattle.bd_machine.specs.View.{asked}
-use Rattle.bd_merged.specs.Journals.{registry_by, registry_next, IsAnswered, IsReplay}
-use Rattle.bd_merged.specs.Turning.{AreRestamped}
-use Rattle.bd_merged.proofs.Turning.{turn_is_accepted}
-use Rattle.bd_apart.specs.Course.{acts_of, restamped}
-use Rattle.bd_told.specs.Over.{contents_then, local_over, LeadsOver}
+use Rattle.bd_law_logs.specs.Journals.{registry_by, registry_next, IsAnswered, IsReplay}
+use Rattle.bd_law_logs.specs.Turning.{AreRestamped}
+use Rattle.bd_law_logs.proofs.Turning.{turn_is_accepted}
+use Rattle.bd_law_threads.specs.Course.{acts_of, restamped}
+use Rattle.bd_law_disks.specs.Over.{contents_then, local_over, LeadsOver}
 use Rattle.bd_turns.specs.Local.{local_after, Leads, Local}
 
 or_false : (b : Bool) → b || false ≡ b

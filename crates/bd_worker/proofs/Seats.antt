@@ -10,20 +10,24 @@ use Rattle.bd_turns.specs.declared.queue.Post.{Post}
 use Rattle.bd_turns.specs.Local.{Local}
 use Rattle.bd_links.specs.Queues.{queues_of}
 use Rattle.bd_log.specs.Log.{Written}
-use Rattle.bd_merged.specs.Rows.{message_of}
+use Rattle.bd_law_logs.specs.Rows.{message_of}
 use Rattle.bd_ring.specs.Rings.{Receiver}
-use Rattle.bd_apart.specs.Course.{Course, IsCourse, Phase}
-use Rattle.bd_apart.specs.Steps.{arrived_more, with_arrived, with_queues}
-use Rattle.bd_apart.proofs.Arriving.{arrivals_are_met}
+use Rattle.bd_law_threads.specs.Course.{Course, IsCourse, Phase}
+use Rattle.bd_law_threads.specs.Steps.{arrived_more, with_arrived, with_queues}
+use Rattle.bd_law_threads.proofs.Arriving.{arrivals_are_met}
 use Rattle.bd_seat.specs.Incoming.{Fetched, IsMet}
 use Rattle.bd_thread.specs.declared.links.Links.{Links}
-use Rattle.bd_storage.specs.Contents.{contents_of}
+use Rattle.bd_disks.specs.Contents.{contents_of}
+use Rattle.bd_thread.specs.Asleep.{begun_at}
 use Rattle.bd_thread.specs.Seen.{local}
-use Rattle.bd_told.specs.Told.{told_local, AreBasesLowest}
+use Rattle.bd_thread.proofs.Tickets.{same_tickets}
+use Rattle.bd_law_disks.specs.Told.{told_local, AreBasesLowest}
 use Rattle.bd_wires.specs.declared.wires.Wires.{Wires}
 use Rattle.bd_worker.specs.declared.seat.Seat.{Seat}
 use Rattle.bd_outside.specs.Disk.{DiskState}
 use Rattle.bd_worker.specs.Seats.{seen_over, Continues, IsAt, IsSeat, IsSitting, Past}
+use Rattle.bd_worker.specs.Waits.{begun_seat}
+use Rattle.bd_worker.specs.declared.worker.Worker.{Worker}
 
 -- ---- one after the other
 
@@ -40,6 +44,50 @@ continues_then {state = state} w a b c f g = record {
 -- who sat there sits there still
 pub sitting_then : {D : Type 0} {state : D → DiskState} → (w : Wires) (a b : Seat D) → IsSitting state w a → Continues state w a b → IsSitting state w b
 sitting_then w a b s f = record { setup = s.setup; t = s.t; p = s.p; past = s.past; opened = s.opened; sits = f.sits s.setup s.t s.p s.past s.opened s.sits }
+
+-- ---- a turn begins
+
+-- nothing of a thread's course goes by its moments
+begun_worker : (setup : Setup) (t : ℕ) (p : Phase) (c : Course) (past : Past) (contents : DevId → Content) (now : ℕ) (w : Worker)
+    → IsAt setup t p c past contents w → IsAt setup t p c past contents (record w { thread = begun_at now w.thread })
+begun_worker setup t p c past contents now w a = record {
+  me = a.me;
+  number = a.number;
+  given = a.given;
+  within = a.within;
+  tickets = same_tickets w.thread (begun_at now w.thread) refl refl refl a.tickets;
+  queues = a.queues;
+  rows = a.rows;
+  empty = a.empty;
+  log_thread = a.log_thread;
+  log_entries = a.log_entries;
+  log_last = a.log_last;
+  later = a.later;
+  met = a.met;
+  once = a.once;
+  replica = a.replica;
+  course = a.course;
+}
+
+pub begun_continues : {D : Type 0} (state : D → DiskState) (w : Wires) (now : ℕ) (s : Seat D) → Continues state w s (begun_seat now s)
+begun_continues {D} state w now s = record {
+  flag = refl;
+  halted = refl;
+  sits = λ setup t p past opened h. record { course = h.course; seat = seat setup t p h.course past opened h.seat };
+}
+  where
+    seat : (setup : Setup) (t : ℕ) (p : Phase) (c : Course) (past : Past) (opened : List (DevId × D)) → IsSeat state setup t p c past w opened s → IsSeat state setup t p c past w opened (begun_seat now s)
+    seat setup t p c past opened q = record {
+      worker = begun_worker setup t p c past (contents_of state s.disks) now s.worker q.worker;
+      linked = q.linked;
+      start = q.start;
+      taken = q.taken;
+      sent = q.sent;
+      seen = q.seen;
+      wrote = q.wrote;
+      count = q.count;
+      done = q.done;
+    }
 
 -- ---- posts come
 

@@ -17,25 +17,25 @@ use Rattle.bd_turns.specs.Local.{Local}
 use Rattle.bd_log.specs.Log.{entry_of as entry_at, Written}
 use Rattle.bd_log.specs.Merge.{entries_of}
 use Rattle.bd_log.proofs.Order.{all_append}
-use Rattle.bd_merged.specs.Rows.{Row, entries, entry_of}
-use Rattle.bd_merged.specs.Journals.{registry_by}
-use Rattle.bd_merged.specs.Laws.{shutdown_of}
+use Rattle.bd_law_logs.specs.Rows.{Row, entries, entry_of}
+use Rattle.bd_law_logs.specs.Journals.{registry_by}
+use Rattle.bd_law_logs.specs.Laws.{shutdown_of}
 use Rattle.bd_registry.specs.State.{Registered, shut_at, start_of}
 use Rattle.bd_ring.specs.SlotRule.{AddsOwn}
 use Rattle.bd_ring.specs.Slots.{Holder, after_give, after_take, IsTakenBy}
-use Rattle.bd_apart.specs.Course.{all_rows, Course, IsCourse, Phase}
-use Rattle.bd_apart.specs.Steps.{course_then, second_phase, with_registry, with_shutdown, SeesOwn}
-use Rattle.bd_apart.proofs.Following.{view_same}
-use Rattle.bd_apart.proofs.Rows.{registry_on}
-use Rattle.bd_apart.proofs.Shutting.{shutdown_begins_a_phase}
+use Rattle.bd_law_threads.specs.Course.{all_rows, Course, IsCourse, Phase}
+use Rattle.bd_law_threads.specs.Steps.{course_then, second_phase, with_registry, with_shutdown, SeesOwn}
+use Rattle.bd_law_threads.proofs.Following.{view_same}
+use Rattle.bd_law_threads.proofs.Rows.{registry_on}
+use Rattle.bd_law_threads.proofs.Shutting.{shutdown_begins_a_phase}
 use Rattle.bd_base.specs.declared.id.DevId.{DevId}
 use Rattle.bd_machine.specs.declared.state.Content.{Content}
 use Rattle.bd_outside.specs.Disk.{DiskState}
-use Rattle.bd_served.specs.Served.{ServedPiece}
-use Rattle.bd_storage.specs.Contents.{contents_of}
-use Rattle.bd_storage.specs.Served.{AreDoneBy}
+use Rattle.bd_law_served.specs.Served.{ServedPiece}
+use Rattle.bd_disks.specs.Contents.{contents_of}
+use Rattle.bd_disks.specs.Done.{AreDoneBy}
 use Rattle.bd_thread.specs.Seen.{number_of}
-use Rattle.bd_told.specs.Told.{AreBasesLowest}
+use Rattle.bd_law_disks.specs.Told.{AreBasesLowest}
 use Rattle.bd_turns.specs.declared.queue.Post.{Post}
 use Rattle.bd_wires.specs.declared.wires.Wires.{Wires}
 use Rattle.bd_worker.specs.declared.seat.Seat.{Seat}

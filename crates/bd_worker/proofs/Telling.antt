@@ -2,7 +2,7 @@
 use Rattle.std.proofs.Common.{◌≡◌, ℕ, suc, ◌+◌, ◌<◌, ◌≤◌, Bool, true, false, cond, ◌==◌, ◌-◌, ◌⊎◌, inl, inr, eqb-true, eq-eqb, List, [], ◌∷◌, ◌++◌, length, refl, sym, ◌∙◌, ap, subst, length-append, arith}
 use Rattle.std.proofs.lemmas.Bool.{cases_lt, true≢false}
 use Rattle.bd_base.specs.declared.act.Entry.{Entry}
-use Rattle.bd_apart.specs.Course.{acts_of, restamped}
+use Rattle.bd_law_threads.specs.Course.{acts_of, restamped}
 use Rattle.bd_log.specs.Log.{Written}
 use Rattle.bd_seat.specs.Taking.{Appends}
 use Rattle.bd_thread.specs.Moves.{turned_of}

@@ -1,5 +1,5 @@
 -- A quiet turn of a seat, by what its thread answers.
-use Rattle.std.proofs.Common.{◌≡◌, false, List, [], ◌⊎◌, inl, inr, sym, ◌∙◌, ap, subst}
+use Rattle.std.proofs.Common.{◌≡◌, ℕ, false, List, [], ◌⊎◌, inl, inr, sym, ◌∙◌, ap, subst}
 use Rattle.bd_base.specs.declared.act.Entry.{Entry}
 use Rattle.bd_registry.specs.State.{Registered}
 use Rattle.bd_ring.specs.Slots.{WasAway}
@@ -11,7 +11,7 @@ use Rattle.bd_thread.specs.Waits.{IsWaiting, Quiets}
 use Rattle.bd_thread.specs.Work.{wants_registry, QuietsAlone}
 use Rattle.bd_worker.specs.declared.seat.Seat.{Seat}
 use Rattle.bd_worker.specs.declared.worker.Worker.{Worker}
-use Rattle.bd_worker.specs.Waits.{Idles, IdlesAlone, IdlesWith, QuietTurns, Receives, Sends}
+use Rattle.bd_worker.specs.Waits.{begun_seat, Idles, IdlesAlone, IdlesWith, QuietTurns, Receives, Sends}
 
 -- ---- a worker
 
@@ -49,6 +49,6 @@ pub idles_lent : {D : Type 0} → (old new : Seat D) (turned : Turned) → ((len
 idles_lent old new Quiet q = inr q
 idles_lent old new (Moved n) q = tt
 
-pub turns_quietly : {D : Type 0} → (old came still new : Seat D) (turned : Turned) → Receives old came → Idles came still turned → Sends still new → QuietTurns old new turned
-turns_quietly old came still new Quiet receives idle sends = record { came = came; still = still; receives = receives; idle = idle; sends = sends }
-turns_quietly old came still new (Moved n) receives idle sends = tt
+pub turns_quietly : {D : Type 0} → (now : ℕ) (old came still new : Seat D) (turned : Turned) → Receives old came → Idles (begun_seat now came) still turned → Sends still new → QuietTurns now old new turned
+turns_quietly now old came still new Quiet receives idle sends = record { came = came; still = still; receives = receives; idle = idle; sends = sends }
+turns_quietly now old came still new (Moved n) receives idle sends = tt

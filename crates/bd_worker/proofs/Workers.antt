@@ -16,30 +16,31 @@ use Rattle.bd_turns.specs.Local.{Local}
 use Rattle.bd_log.specs.Log.{Written}
 use Rattle.bd_log.specs.Merge.{entries_of}
 use Rattle.bd_log.proofs.Order.{all_append}
-use Rattle.bd_merged.specs.Rows.{entries, entry_of, Row}
-use Rattle.bd_merged.specs.Journals.{events, is_event, registry_by, registry_next}
+use Rattle.bd_law_logs.specs.Rows.{entries, entry_of, Row}
+use Rattle.bd_law_logs.specs.Journals.{events, is_event, registry_by, registry_next}
 use Rattle.bd_outside.specs.Disk.{DiskState}
 use Rattle.bd_registry.specs.State.{Registered, start_of}
-use Rattle.bd_served.specs.Served.{served_led, served_over, ServedPiece}
-use Rattle.bd_served.proofs.Over.{over_serves_as_told}
-use Rattle.bd_apart.specs.Course.{acts_of, restamped, Course, IsCourse, Phase}
-use Rattle.bd_apart.specs.Steps.{with_registry, GoesOn, IsLonger, SeesOwn}
-use Rattle.bd_apart.proofs.Acting.{acts_on, any_stamp}
-use Rattle.bd_apart.proofs.Arriving.{stamps_are_met}
-use Rattle.bd_apart.proofs.Following.{others_are_followed}
-use Rattle.bd_apart.proofs.Rows.{registry_of_events, registry_on}
+use Rattle.bd_law_served.specs.Served.{served_led, served_over, ServedPiece}
+use Rattle.bd_law_served.proofs.Over.{over_serves_as_told}
+use Rattle.bd_law_threads.specs.Course.{acts_of, restamped, Course, IsCourse, Phase}
+use Rattle.bd_law_threads.specs.Steps.{with_registry, GoesOn, IsLonger, SeesOwn}
+use Rattle.bd_law_threads.proofs.Acting.{acts_on, any_stamp}
+use Rattle.bd_law_threads.proofs.Arriving.{stamps_are_met}
+use Rattle.bd_law_threads.proofs.Following.{others_are_followed}
+use Rattle.bd_law_threads.proofs.Rows.{registry_of_events, registry_on}
 use Rattle.bd_seat.specs.Taking.{Appends, AppendsAlone, TakesOver}
-use Rattle.bd_storage.specs.Contents.{contents_of}
-use Rattle.bd_storage.specs.Served.{AreDoneBy, WentAloneWithDisks, WentWithDisks}
+use Rattle.bd_disks.specs.Contents.{contents_of}
+use Rattle.bd_disks.specs.Done.{AreDoneBy}
+use Rattle.bd_storage.specs.Served.{WentAloneWithDisks, WentWithDisks}
 use Rattle.bd_thread.specs.declared.links.Links.{Links}
 use Rattle.bd_thread.specs.declared.thread.Thread.{Thread}
 use Rattle.bd_thread.specs.Over.{WentOver}
 use Rattle.bd_thread.specs.Requests.{KeepsTickets}
 use Rattle.bd_thread.specs.Seen.{local, number_of, setup_of}
-use Rattle.bd_told.specs.Over.{LeadsOver}
-use Rattle.bd_told.specs.Told.{told_local, AreBasesLowest}
-use Rattle.bd_told.proofs.Over.{over_is_told, over_keeps_bases}
-use Rattle.bd_told.proofs.Start.{memory_is_apart}
+use Rattle.bd_law_disks.specs.Over.{LeadsOver}
+use Rattle.bd_law_disks.specs.Told.{told_local, AreBasesLowest}
+use Rattle.bd_law_disks.proofs.Over.{over_is_told, over_keeps_bases}
+use Rattle.bd_law_disks.proofs.Start.{memory_is_apart}
 use Rattle.bd_worker.specs.declared.worker.Worker.{Worker}
 use Rattle.bd_worker.specs.Seats.{AddsServed, seen_over, GoesAlone, GoesWith, HasSamePosts, IsAt, IsLent, Past, WentAlone, WentWith}
 use Rattle.bd_worker.proofs.Lowest.{lowest_or_not}

@@ -11,18 +11,18 @@ use Rattle.bd_machine.specs.declared.state.Content.{Content}
 use Rattle.bd_machine.specs.Start.{registry_at_start}
 use Rattle.bd_outside.specs.Disk.{DiskState}
 use Rattle.bd_registry.specs.State.{Registered, rows_of, start_of}
-use Rattle.bd_merged.specs.Rows.{entries}
-use Rattle.bd_merged.specs.Journals.{registry_by}
+use Rattle.bd_law_logs.specs.Rows.{entries}
+use Rattle.bd_law_logs.specs.Journals.{registry_by}
 use Rattle.bd_ring.specs.SlotRule.{AddsOwn, StartsWith}
-use Rattle.bd_served.specs.Served.{ServedPiece}
-use Rattle.bd_apart.specs.Course.{all_rows, Course, IsCourse, Phase}
-use Rattle.bd_storage.specs.Contents.{contents_of}
-use Rattle.bd_storage.specs.Served.{AreDoneBy}
+use Rattle.bd_law_served.specs.Served.{ServedPiece}
+use Rattle.bd_law_threads.specs.Course.{all_rows, Course, IsCourse, Phase}
+use Rattle.bd_disks.specs.Contents.{contents_of}
+use Rattle.bd_disks.specs.Done.{AreDoneBy}
 use Rattle.bd_thread.specs.Requests.{KeepsTickets}
 use Rattle.bd_thread.specs.declared.turn.Turned.{Turned}
 use Rattle.bd_thread.specs.declared.turn.Turned.TheVariants.{Moved, Quiet}
 use Rattle.bd_thread.specs.Seen.{local, number_of, setup_of}
-use Rattle.bd_told.specs.Told.{told_local, AreBasesLowest, IsOnce}
+use Rattle.bd_law_disks.specs.Told.{told_local, AreBasesLowest, IsOnce}
 use Rattle.bd_turns.specs.Local.{Local}
 use Rattle.bd_wires.specs.declared.wires.Wires.{Wires}
 use Rattle.bd_wires.specs.Wires.{put_into, IsLinked}

@@ -9,9 +9,9 @@ use Rattle.bd_machine.specs.Lines.{shutdown_at}
 use Rattle.bd_outside.specs.Disk.{DiskState}
 use Rattle.bd_registry.specs.State.{Registered, start_of}
 use Rattle.bd_ring.specs.SlotRule.{AddsOwn}
-use Rattle.bd_apart.specs.Course.{Course, Phase}
-use Rattle.bd_apart.specs.Steps.{second_phase}
-use Rattle.bd_storage.specs.Contents.{contents_of}
+use Rattle.bd_law_threads.specs.Course.{Course, Phase}
+use Rattle.bd_law_threads.specs.Steps.{second_phase}
+use Rattle.bd_disks.specs.Contents.{contents_of}
 use Rattle.bd_wires.specs.declared.wires.Wires.{Wires}
 use Rattle.bd_worker.specs.declared.seat.Seat.{Seat}
 use Rattle.bd_worker.specs.declared.worker.Worker.{Worker}

@@ -1,11 +1,12 @@
 -- What a seat waits for where its turn added no entry.
-use Rattle.std.specs.Prelude.{◌≡◌, ◌⊎◌, Option, Some, None, false}
+use Rattle.std.specs.Prelude.{◌≡◌, ℕ, ◌⊎◌, Option, Some, None, false}
 use Rattle.bd_registry.specs.State.{Registered}
 use Rattle.bd_ring.specs.Slots.{WasAway}
 use Rattle.bd_seat.specs.Incoming.{Fetched, HasFetchedAll}
 use Rattle.bd_seat.specs.Outgoing.{FlushedAll}
 use Rattle.bd_thread.specs.declared.turn.Turned.{Turned}
 use Rattle.bd_thread.specs.declared.turn.Turned.TheVariants.{Moved, Quiet}
+use Rattle.bd_thread.specs.Asleep.{begun_at}
 use Rattle.bd_thread.specs.Waits.{IsIdle, IsWaiting}
 use Rattle.bd_thread.specs.Work.{wants_registry, IsWaitingAlone}
 use Rattle.bd_worker.specs.declared.seat.Seat.{Seat}
@@ -42,6 +43,10 @@ pub record Receives {D : Type 0} (old new : Seat D) : Type 0 where
   pub links : new.worker.links ≡ record old.worker.links { queues = new.worker.links.queues }
   pub thread : new.worker.thread ≡ old.worker.thread
 
+-- the thread's turn began while the clock told this moment; all else stayed
+abbrev pub begun_seat : {D : Type 0} → ℕ → Seat D → Seat D
+begun_seat now s = record s { worker = record s.worker { thread = begun_at now s.worker.thread } }
+
 -- what was in its queues to others went into their rings, as far as these took it
 pub record Sends {D : Type 0} (old new : Seat D) : Type 0 where
   pub flushed : FlushedAll old.worker.me old.worker.log.last old.passes.sends.items old.worker.links.queues.items new.passes.sends.items new.worker.links.queues.items
@@ -63,14 +68,14 @@ abbrev pub Idles : {D : Type 0} → Seat D → Seat D → Turned → Type 0
 Idles old new Quiet = IsIdleSeat old new
 Idles old new (Moved n) = Unit {0}
 
--- a quiet turn: posts came, there was nothing to do, and what was to be sent went
-pub record IsQuietTurn {D : Type 0} (old new : Seat D) : Type 0 where
+-- a quiet turn while the clock told this moment: posts came, there was nothing to do at the turn's moment, and what was to be sent went
+pub record IsQuietTurn {D : Type 0} (now : ℕ) (old new : Seat D) : Type 0 where
   pub came : Seat D
   pub still : Seat D
   pub receives : Receives old came
-  pub idle : IsIdleSeat came still
+  pub idle : IsIdleSeat (begun_seat now came) still
   pub sends : Sends still new
 
-abbrev pub QuietTurns : {D : Type 0} → Seat D → Seat D → Turned → Type 0
-QuietTurns old new Quiet = IsQuietTurn old new
-QuietTurns old new (Moved n) = Unit {0}
+abbrev pub QuietTurns : {D : Type 0} → ℕ → Seat D → Seat D → Turned → Type 0
+QuietTurns now old new Quiet = IsQuietTurn now old new
+QuietTurns now old new (Moved n) = Unit {0}

@@ -6,7 +6,7 @@ ghost use Rattle.bd_worker.specs.Seats.{IsHandedOut};
 use crate::worker::Worker;
 use bd_disks::{Disks, Shelf};
 use bd_log::LogPart;
-use bd_seat::SeatNo;
+use bd_seat::SeatError;
 use bd_wires::Passes;
 
 /// A thread of a setup with all that it has.
@@ -17,7 +17,7 @@ pub struct Seat<'a, D> {
     /// How many rows of the registry's journal it saw.
     pub seen: usize,
     /// Why it has to halt, if it has.
-    pub halted: Option<SeatNo>,
+    pub halted: Option<SeatError>,
     /// The disks of its thread's aio devices.
     pub disks: Disks<D>,
 }

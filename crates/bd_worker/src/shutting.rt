@@ -8,7 +8,7 @@ use crate::worker::Worker;
 use bd_base::Act;
 use bd_outside::Disk;
 use bd_registry::Registry;
-use bd_seat::{SeatNo, catch_up};
+use bd_seat::{SeatError, catch_up};
 use bd_wires::Wires;
 use std::alloc::Global;
 use std::sync::Wait;
@@ -22,7 +22,7 @@ impl<'a> Worker<'a> {
         lent: &mut Registry,
         seen: usize,
         above: u128,
-    ) -> Result<u128, SeatNo>
+    ) -> Result<u128, SeatError>
         requires { IsLentTo self.old seen lent.old }
         ensures { IfOk result (λ stamp. ShutsWith seen above self.old lent.old stamp self.new lent.new) }
     {
@@ -46,7 +46,7 @@ impl<'a, D: Disk> Seat<'a, D> {
         alloc: Global,
         wires: &Wires,
         above: u128,
-    ) -> Result<Option<u128>, SeatNo>
+    ) -> Result<Option<u128>, SeatError>
         requires sits { IsSitting D.state wires.now self.old }
         requires first { self.old.worker.me ≡ 0 }
         ensures shut { IfOk result (λ o. MatchOption o (self.new ≡ self.old) (λ stamp. (above < stamp) × Shuts D.state wires.now stamp self.old self.new)) }

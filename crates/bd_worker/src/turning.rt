@@ -1,11 +1,11 @@
 //! A seat's turns.
 ghost use Rattle.std.specs.Prelude.{◌≡◌, IfOk, OnOk};
 ghost use Rattle.bd_worker.specs.Seats.{made_by, Continues, HasSameDisks, HasSameEntries, IsSitting, IsWorking, KeepsOn, SitsOrHalts, Tells, TellsIfAny, WentOn};
-ghost use Rattle.bd_worker.specs.Waits.{Idles, IdlesAlone, IdlesIfLent, QuietTurns, Receives, Sends};
+ghost use Rattle.bd_worker.specs.Waits.{begun_seat, Idles, IdlesAlone, IdlesIfLent, QuietTurns, Receives, Sends};
 
 use crate::seat::Seat;
 use bd_outside::Disk;
-use bd_seat::{SeatNo, fetch, flush_all};
+use bd_seat::{SeatError, fetch, flush_all};
 use bd_thread::Turned;
 use bd_wires::Wires;
 use std::alloc::Global;
@@ -13,7 +13,7 @@ use std::sync::Wait;
 
 impl<'a, D: Disk> Seat<'a, D> {
     // Posts of its ring come into its queue.
-    fn receive<W: Wait>(&mut self, rt: &W, wires: &Wires) -> Result<(), SeatNo>
+    fn receive<W: Wait>(&mut self, rt: &W, wires: &Wires) -> Result<(), SeatError>
         requires { IsSitting D.state wires.now self.old }
         ensures goes { OnOk result (Continues D.state wires.now self.old self.new) }
         ensures entries { OnOk result (HasSameEntries self.old self.new) }
@@ -33,8 +33,16 @@ impl<'a, D: Disk> Seat<'a, D> {
         Ok(())
     }
 
+    // The thread's turn begins while the clock tells this moment (microseconds).
+    fn begin(&mut self, now: u64)
+        ensures begun { self.new ≡ begun_seat now self.old }
+        ensures disks { self.new.disks ≡ self.old.disks }
+    {
+        self.worker.thread.begin(now);
+    }
+
     // What is in its queues to others goes into their rings.
-    fn send<W: Wait>(&mut self, rt: &W, wires: &Wires) -> Result<(), SeatNo>
+    fn send<W: Wait>(&mut self, rt: &W, wires: &Wires) -> Result<(), SeatError>
         requires { IsSitting D.state wires.now self.old }
         ensures goes { OnOk result (Continues D.state wires.now self.old self.new) }
         ensures entries { OnOk result (HasSameEntries self.old self.new) }
@@ -60,7 +68,7 @@ impl<'a, D: Disk> Seat<'a, D> {
         rt: &W,
         alloc: Global,
         wires: &Wires,
-    ) -> Result<Option<Turned>, SeatNo>
+    ) -> Result<Option<Turned>, SeatError>
         requires { IsSitting D.state wires.now self.old }
         ensures goes { OnOk result (Continues D.state wires.now self.old self.new) }
         ensures turned { IfOk result (TellsIfAny (made_by self.old) (made_by self.new)) }
@@ -79,7 +87,7 @@ impl<'a, D: Disk> Seat<'a, D> {
     }
 
     // A turn without the registry.
-    fn work(&mut self, alloc: Global) -> Result<Turned, SeatNo>
+    fn work(&mut self, alloc: Global) -> Result<Turned, SeatError>
         requires { IsWorking self.old.worker }
         ensures goes { OnOk result (KeepsOn D.state self.old self.new) }
         ensures turned { IfOk result (Tells (made_by self.old) (made_by self.new)) }
@@ -90,7 +98,7 @@ impl<'a, D: Disk> Seat<'a, D> {
     }
 
     // A turn with the registry, where the thread wants it and it is in its slot; else one without.
-    fn act<W: Wait>(&mut self, rt: &W, alloc: Global, wires: &Wires) -> Result<Turned, SeatNo>
+    fn act<W: Wait>(&mut self, rt: &W, alloc: Global, wires: &Wires) -> Result<Turned, SeatError>
         requires { IsSitting D.state wires.now self.old }
         ensures goes { OnOk result (Continues D.state wires.now self.old self.new) }
         ensures turned { IfOk result (Tells (made_by self.old) (made_by self.new)) }
@@ -106,32 +114,41 @@ impl<'a, D: Disk> Seat<'a, D> {
         }
     }
 
-    /// A turn: what came in its ring, what the thread does, and what it put to others.
-    pub fn turn<W: Wait>(&mut self, rt: &W, alloc: Global, wires: &Wires) -> Result<Turned, SeatNo>
+    /// A turn while the clock tells this moment (microseconds): what came in its ring, what the thread does, and what
+    /// it put to others.
+    pub fn turn<W: Wait>(
+        &mut self,
+        rt: &W,
+        alloc: Global,
+        wires: &Wires,
+        now: u64,
+    ) -> Result<Turned, SeatError>
         requires { IsSitting D.state wires.now self.old }
         ensures goes { OnOk result (Continues D.state wires.now self.old self.new) }
         ensures turned { IfOk result (Tells (made_by self.old) (made_by self.new)) }
-        ensures quiet { IfOk result (QuietTurns self.old self.new) }
+        ensures quiet { IfOk result (QuietTurns now self.old self.new) }
         ensures kept { HasSameDisks D.state self.old self.new }
     {
         self.receive(rt, wires)?;
+        self.begin(now);
         let turned = self.act(rt, alloc, wires)?;
         self.send(rt, wires)?;
         Ok(turned)
     }
 
-    /// A turn in a round, unless the seat has to halt; true where it moved. What halts it is kept.
-    pub fn step<W: Wait>(&mut self, rt: &W, alloc: Global, wires: &Wires) -> bool
+    /// A turn in a round while the clock tells this moment (microseconds), unless the seat has to halt; true where it
+    /// moved. What halts it is kept.
+    pub fn step<W: Wait>(&mut self, rt: &W, alloc: Global, wires: &Wires, now: u64) -> bool
         requires { SitsOrHalts D.state wires.now self.old }
         ensures { WentOn D.state wires.now self.old self.new }
     {
         if self.halted.is_some() {
             return false;
         }
-        match self.turn(rt, alloc, wires) {
+        match self.turn(rt, alloc, wires, now) {
             Ok(turned) => turned != Turned::Quiet,
-            Err(no) => {
-                self.halted = Some(no);
+            Err(error) => {
+                self.halted = Some(error);
                 false
             }
         }

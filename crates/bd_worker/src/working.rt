@@ -10,7 +10,7 @@ use bd_base::{Entry, Rows};
 use bd_disks::Disks;
 use bd_outside::Disk;
 use bd_registry::Registry;
-use bd_seat::{SeatNo, append_all, catch_up, take_over};
+use bd_seat::{SeatError, append_all, catch_up, take_over};
 use bd_storage::{turn_with_disks, work_with_disks};
 use bd_thread::Turned;
 use std::alloc::Global;
@@ -34,7 +34,11 @@ impl<'a> Worker<'a> {
 
     /// A turn with the thread's disks that asks the registry for nothing. What it did is in the log; the list that it was
     /// in stays with its memory, for the next turn.
-    pub fn work<D: Disk>(&mut self, alloc: Global, disks: &mut Disks<D>) -> Result<Turned, SeatNo>
+    pub fn work<D: Disk>(
+        &mut self,
+        alloc: Global,
+        disks: &mut Disks<D>,
+    ) -> Result<Turned, SeatError>
         requires { IsWorking self.old }
         ensures goes { OnOk result (GoesAlone D.state disks.old disks.new self.old self.new) }
         ensures turned { IfOk result (Tells (made_in self.old) (made_in self.new)) }
@@ -56,7 +60,7 @@ impl<'a> Worker<'a> {
         disks: &mut Disks<D>,
         lent: &mut Registry,
         seen: usize,
-    ) -> Result<Turned, SeatNo>
+    ) -> Result<Turned, SeatError>
         requires { IsLentTo self.old seen lent.old }
         ensures goes { OnOk result (GoesWith D.state disks.old disks.new seen self.old lent.old self.new lent.new) }
         ensures turned { IfOk result (Tells (made_in self.old) (made_in self.new)) }

@@ -7,7 +7,7 @@ use std::fmt;
 
 /// The exit status, and the fault whose line standard error gets, if there is one. It prints as
 /// that line with its line feed, or as nothing.
-#[derive(Debug, Drop)]
+#[derive(Drop)]
 pub(crate) struct Answer {
     pub status: u8,
     pub fault: Option<Fault>,

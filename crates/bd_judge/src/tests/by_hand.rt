@@ -3,7 +3,7 @@
 use crate::tests::deeds::{Ask, Deed, What, answer_to, answer_with, is_complete};
 use crate::tests::setups::{PLAIN, WRITE, Word, setup};
 use bd_base::{ApplyEnd, ClaimKind, Errno, Op, OutOfMemory, Outcome, ReqId, Setup, Shown, Status};
-use bd_play::StepNo;
+use bd_play::StepError;
 use std::alloc::Global;
 use std::process::Abort;
 use std::test::Fail;
@@ -86,9 +86,9 @@ const TRACE: [Deed; 39] = [
 
 // A guard, and an act that it refuses after the first entries of the trace.
 const REFUSED: [(u32, usize, Deed); 52] = [
-    // an act that isn't built, a reset
-    (0, 0, Deed::Pend),
-    (0, 3, Deed::Accept(ZERO, 0, Op::Reset, 0, 1)),
+    // a pend of a request that isn't there, a reset that the line doesn't ask for
+    (13, 0, Deed::Pend),
+    (8, 3, Deed::Accept(ZERO, 0, Op::Reset, 0, 1)),
     // a put with the wrong number; of a piece that there isn't; of one that is out; of one that
     // wasn't served; of a channel that has a reference; a take before its put; a take of what was
     // taken; of a channel that wasn't put
@@ -181,7 +181,7 @@ fn first_path_is_a_complete_run(rt: HostRuntime) -> Result<(), Fail> {
 fn each_refuses(rt: &impl Abort, alloc: Global, setup: &Setup) {
     for row in &REFUSED {
         let (guard, after, deed) = *row;
-        let refused = Err(StepNo::Illegal { guard, stamp: 100 });
+        let refused = Err(StepError::Illegal { guard, stamp: 100 });
         let answer = answer_to(alloc, setup, TRACE.get(..after).unwrap_or(&[]), deed);
         assert!(rt; answer == refused, "guard {guard} after {after} entries");
     }
@@ -199,7 +199,7 @@ fn stamps_and_threads_are_in_order(rt: HostRuntime) -> Result<(), Fail> {
     let setup = one_script(rt.alloc())?;
     for row in &[(2, 0), (0, 0), (100, 1)] {
         let (stamp, thread) = *row;
-        let refused = Err(StepNo::Illegal { guard: 1, stamp });
+        let refused = Err(StepError::Illegal { guard: 1, stamp });
         let answer = answer_with(rt.alloc(), &setup, &TRACE[..2], *row, Deed::Shutdown);
         assert!(rt; answer == refused, "stamp {stamp}, thread {thread}");
     }

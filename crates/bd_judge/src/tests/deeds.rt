@@ -4,7 +4,7 @@ use bd_base::{
     Act, Answer, ApplyEnd, Boxed, ClaimKind, DevId, Dropped, Entry, Errno, HandleId, Op,
     OutOfMemory, Outcome, RegEvent, ReqId, Rows, Setup, Shown, Status, ThreadSet, Token,
 };
-use bd_play::{Machine, StepNo};
+use bd_play::{Machine, StepError};
 use std::alloc::Global;
 
 const DEV: DevId = DevId(0);
@@ -186,14 +186,14 @@ fn step(
     stamp: u128,
     thread: u32,
     deed: Deed,
-) -> Result<(), StepNo> {
+) -> Result<(), StepError> {
     let act = act(alloc, deed)?;
     let entry = Entry { stamp, thread, act };
     machine.step(&entry)
 }
 
 /// The machine takes these acts of thread 0, with the stamps 1, 2, 3 and so on.
-pub(crate) fn play(alloc: Global, machine: &mut Machine, deeds: &[Deed]) -> Result<(), StepNo> {
+pub(crate) fn play(alloc: Global, machine: &mut Machine, deeds: &[Deed]) -> Result<(), StepError> {
     let mut stamp: u128 = 0;
     for deed in deeds {
         stamp = stamp.saturating_add(1);
@@ -208,7 +208,7 @@ pub(crate) fn answer_to(
     setup: &Setup,
     deeds: &[Deed],
     last: Deed,
-) -> Result<(), StepNo> {
+) -> Result<(), StepError> {
     answer_with(alloc, setup, deeds, (100, 0), last)
 }
 
@@ -219,14 +219,14 @@ pub(crate) fn answer_with(
     deeds: &[Deed],
     (stamp, thread): (u128, u32),
     last: Deed,
-) -> Result<(), StepNo> {
+) -> Result<(), StepError> {
     let mut machine = Machine::start(alloc, setup)?;
     play(alloc, &mut machine, deeds)?;
     step(alloc, &mut machine, stamp, thread, last)
 }
 
 /// Whether the run of these acts is complete.
-pub(crate) fn is_complete(alloc: Global, setup: &Setup, deeds: &[Deed]) -> Result<bool, StepNo> {
+pub(crate) fn is_complete(alloc: Global, setup: &Setup, deeds: &[Deed]) -> Result<bool, StepError> {
     let mut machine = Machine::start(alloc, setup)?;
     play(alloc, &mut machine, deeds)?;
     Ok(machine.is_complete()?)

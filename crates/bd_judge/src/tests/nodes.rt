@@ -7,9 +7,9 @@ ghost use Rattle.bd_outside.specs.Memory.{memory_state};
 use crate::tests::setups::{PLAIN, WRITE, WRITE_9, Word, count_of, long_setup, setup};
 use bd_base::{Act, Entry, Op, OutOfMemory, Setup, Shown, Status};
 use bd_disks::{Disks, Shelf};
-use bd_node::{Drive, History, Node, NodeState, Played, play};
-use bd_outside::{Gate, MemDisk, OpenGate};
-use bd_seat::SeatNo;
+use bd_node::{Drive, History, Node, NodeState, Outside, Played, play};
+use bd_outside::{Gate, MemDisk, OpenGate, StillClock};
+use bd_seat::SeatError;
 use bd_thread::Turned;
 use std::alloc::Global;
 use std::process::Abort;
@@ -90,7 +90,7 @@ fn two_writers(alloc: Global, threads: u32) -> Result<Setup, OutOfMemory>
 
 // ---- nodes without disks
 
-// The disks of so many threads, of which none has any.
+// The disks of threads of which none has any.
 fn no_disks(alloc: Global, threads: u32) -> Result<Shelf<MemDisk>, OutOfMemory>
     ensures many { IfOk result (λ shelf. length shelf.items ≡ threads) }
     ensures room { IfOk result (λ shelf. threads ≤ shelf.capacity) }
@@ -102,7 +102,7 @@ fn no_disks(alloc: Global, threads: u32) -> Result<Shelf<MemDisk>, OutOfMemory>
     Ok(shelf)
 }
 
-fn drop_disks(shelf: Shelf<MemDisk>) {
+pub(crate) fn drop_disks(shelf: Shelf<MemDisk>) {
     let mut left = shelf;
     while let Some(disks) = left.take() {
         disks.finish();
@@ -110,7 +110,7 @@ fn drop_disks(shelf: Shelf<MemDisk>) {
     left.end();
 }
 
-fn node_of<'a, R: Wait>(
+pub(crate) fn node_of<'a, R: Wait>(
     rt: &R,
     alloc: Global,
     setup: &'a Setup,
@@ -121,9 +121,9 @@ fn node_of<'a, R: Wait>(
     let shelf = no_disks(alloc, setup.threads)?;
     match Node::build(rt, alloc, setup, shelf, 0) {
         Ok(node) => Ok(node),
-        Err((no, shelf)) => {
+        Err((error, shelf)) => {
             drop_disks(shelf);
-            Err(no)
+            Err(error)
         }
     }
 }
@@ -138,7 +138,12 @@ fn played<R: Threads + Wait + Sync, G: Gate + Sync>(
     requires { 0 < setup.now.threads }
 {
     let shelf = no_disks(alloc, setup.threads)?;
-    let (played, shelf) = play(rt, alloc, setup, shelf, drive, gate);
+    let clock = StillClock::new(0);
+    let outside = Outside {
+        clock: &clock,
+        gate,
+    };
+    let (played, shelf) = play(rt, alloc, setup, shelf, drive, &outside);
     drop_disks(shelf);
     let Played { history, stats: _ } = played?;
     Ok(history)
@@ -180,19 +185,19 @@ fn are_both_done(entries: &[Entry]) -> bool {
 
 // ---- turns in an order
 
-fn turns<R: Wait>(rt: &R, node: &mut Node<MemDisk>, order: &[u32]) -> Result<(), SeatNo>
+fn turns<R: Wait>(rt: &R, node: &mut Node<MemDisk>, order: &[u32]) -> Result<(), SeatError>
     requires { IsNode memory_state node.old }
     ensures { OnOk result (IsNode memory_state node.new) }
 {
     for thread in order {
-        node.turn_of(rt, *thread)?;
+        node.turn_of(rt, *thread, &StillClock::new(0))?;
     }
     Ok(())
 }
 
 // Turns in this order, over and over, with a Shutdown once the scripts are blocked, until all is over, if the
 // order brings it so far.
-fn play_by<R: Wait>(rt: &R, node: &mut Node<MemDisk>, order: &[u32]) -> Result<(), SeatNo>
+fn play_by<R: Wait>(rt: &R, node: &mut Node<MemDisk>, order: &[u32]) -> Result<(), SeatError>
     requires { IsNode memory_state node.old }
     ensures { OnOk result (IsNode memory_state node.new) }
 {
@@ -367,22 +372,22 @@ fn reactors_meet(rt: HostRuntime) -> Result<(), Fail> {
 
 // ---- queues that are full
 
-// How many entries a turn added.
-fn added(turned: Turned) -> usize {
+/// How many entries a turn added.
+pub(crate) fn added(turned: Turned) -> usize {
     match turned {
         Turned::Moved(count) => count,
         Turned::Quiet => 0,
     }
 }
 
-// So many turns of thread 1: how many entries they added in all.
-fn turns_alone<R: Wait>(rt: &R, node: &mut Node<MemDisk>, count: u32) -> Result<usize, SeatNo>
+// `count` turns of thread 1: how many entries they added in all.
+fn turns_alone<R: Wait>(rt: &R, node: &mut Node<MemDisk>, count: u32) -> Result<usize, SeatError>
     requires { IsNode memory_state node.old }
     ensures { OnOk result (IsNode memory_state node.new) }
 {
     let mut entries: usize = 0;
     for _ in 0..count {
-        let turned = node.turn_of(rt, 1)?;
+        let turned = node.turn_of(rt, 1, &StillClock::new(0))?;
         entries = entries.saturating_add(added(turned));
     }
     Ok(entries)
@@ -390,18 +395,19 @@ fn turns_alone<R: Wait>(rt: &R, node: &mut Node<MemDisk>, count: u32) -> Result<
 
 // Turns of thread 1 alone, and how many entries they added; then a last one, one of thread 0, and two of thread 1
 // again.
-fn flood<R: Wait>(rt: &R, node: &mut Node<MemDisk>) -> Result<(usize, [Turned; 4]), SeatNo>
+fn flood<R: Wait>(rt: &R, node: &mut Node<MemDisk>) -> Result<(usize, [Turned; 4]), SeatError>
     requires { IsNode memory_state node.old }
 {
     let entries = turns_alone(rt, node, ROUNDS * 3)?;
-    let stuck = node.turn_of(rt, 1)?;
-    let taken = node.turn_of(rt, 0)?;
-    let moved = node.turn_of(rt, 1)?;
-    let put = node.turn_of(rt, 1)?;
+    let clock = StillClock::new(0);
+    let stuck = node.turn_of(rt, 1, &clock)?;
+    let taken = node.turn_of(rt, 0, &clock)?;
+    let moved = node.turn_of(rt, 1, &clock)?;
+    let put = node.turn_of(rt, 1, &clock)?;
     Ok((entries, [stuck, taken, moved, put]))
 }
 
-fn flooded<R: Wait>(rt: &R, alloc: Global, setup: &Setup) -> Result<(usize, [Turned; 4]), SeatNo>
+fn flooded<R: Wait>(rt: &R, alloc: Global, setup: &Setup) -> Result<(usize, [Turned; 4]), SeatError>
     requires { 0 < setup.now.threads }
 {
     let mut node = node_of(rt, alloc, setup)?;
@@ -431,15 +437,15 @@ fn what_is_to_be_put_waits_for_room(rt: HostRuntime) -> Result<(), Fail> {
 // ---- requests that wait for room
 
 // Turns of thread 1 alone: how many entries they added, and the answer of a last one.
-fn crowd<R: Wait>(rt: &R, node: &mut Node<MemDisk>) -> Result<(usize, Turned), SeatNo>
+fn crowd<R: Wait>(rt: &R, node: &mut Node<MemDisk>) -> Result<(usize, Turned), SeatError>
     requires { IsNode memory_state node.old }
 {
     let entries = turns_alone(rt, node, ROUNDS * 2)?;
-    let last = node.turn_of(rt, 1)?;
+    let last = node.turn_of(rt, 1, &StillClock::new(0))?;
     Ok((entries, last))
 }
 
-fn crowded<R: Wait>(rt: &R, alloc: Global, setup: &Setup) -> Result<(usize, Turned), SeatNo>
+fn crowded<R: Wait>(rt: &R, alloc: Global, setup: &Setup) -> Result<(usize, Turned), SeatError>
     requires { 0 < setup.now.threads }
 {
     let mut node = node_of(rt, alloc, setup)?;

@@ -4,7 +4,7 @@ use crate::tests::deeds::{Ask, Deed, What, answer_to};
 use crate::tests::setups::{Shape, WRITE, Word, setup};
 use bd_base::{ApplyEnd, Op, OutOfMemory, Outcome, ReqId, Setup, Shown, Status};
 use bd_machine::guard::{ALL_PIECES_BACK, HEAD_OF_QUEUE, PIECE_COUNT, SHOWN_DATA};
-use bd_play::StepNo;
+use bd_play::StepError;
 use std::alloc::Global;
 use std::test::Fail;
 
@@ -112,7 +112,7 @@ fn each_mistake_with_pieces_is_refused(rt: HostRuntime) -> Result<(), Fail> {
     let setup = one_script(rt.alloc())?;
     for row in &REFUSED {
         let (guard, after, deed) = *row;
-        let refused = Err(StepNo::Illegal { guard, stamp: 100 });
+        let refused = Err(StepError::Illegal { guard, stamp: 100 });
         let answer = answer_to(rt.alloc(), &setup, &TRACE[..after], deed);
         assert!(rt;
             answer == refused,

@@ -1,7 +1,7 @@
 use Rattle.std.proofs.Common.{◌+◌, ◌-◌, arith}
 use Rattle.bd_blocks.specs.Cuts.{extents_left}
 use Rattle.bd_blocks.proofs.Cutting.{next_piece}
-use Rattle.bd_blocks.proofs.Moving.{moved_on}
+use Rattle.bd_machine.proofs.Moving.{moved_on}
 use Rattle.bd_blocks.proofs.pieces.extents_of.Goals as goal
 
 pub loop-left-preserved : goal.loop-left-preserved

@@ -1,7 +1,7 @@
 use Rattle.std.proofs.Common.{◌+◌, ◌-◌, ◌<◌, List, [], ◌∷◌, ◌++◌, ◌∙◌, ap, arith}
 use Rattle.bd_turns.specs.declared.queue.Message.{Message}
 use Rattle.bd_links.specs.Queues.{empty_queues}
-use Rattle.bd_changes.proofs.Moving.{moved_on}
+use Rattle.bd_machine.proofs.Moving.{moved_on}
 use Rattle.bd_links.proofs.Emptied.{zeros_next}
 use Rattle.bd_links.proofs.queue.empty_queues.Goals as goal
 

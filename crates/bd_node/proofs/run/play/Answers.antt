@@ -2,7 +2,7 @@ use Rattle.std.proofs.Common.{◌≡◌, IfOk, subst, sym, ◌∙◌, ap}
 use Rattle.bd_base.specs.declared.setup.Setup.{Setup}
 use Rattle.bd_machine.specs.Run.{IsCompleteRun}
 use Rattle.bd_report.specs.Stats.{stats_of}
-use Rattle.bd_told.specs.Told.{AreBasesLowest}
+use Rattle.bd_law_disks.specs.Told.{AreBasesLowest}
 use Rattle.bd_node.specs.Disks.{told_of, SaysOfDisks}
 use Rattle.bd_node.specs.Whole.{setup_in}
 use Rattle.bd_node.proofs.Kept.{all_given, played_back}

@@ -2,7 +2,7 @@ use Rattle.std.proofs.Common.{ℕ, ◌-◌, ◌+◌, ◌<◌, map, ap, arith}
 use Rattle.std.specs.List.{range_with_len}
 use Rattle.bd_base.specs.declared.id.ReqId.{ReqId}
 use Rattle.bd_retries.proofs.Left.{left_from}
-use Rattle.bd_retries.proofs.Moving.{moved_on}
+use Rattle.bd_machine.proofs.Moving.{moved_on}
 use Rattle.bd_retries.proofs.retry.join.Goals as goal
 
 pub loop-k-preserved : goal.loop-k-preserved

@@ -1,5 +1,5 @@
 use Rattle.std.proofs.Common.{◌≡◌, vec_len}
-use Rattle.bd_seat.specs.Outgoing.{AreSendsTo}
+use Rattle.bd_ring.specs.Rings.{AreSendsTo}
 use Rattle.bd_seat.proofs.FlushingAll.{FlushedBelow}
 use Rattle.bd_seat.proofs.outgoing.flush_all.Given as goal
 

@@ -3,7 +3,7 @@ use Rattle.std.proofs.lemmas.Result.{on_ok_weaker}
 use Rattle.bd_base.specs.declared.act.Entry.{Entry}
 use Rattle.bd_machine.specs.declared.state.Registry.{Registry}
 use Rattle.bd_machine.specs.Start.{registry_at_start}
-use Rattle.bd_merged.specs.Journals.{registry_by, IsReplay}
+use Rattle.bd_law_logs.specs.Journals.{registry_by, IsReplay}
 use Rattle.bd_seat.proofs.Suffixes.{by_after, replay_after, whole_after}
 use Rattle.bd_seat.proofs.replica.catch_up.Goals as goal
 

@@ -1,5 +1,5 @@
 use Rattle.std.proofs.Common.{◌≡◌, ◌+◌, ◌≤◌, drop}
-use Rattle.bd_merged.specs.Journals.{registry_by, IsReplay}
+use Rattle.bd_law_logs.specs.Journals.{registry_by, IsReplay}
 use Rattle.bd_seat.proofs.replica.follow.Given as goal
 
 -- the rows that are left are a replay, and leave what all of them leave

@@ -1,7 +1,7 @@
 use Rattle.std.proofs.Common.{◌≡◌, ◌+◌, List, [], ◌++◌, length}
 use Rattle.bd_base.specs.declared.act.Entry.{Entry}
-use Rattle.bd_merged.specs.Journals.{events}
-use Rattle.bd_apart.specs.Course.{acts_of, restamped}
+use Rattle.bd_law_logs.specs.Journals.{events}
+use Rattle.bd_law_threads.specs.Course.{acts_of, restamped}
 use Rattle.bd_seat.specs.Taking.{AppendsAlone}
 use Rattle.bd_seat.proofs.taking.append_each.Given as goal
 

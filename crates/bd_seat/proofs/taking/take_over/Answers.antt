@@ -3,8 +3,8 @@ use Rattle.std.specs.List.{AllByRecursion}
 use Rattle.bd_base.specs.declared.act.Entry.{Entry}
 use Rattle.bd_machine.specs.Step.{is_shutdown}
 use Rattle.bd_machine.specs.View.{asked}
-use Rattle.bd_merged.specs.Journals.{IsAnswered, IsReplay}
-use Rattle.bd_apart.specs.Course.{acts_of, restamped}
+use Rattle.bd_law_logs.specs.Journals.{IsAnswered, IsReplay}
+use Rattle.bd_law_threads.specs.Course.{acts_of, restamped}
 use Rattle.bd_seat.proofs.TakenOver.{replay_next, stamps_next, takes_more, takes_none}
 use Rattle.bd_seat.proofs.taking.take_over.Goals as goal
 

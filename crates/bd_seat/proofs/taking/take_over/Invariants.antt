@@ -2,8 +2,8 @@ use Rattle.std.proofs.Common.{◌≡◌, ◌+◌, false, List, ◌++◌, length}
 use Rattle.std.specs.List.{AllByRecursion}
 use Rattle.bd_base.specs.declared.act.Entry.{Entry}
 use Rattle.bd_machine.specs.Step.{is_shutdown}
-use Rattle.bd_merged.specs.Journals.{IsReplay}
-use Rattle.bd_apart.specs.Course.{acts_of, restamped}
+use Rattle.bd_law_logs.specs.Journals.{IsReplay}
+use Rattle.bd_law_threads.specs.Course.{acts_of, restamped}
 use Rattle.bd_seat.specs.Taking.{TakesOver}
 use Rattle.bd_seat.proofs.taking.take_over.Given as goal
 

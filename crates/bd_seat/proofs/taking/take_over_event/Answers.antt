@@ -1,9 +1,9 @@
 use Rattle.std.proofs.Common.{ℕ, ◌+◌, [], ◌∷◌, ap, subst, sym, ◌∙◌}
 use Rattle.bd_base.specs.declared.act.Act.{Act}
 use Rattle.bd_machine.specs.View.{asked}
-use Rattle.bd_merged.specs.Journals.{IsAnswered}
+use Rattle.bd_law_logs.specs.Journals.{IsAnswered}
 use Rattle.bd_registry.specs.State.{registered}
-use Rattle.bd_apart.specs.Course.{restamped}
+use Rattle.bd_law_threads.specs.Course.{restamped}
 use Rattle.bd_seat.specs.Taking.{TakesOver}
 use Rattle.bd_seat.proofs.TakenOver.{takes_event}
 use Rattle.bd_seat.proofs.taking.take_over_event.Goals as goal

@@ -2,8 +2,8 @@ use Rattle.std.proofs.Common.{◌+◌, ◌-◌, ◌<◌, List, [], ◌∷◌, �
 use Rattle.std.specs.List.{range_with_len}
 use Rattle.bd_machine.specs.declared.state.Part.{Part}
 use Rattle.bd_machine.specs.Start.{part_at_start}
-use Rattle.bd_changes.proofs.Left.{left_from}
-use Rattle.bd_changes.proofs.Moving.{moved_on}
+use Rattle.bd_rule_effects.proofs.Left.{left_from}
+use Rattle.bd_machine.proofs.Moving.{moved_on}
 use Rattle.bd_state.proofs.start.parts_at_start.Goals as goal
 
 pub loop-t-preserved : goal.loop-t-preserved

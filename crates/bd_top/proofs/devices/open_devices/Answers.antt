@@ -1,8 +1,8 @@
 use Rattle.std.proofs.Common.{rules, ◌≡◌, ◌∙◌, ◌+◌, ℕ, inl, IfErr, OnErr, List, [], ◌∷◌, length, ap, sym, refl, subst, arith}
 use Rattle.std.proofs.lemmas.List.{length-replicate}
 use Rattle.bd_building.specs.Progress.{nothing_yet, Progress}
-use Rattle.bd_opened.specs.Covering.{AreClosed}
-use Rattle.bd_opened.specs.Held.{Held}
+use Rattle.bd_disk_pool.specs.Covering.{AreClosed}
+use Rattle.bd_disk_pool.specs.Held.{Held}
 use Rattle.bd_outside.specs.File.{Told}
 use Rattle.bd_top.specs.DiskRows.{StandOpen, TellsSo}
 use Rattle.std.specs.Prelude.{All}
@@ -15,7 +15,7 @@ use Rattle.bd_config.specs.declared.command.Command.{Command}
 use Rattle.bd_top.specs.Configure.{IsRefused}
 use Rattle.bd_top.specs.Disks.{IsNamed, Opens}
 use Rattle.bd_top.specs.Opening.{IsStepRefused}
-use Rattle.bd_opened.proofs.EachClosed.{kept_same}
+use Rattle.bd_disk_pool.proofs.EachClosed.{kept_same}
 use Rattle.bd_top.proofs.DiskRows.{closed_after, closed_same, stand_first}
 use Rattle.bd_top.proofs.FileCauses.{doing_from, step_at, step_refused_at}
 use Rattle.bd_top.proofs.FileLemmas.{later_same, later_then}

@@ -2,7 +2,7 @@ use Rattle.std.proofs.Common.{rules, ◌≡◌, ◌∙◌, ℕ, List, subst, sym
 use Rattle.bd_outside.specs.Disk.{IsOpenedOver}
 use Rattle.bd_outside.specs.Host.{Opens}
 use Rattle.bd_outside.specs.Opening.{open_row, AddsOpening}
-use Rattle.bd_opened.specs.Held.{with_disk}
+use Rattle.bd_disk_pool.specs.Held.{with_disk}
 use Rattle.bd_machine.specs.Users.{dev_of}
 use Rattle.bd_top.proofs.DiskRows.{closed_at_once, opened_aio}
 use Rattle.bd_top.proofs.devices.open_for.Goals as goal

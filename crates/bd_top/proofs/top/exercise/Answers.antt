@@ -7,5 +7,5 @@ pub returns : goal.returns
 returns g c =
     let ready = c.in_ok-ready.ready in
     IfOk-weaker _ _ _
-    (λ done. exercised c.args.numbers c.args.playing.threads ready.setup (told_of _ ready.setup ready.disks.threads) done.trace done.text.items c.in_ok-ready.ensures.setup)
-    (c.play_and_report.ensures.played c.in_ok-ready.ensures.alone)
+    (λ done. exercised c.args.numbers c.args.playing.threads ready.setup (told_of _ ready.setup ready.disks.threads) done.trace done.text.items c.in_ok-ready.ensures.earlier c.in_ok-ready.ensures.setup)
+    (c.play_and_report.ensures.played c.in_ok-ready.ensures.alone c.in_ok-ready.ensures.earlier)

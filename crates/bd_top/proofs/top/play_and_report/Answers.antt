@@ -1,11 +1,11 @@
 use Rattle.std.proofs.Common.{rules, ◌≡◌, ℕ, IfOk, List, Option, ◌∙◌, ap, ap₂, sym, subst}
 use Rattle.bd_base.specs.declared.id.DevId.{DevId}
-use Rattle.bd_opened.specs.Closing.{closing_all}
+use Rattle.bd_disk_pool.specs.Closing.{closing_all}
 use Rattle.bd_top.specs.DiskRows.{AreSetOut, TellDisks}
 use Rattle.bd_building.specs.AioDevices.{AioDevice}
 use Rattle.bd_disks.specs.Shelf.{AreAllThere}
-use Rattle.bd_opened.specs.Covering.{AreClosed}
-use Rattle.bd_opened.specs.Held.{Held}
+use Rattle.bd_disk_pool.specs.Covering.{AreClosed}
+use Rattle.bd_disk_pool.specs.Held.{Held}
 use Rattle.bd_outside.specs.Disk.{DiskState}
 use Rattle.bd_outside.specs.File.{Told as FileTold}
 use Rattle.bd_outside.specs.declared.opening.Opening.{Opening}
@@ -22,7 +22,7 @@ use Rattle.bd_top.proofs.Histories.{played}
 use Rattle.bd_top.proofs.top.play_and_report.Goals as goal
 
 pub returns-clause-played : goal.returns-clause-played
-returns-clause-played g c alone =
+returns-clause-played g c alone earlier =
     let state = g.H.Disk.Disk.state in
     let setup = c.args.ready.setup in
     let told : Told = told_of state setup c.args.ready.disks.threads in
@@ -32,7 +32,7 @@ returns-clause-played g c alone =
     let counted : c.in_ok-trace.field-0.stats ≡ stats_of setup c.in_ok-trace.field-0.history = search rules in
     let complete : IsCompleteRun setup told c.in_ok-trace.field-0.history =
     subst (λ (threads : List (List (DevId × g.row.H-Disk.Denot))). IsCompleteRun setup (told_of state setup threads) c.in_ok-trace.field-0.history) c.in-Ok.ensures.items shelved in
-    played setup told c.args.full c.in_ok-trace.field-0.history c.in_ok-text.text.items complete (c.in_ok-text.ensures ∙ ap₂ (λ (es : List Entry) (stats : Stats). report_with c.args.full setup es stats) c.entries.ensures counted)
+    played setup told c.args.full c.in_ok-trace.field-0.history c.in_ok-text.text.items earlier complete (c.in_ok-text.ensures ∙ ap₂ (λ (es : List Entry) (stats : Stats). report_with c.args.full setup es stats) c.entries.ensures counted)
 
 pub returns-clause-disks : goal.returns-clause-disks
 returns-clause-disks g c told base alone are =

@@ -8,7 +8,7 @@ returns-in-Ok-clause-done g c =
       setup = c.in_ok-ready.ready.setup;
       meant = c.in_ok-ready.ensures.setup;
       contents = told_of g.H.Disk.Disk.state c.in_ok-ready.ready.setup c.in_ok-ready.ready.disks.threads;
-      played = c.in-Ok.ensures.played c.in_ok-ready.ensures.alone;
+      played = c.in-Ok.ensures.played c.in_ok-ready.ensures.alone c.in_ok-ready.ensures.earlier;
       disks = c.in-Ok.ensures.disks old.told old.openings c.in_ok-ready.ensures.alone c.in_ok-ready.ensures.opened;
     }
 

@@ -1,6 +1,6 @@
 use Rattle.std.proofs.Common.{rules, ◌∙◌, sym}
 use Rattle.std.specs.Prelude.{IsErrOf}
-use Rattle.bd_building.specs.declared.building.BuildNo.TheVariants.{Refused}
+use Rattle.bd_building.specs.declared.building.BuildError.TheVariants.{Refused}
 use Rattle.bd_building.proofs.Steps.{settles_refused}
 use Rattle.bd_building.proofs.building.Building.settle.Goals as goal
 

@@ -53,7 +53,7 @@ returns-clause-quiet g c =
     let a = c.index_mut-seat.result.now in
     let lt : c.args.thread < length o.seats.items = search rules in
     let at : slice_get o.seats.items c.args.thread ≡ Some a = slice_get_read o.seats.items (length o.seats.items) c.args.thread a refl lt c.index_mut-seat.ensures.value in
-    IfOk-weaker c.turn.result _ _ (λ turned q. turns_at o.seats.items c.args.thread a c.turn.new.self turned at q) c.turn.ensures.quiet
+    IfOk-weaker c.turn.result _ _ (λ turned q. turns_at (g.C.Clock.range c.args.clock.now) c.now-now.result o.seats.items c.args.thread a c.turn.new.self turned c.now-now.ensures at q) c.turn.ensures.quiet
 
 pub returns-then-place-len-clause-none : goal.returns-then-place-len-clause-none
 returns-then-place-len-clause-none g c =

@@ -1,7 +1,7 @@
 use Rattle.std.proofs.Common.{◌≡◌, ◌∷◌, ◌++◌, [], ◌∙◌, List, length, ap, sym, subst}
 use Rattle.bd_base.specs.declared.id.DevId.{DevId}
 use Rattle.bd_machine.specs.declared.state.Handle.{Handle}
-use Rattle.bd_iodev.specs.ByDevice.{row_at, with_row}
+use Rattle.bd_rule_channels.specs.ByDevice.{row_at, with_row}
 use Rattle.bd_registry.specs.Handles.{HandleTable, Keeps, with_handle}
 use Rattle.bd_registry.proofs.Keeping.{one_more}
 use Rattle.bd_registry.proofs.handles.Handles.add.Goals as goal

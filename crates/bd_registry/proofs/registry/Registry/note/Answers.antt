@@ -1,7 +1,7 @@
 use Rattle.std.proofs.Common.{◌≡◌, ◌<◌, ◌∷◌, ◌++◌, [], Bool, true, false, ◌||◌, map, refl, ap, sym, ◌∙◌, subst}
 use Rattle.bd_base.specs.declared.act.Entry.{Entry}
 use Rattle.bd_base.specs.declared.event.Answer.{Answer}
-use Rattle.bd_iodev.specs.Counts.{count_for}
+use Rattle.bd_rule_channels.specs.Counts.{count_for}
 use Rattle.bd_machine.specs.Changes.{counts_after}
 use Rattle.bd_machine.specs.Registry.{answer_to, references}
 use Rattle.bd_registry.specs.Handles.{is_of_kind}

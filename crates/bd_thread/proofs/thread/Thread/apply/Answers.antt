@@ -14,7 +14,7 @@ use Rattle.bd_thread.specs.declared.thread.Thread.{Thread}
 use Rattle.bd_thread.specs.Acted.{Acted}
 use Rattle.bd_thread.specs.Requests.{KeepsTickets}
 use Rattle.bd_thread.specs.Seen.{untaken}
-use Rattle.bd_due.specs.Serving.{may_hold}
+use Rattle.bd_steps.specs.Serving.{may_hold}
 use Rattle.bd_thread.proofs.Applies.{apply_steps, at_home, serves_own}
 use Rattle.bd_thread.proofs.Going.{acted_by, carried}
 use Rattle.bd_thread.proofs.Tickets.{same_tickets}

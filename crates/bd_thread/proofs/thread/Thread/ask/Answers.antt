@@ -6,8 +6,8 @@ use Rattle.bd_machine.specs.declared.state.Part.{Part}
 use Rattle.bd_machine.specs.Alone.{held_after}
 use Rattle.bd_machine.specs.Registry.{answer_to}
 use Rattle.bd_machine.specs.View.{Change}
-use Rattle.bd_changes.specs.Begun.{begun, with_walk}
-use Rattle.bd_due.specs.Sending.{sent_off}
+use Rattle.bd_rule_effects.specs.Begun.{begun, with_walk}
+use Rattle.bd_steps.specs.Sending.{sent_off}
 use Rattle.bd_registry.specs.State.{Registered, registered}
 use Rattle.bd_registry.proofs.Rows.{answer_of_rows, after_of_rows}
 use Rattle.bd_links.specs.Entries.{longer, next_stamp}

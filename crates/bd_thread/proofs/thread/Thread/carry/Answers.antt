@@ -4,9 +4,9 @@ use Rattle.bd_flight.specs.Next.{may_take, next_step}
 use Rattle.bd_machine.specs.View.{View}
 use Rattle.bd_thread.specs.Seen.{view_of}
 use Rattle.bd_thread.specs.Waits.{is_abort_or_cut}
-use Rattle.bd_thread.proofs.Alone.{completes_alone, cuts_alone, stops_alone}
+use Rattle.bd_thread.proofs.Alone.{cuts_alone, stops_alone}
 use Rattle.bd_thread.proofs.Carried.{abort_is_due, cut_is_due, other_step}
-use Rattle.bd_thread.proofs.Idle.{completion_idle, cuts_more, stops_more}
+use Rattle.bd_thread.proofs.Idle.{cuts_more, stops_more}
 use Rattle.bd_thread.proofs.thread.Thread.carry.Goals as goal
 
 pub returns-in_ok-stop-in-Abort : goal.returns-in_ok-stop-in-Abort
@@ -37,20 +37,17 @@ returns-in_ok-cut-in-Cut c =
       alone = cuts_alone req t links c.cut.new.self c.cut.new.links n c.in_ok-cut-in-Cut.ensures.cut;
     }
 
-pub returns-in_ok-complete-in_default : goal.returns-in_ok-complete-in_default
-returns-in_ok-complete-in_default c =
+pub returns-in_ok-go_on-in_default : goal.returns-in_ok-go_on-in_default
+returns-in_ok-go_on-in_default c =
     let t = c.args.self.now in
     let links = c.args.links.now in
     let req = c.args.req in
-    let done = c.in_ok-complete-in_default.field-0 in
-    let completes = c.in_ok-complete-in_default.ensures.completes in
+    let gone = c.in_ok-go_on-in_default.ensures in
     let step-is = c.next_step.ensures.step ∙ ap (λ (v : View). next_step t.setup.now t.me v req) c.seen.ensures in
     let stays : is_abort_or_cut (next_step t.setup.now t.me (view_of t links) req) ≡ false = sym (ap is_abort_or_cut step-is) ∙ other_step c.next_step.result c.in_default.not-Cut c.in_default.not-Abort in
     record {
-      acted = c.in_ok-complete-in_default.ensures.acted;
-      tickets = c.in_ok-complete-in_default.ensures.tickets;
-      quiet = λ few.
-          let i = completion_idle req t links c.complete.new.self c.complete.new.links done completes few in
-          record { thread = i.thread; links = i.links; waits = record { step = stays; completion = i.waits } };
-      alone = completes_alone req t links c.complete.new.self c.complete.new.links (record { done = done; completes = completes });
+      acted = gone.acted;
+      tickets = gone.tickets;
+      quiet = λ few. let i = gone.quiet few in record { thread = i.thread; links = i.links; waits = record { step = stays; still = i.waits } };
+      alone = gone.alone;
     }

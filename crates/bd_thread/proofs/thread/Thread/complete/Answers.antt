@@ -1,6 +1,6 @@
 use Rattle.std.proofs.Common.{sym, ◌∙◌, ap}
 use Rattle.bd_machine.specs.View.{View}
-use Rattle.bd_due.specs.Completions.{ending_of}
+use Rattle.bd_steps.specs.Completions.{ending_of}
 use Rattle.bd_thread.proofs.Completing.{completes_so, stays_open}
 use Rattle.bd_thread.proofs.thread.Thread.complete.Goals as goal
 

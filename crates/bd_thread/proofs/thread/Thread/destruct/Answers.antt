@@ -7,7 +7,7 @@ use Rattle.bd_machine.specs.declared.state.Part.{Part}
 use Rattle.bd_machine.specs.BlockMap.{is_malloc}
 use Rattle.bd_machine.specs.Homes.{is_base, may_destruct}
 use Rattle.bd_machine.specs.View.{View}
-use Rattle.bd_view.specs.Came.{came_free}
+use Rattle.bd_rule_view.specs.Came.{came_free}
 use Rattle.bd_links.specs.Entries.{longer}
 use Rattle.bd_links.specs.Queues.{queues_of}
 use Rattle.bd_tokens.specs.Tokens.{here_in}

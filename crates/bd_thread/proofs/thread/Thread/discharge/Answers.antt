@@ -1,5 +1,5 @@
 use Rattle.std.proofs.Common.{sym, ◌∙◌, ap}
-use Rattle.bd_due.specs.Duties.{duty_owed}
+use Rattle.bd_steps.specs.Duties.{duty_owed}
 use Rattle.bd_thread.proofs.Registering.{asked_by, unasked_by}
 use Rattle.bd_thread.proofs.thread.Thread.discharge.Goals as goal
 

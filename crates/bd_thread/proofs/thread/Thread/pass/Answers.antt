@@ -5,8 +5,8 @@ use Rattle.bd_machine.specs.declared.state.Part.{Part}
 use Rattle.bd_machine.specs.Alone.{held_after}
 use Rattle.bd_machine.specs.View.{Change, Move, View}
 use Rattle.bd_machine.specs.Walks.{marked_by, walked}
-use Rattle.bd_changes.specs.Begun.{begun, walk_moved}
-use Rattle.bd_walks.specs.Walking.{with_channel}
+use Rattle.bd_rule_effects.specs.Begun.{begun, walk_moved}
+use Rattle.bd_rule_walks.specs.Walking.{with_channel}
 use Rattle.bd_links.specs.Entries.{longer}
 use Rattle.bd_tokens.specs.Tokens.{here_in}
 use Rattle.bd_thread.specs.declared.links.Links.{Links}
@@ -14,7 +14,7 @@ use Rattle.bd_thread.specs.declared.thread.Thread.{Thread}
 use Rattle.bd_thread.specs.Acted.{Acted}
 use Rattle.bd_thread.specs.Requests.{KeepsTickets}
 use Rattle.bd_thread.specs.Seen.{untaken, view_of}
-use Rattle.bd_due.specs.Sending.{goes_on, sent_off}
+use Rattle.bd_steps.specs.Sending.{goes_on, sent_off}
 use Rattle.bd_thread.specs.Walking.{visit_change, visit_due, IsVisited}
 use Rattle.bd_thread.proofs.Going.{carried}
 use Rattle.bd_thread.proofs.Took.{held_then}

@@ -14,7 +14,7 @@ use Rattle.bd_thread.specs.declared.thread.Thread.{Thread}
 use Rattle.bd_thread.specs.Acted.{Acted}
 use Rattle.bd_thread.specs.Requests.{KeepsTickets}
 use Rattle.bd_thread.specs.Seen.{untaken}
-use Rattle.bd_due.specs.Sending.{kept_on_way}
+use Rattle.bd_steps.specs.Sending.{kept_on_way}
 use Rattle.bd_thread.proofs.Going.{acted_by, carried}
 use Rattle.bd_thread.proofs.Put.{put_steps, may_parts}
 use Rattle.bd_thread.proofs.Tickets.{same_tickets}

@@ -1,5 +1,5 @@
 use Rattle.std.proofs.Common.{sym, ◌∙◌, ap₂}
-use Rattle.bd_due.specs.Sending.{first_due}
+use Rattle.bd_steps.specs.Sending.{first_due}
 use Rattle.bd_thread.proofs.Alone.{puts_alone}
 use Rattle.bd_thread.proofs.Idle.{both_ok, idle_here, puts_idle}
 use Rattle.bd_thread.proofs.Waiting.{due_waits, full_waits}

@@ -1,7 +1,7 @@
 use Rattle.std.proofs.Common.{◌≡◌, Some, sym, ◌∙◌, ap}
 use Rattle.bd_base.specs.declared.act.Act.TheVariants as acts
 use Rattle.bd_machine.specs.View.{View}
-use Rattle.bd_due.specs.Refusing.{refusal_due}
+use Rattle.bd_steps.specs.Refusing.{refusal_due}
 use Rattle.bd_thread.specs.declared.links.Links.{Links}
 use Rattle.bd_thread.specs.Refusals.{refusal_now}
 use Rattle.bd_thread.proofs.Alone.{sends_back_alone}

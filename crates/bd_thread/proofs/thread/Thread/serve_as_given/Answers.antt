@@ -6,7 +6,7 @@ use Rattle.bd_machine.specs.declared.state.Id.TheVariants as ids
 use Rattle.bd_machine.specs.Homes.{applied, is_base, is_first_at}
 use Rattle.bd_machine.specs.Kept.{as_piece}
 use Rattle.bd_machine.specs.Table.{change_first}
-use Rattle.bd_due.specs.Serving.{may_hold, next_on_disk}
+use Rattle.bd_steps.specs.Serving.{may_hold, next_on_disk}
 use Rattle.bd_links.specs.Entries.{longer}
 use Rattle.bd_tokens.specs.Tokens.{here_in}
 use Rattle.bd_thread.specs.declared.links.Links.{Links}

@@ -2,7 +2,7 @@ use Rattle.std.proofs.Common.{ℕ, ◌≤◌, sym, ap, subst, le_refl}
 use Rattle.bd_base.specs.declared.id.ReqId.{ReqId}
 use Rattle.bd_thread.specs.declared.links.Links.{Links}
 use Rattle.bd_thread.specs.declared.thread.Thread.{Thread}
-use Rattle.bd_due.specs.Tickets.{IsNextTicket}
+use Rattle.bd_steps.specs.Tickets.{IsNextTicket}
 use Rattle.bd_thread.specs.Requests.{IsFresh}
 use Rattle.bd_thread.proofs.Alone.{accepted_alone, alone_then, cuts_alone}
 use Rattle.bd_thread.proofs.Going.{acted_then}

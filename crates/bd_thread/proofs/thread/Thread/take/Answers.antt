@@ -5,14 +5,14 @@ use Rattle.bd_machine.specs.declared.state.Id.{Id}
 use Rattle.bd_machine.specs.declared.state.Kept.{Kept}
 use Rattle.bd_machine.specs.declared.state.Part.{Part}
 use Rattle.bd_machine.specs.Alone.{held_after}
-use Rattle.bd_machine.specs.Guards.{is_built_token}
+use Rattle.bd_steps.specs.Served.{is_served_token}
 use Rattle.bd_machine.specs.Messages.{brings, count_at, taken_by}
 use Rattle.bd_machine.specs.Same.{same_id}
 use Rattle.bd_machine.specs.Table.{write}
 use Rattle.bd_machine.specs.View.{id_of}
 use Rattle.bd_links.specs.Entries.{longer}
 use Rattle.bd_links.specs.Queues.{queues_of}
-use Rattle.bd_changes.specs.Begun.{begun, token_moved}
+use Rattle.bd_rule_effects.specs.Begun.{begun, token_moved}
 use Rattle.bd_tokens.specs.Tokens.{here_in, left_of}
 use Rattle.bd_thread.specs.declared.links.Links.{Links}
 use Rattle.bd_thread.specs.declared.thread.Thread.{Thread}
@@ -37,7 +37,7 @@ returns-clause-acted c =
     let here = here_in t.held.items in
     let id : Id = id_of m.sender t.me number m.what in
     let first = c.in-Some.ensures.some.first in
-    let brought : is_built_token m.what && brings m.what (Some m.kept) ≡ true = brought_first (queues t.me) m (rest t.me) (search rules) first in
+    let brought : is_served_token m.what && brings m.what (Some m.kept) ≡ true = brought_first (queues t.me) m (rest t.me) (search rules) first in
     let next : number ≡ count_at t.part.taken m.sender = c.count_at-number.ensures ∙ ap (λ (counts : List (ℕ × ℕ)). count_at counts m.sender) c.as_slice-2.ensures in
     let counted : Part = record t.part { taken = write ◌==◌ t.part.taken m.sender (number + 1) } in
     let part : c.arrived.new.part ≡ (taken_by setup t.me m.what counted (Some m.kept) id).part =
@@ -52,7 +52,7 @@ returns-clause-acted c =
     ∙ ap (held_after (begun c.in_ok-begun.begun)) c.in_ok-land.ensures.ok
     ∙ ap (λ (i : Id). held_after (begun c.in_ok-begun.begun) (λ j. cond (same_id i j) (left_of t.me m.what m.kept) (here j))) c.id_of-id.ensures
     ∙ landed_moves t.me m.sender number m.what m.kept c.in_ok-begun.begun (taken_by setup t.me m.what counted (Some m.kept) id).moves here
-    (and_parts (is_built_token m.what) (brings m.what (Some m.kept)) brought).1 moves in
+    (and_parts (is_served_token m.what) (brings m.what (Some m.kept)) brought).1 moves in
     let new : Thread = record t { part = untaken c.arrived.new.part; held = c.hold_begun.new.self } in
     let after : Links = record links { queues = c.pop.new.queues; entries = longer t.me links.entries (acts.Took m.sender number m.what) } in
     carried (Acted t links) new after _ _ c.in_ok-note.ensures.thread c.in_ok-note.ensures.links
@@ -78,7 +78,7 @@ returns-clause-keeps c =
     let m = c.in-Some.message in
     let rest = queues_of c.pop.new.queues.items in
     let first = c.in-Some.ensures.some.first in
-    let brought : is_built_token m.what && brings m.what (Some m.kept) ≡ true = brought_first (queues_of links.queues.items t.me) m (rest t.me) (search rules) first in
+    let brought : is_served_token m.what && brings m.what (Some m.kept) ≡ true = brought_first (queues_of links.queues.items t.me) m (rest t.me) (search rules) first in
     let new : Thread = record t { part = untaken c.arrived.new.part; held = c.hold_begun.new.self } in
     let after : Links = record links { queues = c.pop.new.queues; entries = longer t.me links.entries (acts.Took m.sender c.count_at-number.result m.what) } in
     let part = c.in_ok-begun.ensures.part c.id_of-id.result in

@@ -12,13 +12,13 @@ returns c =
     let middle : Thread = record old { retries = c.piece_back.new.retries } in
     let own : (c.args.req.thread == old.me) ≡ true = eq-eqb c.args.req.thread old.me c.if-req-self.false in
     record {
-      acted = acted_then old links middle links c.complete.new.self c.complete.new.links (acted_still old links middle links refl refl refl refl refl refl) c.in_ok-complete.ensures.acted;
-      tickets = λ keeps. c.in_ok-complete.ensures.tickets (same_tickets old middle refl refl refl keeps);
-      back = subst (λ (b : Bool). ComesOwn b c.args.req c.args.k old links c.complete.new.self c.complete.new.links) (sym own)
+      acted = acted_then old links middle links c.hold_or_complete.new.self c.hold_or_complete.new.links (acted_still old links middle links refl refl refl refl refl refl) c.in_ok-hold_or_complete.ensures.acted;
+      tickets = λ keeps. c.in_ok-hold_or_complete.ensures.tickets (same_tickets old middle refl refl refl keeps);
+      back = subst (λ (b : Bool). ComesOwn b c.args.req c.args.k old links c.hold_or_complete.new.self c.hold_or_complete.new.links) (sym own)
           (record {
             middle = middle;
             thread = refl;
             retries = c.in_ok-piece_back.ensures;
-            completes = record { done = c.in_ok-complete.field-0; completes = c.in_ok-complete.ensures.completes };
+            carried = c.in_ok-hold_or_complete.ensures.carried;
           });
     }

@@ -1,5 +1,6 @@
 use Rattle.std.proofs.Common.{length, ◌∙◌, ap}
 use Rattle.bd_thread.specs.Moves.{turned_of}
+use Rattle.bd_thread.proofs.Delaying.{then_released}
 use Rattle.bd_thread.proofs.Going.{acted_then}
 use Rattle.bd_thread.proofs.Waiting.{quiet_by, turn_idle}
 use Rattle.bd_thread.proofs.thread.Thread.turn.Goals as goal
@@ -9,7 +10,8 @@ returns-clause-acted c =
     let retried = acted_then _ _ _ _ _ _ c.in_ok-receive_all.ensures.acted c.in_ok-retry_all.ensures.acted in
     let discharged = acted_then _ _ _ _ _ _ retried c.in_ok-discharge_all.ensures.acted in
     let b = acted_then _ _ _ _ _ _ discharged c.in_ok-serve_all.ensures.acted in
-    let d = acted_then _ _ _ _ _ _ b c.in_ok-command_all.ensures.acted in
+    let released = acted_then _ _ _ _ _ _ b c.in_ok-release_all.ensures.acted in
+    let d = acted_then _ _ _ _ _ _ released c.in_ok-command_all.ensures.acted in
     let ended = acted_then _ _ _ _ _ _ d c.in_ok-end_all.ensures.acted in
     let e = acted_then _ _ _ _ _ _ ended c.in_ok-put_outbox.ensures.acted in
     let f = acted_then _ _ _ _ _ _ e c.in_ok-put_all_due.ensures.acted in
@@ -20,18 +22,20 @@ pub returns-clause-tickets : goal.returns-clause-tickets
 returns-clause-tickets c = λ keeps.
     let received = c.in_ok-retry_all.ensures.tickets (c.in_ok-receive_all.ensures.tickets keeps) in
     let served = c.in_ok-serve_all.ensures.tickets (c.in_ok-discharge_all.ensures.tickets received) in
-    let ended = c.in_ok-end_all.ensures.tickets (c.in_ok-command_all.ensures.tickets served) in
+    let ended = c.in_ok-end_all.ensures.tickets (c.in_ok-command_all.ensures.tickets (c.in_ok-release_all.ensures.tickets served)) in
     let sent = c.in_ok-put_all_due.ensures.tickets (c.in_ok-put_outbox.ensures.tickets ended) in
     c.in_ok-refuse_all.ensures.tickets (c.in_ok-carry_all.ensures.tickets sent)
 
 pub returns-clause-quiet : goal.returns-clause-quiet
 returns-clause-quiet c =
     let before = c.args.links.now in
+    let served = acted_then _ _ _ _ _ _ c.in_ok-serve_all.ensures.acted c.in_ok-release_all.ensures.acted in
+    let piece = then_released _ _ _ _ _ _ c.in_ok-serve_all.ensures.acted c.in_ok-release_all.ensures.acted c.in_ok-serve_all.ensures.quiet c.in_ok-release_all.ensures.quiet in
     let answer = c.tell.ensures ∙ ap (λ n. turned_of n c.len.result) c.len-before.ensures ∙ ap (λ n. turned_of (length before.entries) n) c.len.ensures in
     quiet_by c.args.self.now before c.refuse_all.new.self c.refuse_all.new.links c.tell.result answer
     (turn_idle _ _ _ _ _ _ _ _ _ _ _ _ _ _ _ _ _ _ _ _ _ _
-    c.in_ok-receive_all.ensures.acted c.in_ok-retry_all.ensures.acted c.in_ok-discharge_all.ensures.acted c.in_ok-serve_all.ensures.acted c.in_ok-command_all.ensures.acted
+    c.in_ok-receive_all.ensures.acted c.in_ok-retry_all.ensures.acted c.in_ok-discharge_all.ensures.acted served c.in_ok-command_all.ensures.acted
     c.in_ok-end_all.ensures.acted c.in_ok-put_outbox.ensures.acted c.in_ok-put_all_due.ensures.acted c.in_ok-carry_all.ensures.acted c.in_ok-refuse_all.ensures.acted
-    c.in_ok-receive_all.ensures.quiet c.in_ok-retry_all.ensures.quiet c.in_ok-discharge_all.ensures.quiet c.in_ok-serve_all.ensures.quiet c.in_ok-command_all.ensures.quiet
+    c.in_ok-receive_all.ensures.quiet c.in_ok-retry_all.ensures.quiet c.in_ok-discharge_all.ensures.quiet piece c.in_ok-command_all.ensures.quiet
     c.in_ok-end_all.ensures.quiet c.in_ok-put_outbox.ensures.quiet c.in_ok-put_all_due.ensures.quiet
     (λ same. c.in_ok-carry_all.ensures.quiet (c.len-before.ensures ∙ same)) (λ same. c.in_ok-refuse_all.ensures.quiet (c.len-before.ensures ∙ same)))

@@ -1,6 +1,6 @@
 use Rattle.std.proofs.Common.{true, false, refl, sym, ◌∙◌, ap, subst}
 use Rattle.bd_machine.specs.View.{View}
-use Rattle.bd_due.specs.Visiting.{visitor}
+use Rattle.bd_steps.specs.Visiting.{visitor}
 use Rattle.bd_thread.specs.Walking.{VisitsBy}
 use Rattle.bd_thread.proofs.Going.{acted_then}
 use Rattle.bd_thread.proofs.thread.Thread.visit.Goals as goal

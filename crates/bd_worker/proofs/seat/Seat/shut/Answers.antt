@@ -1,7 +1,7 @@
 use Rattle.std.proofs.Common.{◌≡◌, ℕ, List, length, refl, subst, sym, ◌∙◌}
 use Rattle.bd_base.specs.declared.act.Entry.{Entry}
 use Rattle.bd_ring.specs.Slots.{after_give}
-use Rattle.bd_storage.specs.Contents.{contents_of}
+use Rattle.bd_disks.specs.Contents.{contents_of}
 use Rattle.bd_worker.specs.Seats.{IsSeat}
 use Rattle.bd_worker.specs.Shutting.{Shuts}
 use Rattle.bd_worker.proofs.Borrowing.{lent_is}

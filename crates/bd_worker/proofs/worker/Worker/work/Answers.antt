@@ -1,8 +1,8 @@
 use Rattle.std.proofs.Common.{◌≡◌, ℕ, List, ◌++◌, length, ap, ap₂, subst, sym, ◌∙◌}
 use Rattle.bd_base.specs.declared.act.Entry.{Entry}
 use Rattle.bd_log.specs.Log.{Written}
-use Rattle.bd_merged.specs.Journals.{events}
-use Rattle.bd_apart.specs.Course.{acts_of, restamped}
+use Rattle.bd_law_logs.specs.Journals.{events}
+use Rattle.bd_law_threads.specs.Course.{acts_of, restamped}
 use Rattle.bd_seat.specs.Taking.{AppendsAlone}
 use Rattle.bd_thread.specs.Moves.{turned_of}
 use Rattle.bd_thread.specs.declared.links.Links.{Links}

@@ -6,13 +6,13 @@ use Rattle.bd_base.specs.declared.act.Entry.{Entry}
 use Rattle.bd_base.specs.declared.setup.Setup.{Setup}
 use Rattle.bd_machine.specs.declared.state.Registry.{Registry}
 use Rattle.bd_machine.specs.Step.{is_shutdown}
-use Rattle.bd_merged.specs.Journals.{IsReplay}
+use Rattle.bd_law_logs.specs.Journals.{IsReplay}
 use Rattle.bd_log.specs.Log.{Written}
 use Rattle.bd_registry.specs.State.{rows_of}
 use Rattle.bd_registry.proofs.Alike.{rows_are_enough}
-use Rattle.bd_apart.specs.Course.{acts_of, restamped}
+use Rattle.bd_law_threads.specs.Course.{acts_of, restamped}
 use Rattle.bd_seat.specs.Taking.{TakesOver}
-use Rattle.bd_storage.specs.Contents.{contents_of}
+use Rattle.bd_disks.specs.Contents.{contents_of}
 use Rattle.bd_thread.specs.Moves.{turned_of}
 use Rattle.bd_thread.specs.Seen.{local}
 use Rattle.bd_worker.specs.declared.worker.Worker.{Worker}

@@ -1,5 +1,0 @@
-use Rattle.bd_apart.proofs.Arriving.{arrivals_are_met}
-use Rattle.bd_apart.proofs.law.arrivals_are_met.Goals as goal
-
-pub returns : goal.returns
-returns c = arrivals_are_met

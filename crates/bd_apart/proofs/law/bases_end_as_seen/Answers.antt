@@ -1,5 +1,0 @@
-use Rattle.bd_apart.proofs.Ending.{bases_end_as_seen}
-use Rattle.bd_apart.proofs.law.bases_end_as_seen.Goals as goal
-
-pub returns : goal.returns
-returns c = bases_end_as_seen

@@ -1,5 +1,0 @@
-use Rattle.bd_apart.proofs.Ending.{courses_are_complete_run}
-use Rattle.bd_apart.proofs.law.courses_are_complete_run.Goals as goal
-
-pub returns : goal.returns
-returns c = courses_are_complete_run

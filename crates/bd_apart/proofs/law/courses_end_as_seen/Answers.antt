@@ -1,5 +1,0 @@
-use Rattle.bd_apart.proofs.Ending.{courses_end_as_seen}
-use Rattle.bd_apart.proofs.law.courses_end_as_seen.Goals as goal
-
-pub returns : goal.returns
-returns c = courses_end_as_seen

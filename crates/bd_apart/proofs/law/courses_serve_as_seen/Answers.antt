@@ -1,5 +1,0 @@
-use Rattle.bd_apart.proofs.Ending.{courses_serve_as_seen}
-use Rattle.bd_apart.proofs.law.courses_serve_as_seen.Goals as goal
-
-pub returns : goal.returns
-returns c = courses_serve_as_seen

@@ -1,5 +1,0 @@
-use Rattle.bd_apart.proofs.Following.{others_are_followed}
-use Rattle.bd_apart.proofs.law.others_are_followed.Goals as goal
-
-pub returns : goal.returns
-returns c = others_are_followed

@@ -1,5 +1,0 @@
-use Rattle.bd_apart.proofs.Shutting.{shutdown_begins_a_phase}
-use Rattle.bd_apart.proofs.law.shutdown_begins_a_phase.Goals as goal
-
-pub returns : goal.returns
-returns c = shutdown_begins_a_phase

@@ -1,8 +1,0 @@
-pub mod Arriving
-pub mod Dues
-pub mod Each
-pub mod Firsts
-pub mod Left
-pub mod Moving
-pub mod Places
-pub mod Written

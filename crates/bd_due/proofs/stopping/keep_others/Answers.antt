@@ -1,9 +1,0 @@
-use Rattle.std.proofs.Common.{ℕ, not, rules}
-use Rattle.std.proofs.lemmas.Fn.{filter_same}
-use Rattle.bd_base.specs.declared.act.Token.{Token}
-use Rattle.bd_tokens.specs.Tokens.{here_in}
-use Rattle.bd_due.specs.Stopping.{is_unsent}
-use Rattle.bd_due.proofs.stopping.keep_others.Goals as goal
-
-pub returns : goal.returns
-returns c = filter_same _ (λ (x : ℕ × Token). not (is_unsent c.args.req (here_in c.args.held.now.items) x.1)) _ (λ x b f' t. search rules) _ _ c.retain.ensures.filtered

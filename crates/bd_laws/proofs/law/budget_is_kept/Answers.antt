@@ -1,5 +1,0 @@
-use Rattle.bd_laws.proofs.Ledger.{budget_is_kept}
-use Rattle.bd_laws.proofs.law.budget_is_kept.Goals as goal
-
-pub returns : goal.returns
-returns c = budget_is_kept

@@ -1,5 +1,0 @@
-use Rattle.bd_laws.proofs.Quiesce.{requests_have_channels}
-use Rattle.bd_laws.proofs.law.requests_have_channels.Goals as goal
-
-pub returns : goal.returns
-returns c = requests_have_channels

@@ -1,5 +1,0 @@
-use Rattle.bd_merged.proofs.Complete.{logs_end_as_seen}
-use Rattle.bd_merged.proofs.law.logs_end_as_seen.Goals as goal
-
-pub returns : goal.returns
-returns c = logs_end_as_seen

@@ -1,5 +1,0 @@
-use Rattle.bd_merged.proofs.Restamped.{loose_logs_are_complete_run}
-use Rattle.bd_merged.proofs.law.loose_logs_are_complete_run.Goals as goal
-
-pub returns : goal.returns
-returns c = loose_logs_are_complete_run

@@ -1,5 +1,0 @@
-use Rattle.bd_merged.proofs.Restamped.{loose_logs_end_as_seen}
-use Rattle.bd_merged.proofs.law.loose_logs_end_as_seen.Goals as goal
-
-pub returns : goal.returns
-returns c = loose_logs_end_as_seen

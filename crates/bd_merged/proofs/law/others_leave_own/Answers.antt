@@ -1,5 +1,0 @@
-use Rattle.bd_merged.proofs.Having.{others_leave_own}
-use Rattle.bd_merged.proofs.law.others_leave_own.Goals as goal
-
-pub returns : goal.returns
-returns c = others_leave_own

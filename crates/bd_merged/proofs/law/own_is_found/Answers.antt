@@ -1,5 +1,0 @@
-use Rattle.bd_merged.proofs.OwnFollow.{own_is_found}
-use Rattle.bd_merged.proofs.law.own_is_found.Goals as goal
-
-pub returns : goal.returns
-returns c = own_is_found

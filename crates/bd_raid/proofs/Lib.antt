@@ -1,0 +1,4 @@
+mod Least
+mod Joined
+mod Striped
+mod Sets

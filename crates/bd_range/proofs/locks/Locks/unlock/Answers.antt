@@ -1,0 +1,15 @@
+use Rattle.std.proofs.Common.{◌≤◌, ℕ, List, ◌∙◌, ap}
+use Rattle.std.proofs.lemmas.Map.Views.{All-map-remove_entry}
+use Rattle.bd_range.specs.Locks.{is_named, LockKey, LockRows, without_lock}
+use Rattle.bd_range.proofs.Keys.{named, removed_same}
+use Rattle.bd_range.proofs.locks.Locks.unlock.Goals as goal
+
+pub invariant_of-self : goal.invariant_of-self
+invariant_of-self c = rw c.remove.ensures.entries (All-map-remove_entry _ (λ (e : LockKey × ℕ). e.1) (λ n. n ≤ 512) _ c.self.invariant)
+
+-- the key that is taken out is that of the lock's name
+pub returns : goal.returns
+returns c =
+    let gone = c.remove.ensures.entries ∙ removed_same _ (is_named c.args.req c.args.first) (named c.args.req c.args.first) c.self.inside.locks.entries in
+    let with_locks : List (LockKey × ℕ) → LockRows = λ locks. record { locks = locks; held = c.self.inside.held } in
+    ap with_locks gone ∙ ap (λ (s : LockRows). without_lock s c.args.req c.args.first) c.self.view_is

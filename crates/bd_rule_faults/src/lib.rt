@@ -1,0 +1,16 @@
+//! What a request meets beside its pieces, each rule once as a program: limits, injected errors,
+//! delays and aborts.
+#![tactic(auto)]
+
+mod aborts;
+mod delays;
+mod injections;
+mod limits;
+
+pub use aborts::{aborted, refused_abort};
+pub use bd_delay::counted;
+pub use delays::{held, refused_hold, refused_release, released};
+pub use injections::{asked_once_more, injected, pended, refused_inject, refused_pend};
+pub use limits::{
+    charge, depart, passed, refused_let, refused_tick, seen_at, tick, waiting_for, waits_at,
+};

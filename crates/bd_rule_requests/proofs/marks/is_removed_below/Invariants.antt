@@ -1,0 +1,8 @@
+use Rattle.std.proofs.Common.{◌≡◌}
+use Rattle.std.specs.List.{list_any}
+use Rattle.bd_machine.specs.BlockMap.{below}
+use Rattle.bd_machine.specs.Marks.{is_removed}
+use Rattle.bd_rule_requests.proofs.marks.is_removed_below.Given as goal
+
+abbrev pub invariant-loop-d : goal.invariant-loop-d
+invariant-loop-d l = list_any (is_removed l.part) l.d-iterator ≡ list_any (is_removed l.part) (below l.setup l.fn.dev)

@@ -1,0 +1,162 @@
+//! Visit: a walk is at a thread, and sets or takes its marks.
+ghost use Rattle.std.specs.Prelude.{◌≡◌, ◌+◌, IfOk, OnOk};
+ghost use Rattle.std.specs.List.{list_any};
+ghost use Rattle.bd_machine.specs.Delays.{uncounted};
+ghost use Rattle.bd_machine.specs.Same.{same_dev};
+ghost use Rattle.bd_machine.specs.Step.{first_failing};
+ghost use Rattle.bd_machine.specs.Table.{write};
+ghost use Rattle.bd_machine.specs.Walks.{guards_visit, is_drained, is_kept_waiting, is_next_visit, marked_by, put_owed, visited};
+ghost use Rattle.bd_rule_walks.specs.Walking.{with_channel};
+
+use bd_base::{DevId, OutOfMemory, Setup, WalkId, WalkKind};
+use bd_blocks::{first_of, home, is_below, is_limited, without, write_row};
+use bd_machine::guard::{DRAINED, NEXT_VISIT};
+use bd_machine::{Delayed, Marking, Open, OpenWalk, Owed, Part};
+use bd_rule_requests::{is_reset, marking_of, walk_here};
+use bd_rule_view::{Sees, same_walk_kind};
+
+// ---- whether it is allowed
+
+fn is_next_visit(thread: u32, dev: DevId, kind: WalkKind, here: Option<OpenWalk>) -> bool
+    ensures { result ≡ is_next_visit thread dev kind here }
+{
+    let Some(w) = here else {
+        return false;
+    };
+    let is_next = match first_of(w.left) {
+        Some(first) => thread == first,
+        None => false,
+    };
+    w.taken && is_next && w.dev.0 == dev.0 && same_walk_kind(w.kind, kind)
+}
+
+fn is_kept_waiting(setup: &Setup, dev: DevId, request: &Open) -> bool
+    ensures { result ≡ is_kept_waiting setup.now dev request.now }
+{
+    !is_reset(request.op) && is_below(setup, request.dev, dev)
+}
+
+fn any_waits(setup: &Setup, requests: &[Open], dev: DevId) -> bool
+    ensures { result ≡ list_any (is_kept_waiting setup.now dev) requests.now }
+{
+    requests
+        .iter()
+        .any(|open| is_kept_waiting(setup, dev, open))
+}
+
+/// Whether no open request of the thread stands against a visit of this kind: against a drain each does
+/// that has the device below, but resets.
+pub fn is_drained(setup: &Setup, part: &Part, dev: DevId, kind: WalkKind) -> bool
+    ensures { result ≡ is_drained setup.now part.now dev kind }
+{
+    match kind {
+        WalkKind::Drain => !any_waits(setup, part.requests.as_slice(), dev),
+        _ => true,
+    }
+}
+
+/// Why a Visit isn't allowed.
+pub fn refused_visit<S: Sees>(
+    seen: &S,
+    setup: &Setup,
+    thread: u32,
+    walk: WalkId,
+    dev: DevId,
+    kind: WalkKind,
+) -> Option<u32>
+    ensures { result ≡ first_failing (guards_visit setup.now thread (S.view_of seen.now) walk dev kind) }
+{
+    if !is_next_visit(thread, dev, kind, walk_here(seen, walk)) {
+        return Some(NEXT_VISIT);
+    }
+    if is_drained(setup, seen.part(), dev, kind) {
+        None
+    } else {
+        Some(DRAINED)
+    }
+}
+
+// ---- marks
+
+/// A device has these marks on the thread. Out of memory leaves the part unspecified.
+pub fn remark(part: &mut Part, dev: DevId, marking: Marking) -> Result<(), OutOfMemory>
+    ensures { OnOk result (part.new ≡ record part.old { marked = write same_dev part.old.marked dev marking }) }
+{
+    write_row(&mut part.marked, dev, marking)
+}
+
+/// The delays of a device's channel on the thread count from 0. Out of memory leaves the part
+/// unspecified.
+pub fn uncount(part: &mut Part, dev: DevId) -> Result<(), OutOfMemory>
+    ensures { OnOk result (part.new ≡ record part.old { delayed = write same_dev part.old.delayed dev uncounted }) }
+{
+    let counted = Delayed {
+        reads: 0,
+        writes: 0,
+    };
+    write_row(&mut part.delayed, dev, counted)
+}
+
+fn once_more(times: u128) -> Result<u128, OutOfMemory>
+    ensures { IfOk result (λ n. n ≡ times + 1) }
+{
+    match times.checked_add(1) {
+        Some(n) => Ok(n),
+        None => Err(OutOfMemory),
+    }
+}
+
+// The home of a limited device owes the put of its channel.
+fn owe_put(part: &mut Part, setup: &Setup, thread: u32, dev: DevId) -> Result<(), OutOfMemory>
+    ensures { OnOk result (part.new ≡ put_owed setup.now thread dev part.old) }
+{
+    if is_limited(setup, dev) && home(setup, dev) == thread {
+        part.owed.push(Owed::Put(dev))?;
+    }
+    Ok(())
+}
+
+/// A visit sets the freeze mark where the thread has a channel, or the removal mark, or takes the
+/// freeze mark. A count past 128 bits is out of memory, which leaves the part unspecified.
+pub fn mark(
+    part: &mut Part,
+    setup: &Setup,
+    thread: u32,
+    channel: Option<u128>,
+    dev: DevId,
+    kind: WalkKind,
+) -> Result<(), OutOfMemory>
+    ensures { OnOk result (part.new ≡ marked_by setup.now thread (with_channel part.old channel) dev kind) }
+{
+    let mut marking = marking_of(part, dev);
+    match kind {
+        WalkKind::Freeze => {
+            if channel.is_none() {
+                return Ok(());
+            }
+            marking.frozen = true;
+            marking.times = once_more(marking.times)?;
+            remark(part, dev, marking)
+        }
+        WalkKind::Drain => Ok(()),
+        WalkKind::Thaw => {
+            marking.frozen = false;
+            remark(part, dev, marking)
+        }
+        WalkKind::Removal => {
+            marking.removed = true;
+            marking.times = once_more(marking.times)?;
+            remark(part, dev, marking)?;
+            owe_put(part, setup, thread, dev)
+        }
+    }
+}
+
+/// A walk that visited a thread.
+pub fn visited(thread: u32, walk: OpenWalk) -> OpenWalk
+    ensures { result ≡ visited thread walk }
+{
+    let mut after = walk;
+    after.left = without(walk.left, thread);
+    after
+}

@@ -1,5 +1,0 @@
-use Rattle.bd_served.proofs.Over.{over_serves_on}
-use Rattle.bd_served.proofs.law.over_serves_on.Goals as goal
-
-pub returns : goal.returns
-returns c = over_serves_on

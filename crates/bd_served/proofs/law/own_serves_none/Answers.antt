@@ -1,5 +1,0 @@
-use Rattle.bd_served.proofs.Over.{own_serves_none}
-use Rattle.bd_served.proofs.law.own_serves_none.Goals as goal
-
-pub returns : goal.returns
-returns c = own_serves_none

@@ -1,0 +1,15 @@
+pub mod Served
+pub mod Completions
+pub mod Pieces
+pub mod Stopping
+pub mod Sending
+pub mod Duties
+pub mod Following
+pub mod Asking
+pub mod Resting
+pub mod Tickets
+pub mod Serving
+pub mod Visiting
+pub mod Answering
+pub mod Refusing
+pub mod Returning

@@ -1,0 +1,123 @@
+//! Which request may be aborted, and what an abort stops: the request waits at no limited device, and its pieces
+//! that wait unsent are no longer to be put; nor are they where a request completes without success.
+ghost use Rattle.std.specs.Prelude.{◌≡◌, option_copied, Some};
+ghost use Rattle.bd_machine.specs.Aborts.{stopped};
+ghost use Rattle.bd_machine.specs.Completion.{waits_unsent};
+ghost use Rattle.bd_machine.specs.declared.state.Id.TheVariants as ids;
+ghost use Rattle.bd_machine.specs.Kept.{as_piece, as_request};
+ghost use Rattle.bd_tokens.specs.Tokens.{here_in};
+ghost use Rattle.bd_steps.specs.Stopping.{abortable, base_under, channels_left, channels_without, is_unsent, left_by, without_unsent};
+
+use bd_base::{AbortCause, DevId, ReqId, Setup, Status, Token};
+use bd_blocks::base_of;
+use bd_machine::{Id, Kept, OpenRequest, Part, Progress};
+use bd_retries::Retries;
+use bd_rule_faults::{depart, refused_abort, waits_at};
+use bd_rule_requests::request_here;
+use bd_rule_view::{Sees, same_request};
+use bd_tokens::Tokens;
+use std::collections::VecDeque;
+
+/// The request, where it is here and the rules let it be aborted for this cause.
+pub fn abortable<S: Sees>(
+    seen: &S,
+    setup: &Setup,
+    me: u32,
+    req: ReqId,
+    cause: AbortCause,
+) -> Option<OpenRequest>
+    ensures { result ≡ abortable setup.now me (S.view_of seen.now) req cause }
+{
+    if refused_abort(seen, setup, me, req, cause).is_none() {
+        request_here(seen, req)
+    } else {
+        None
+    }
+}
+
+// Whether it is a piece without an end, and not out.
+fn waits_unsent(kept: Option<&Kept>) -> bool
+    ensures { result ≡ waits_unsent (as_piece (option_copied kept.entry)) }
+{
+    match kept {
+        Some(Kept::Piece(p)) => p.end.is_none() && matches!(p.progress, Progress::Held),
+        _ => false,
+    }
+}
+
+// Whether it is a piece of this request that waits here unsent.
+fn is_unsent(held: &Tokens, req: ReqId, what: &Token) -> bool
+    ensures { result ≡ is_unsent req (here_in held.now.items) what.now }
+{
+    match what {
+        Token::Piece(of, k) => {
+            same_request(*of, req) && waits_unsent(held.get(Id::Piece(*of, *k)))
+        }
+        _ => false,
+    }
+}
+
+// What is to be put, without the pieces of a request that wait here unsent.
+fn keep_others(outbox: &mut VecDeque<(u32, Token)>, held: &Tokens, req: ReqId)
+    ensures { outbox.new.items ≡ without_unsent req (here_in held.now.items) outbox.old.items }
+{
+    outbox.retain(|x| !is_unsent(held, req, &x.1));
+}
+
+// The base device under the request's device, where the request is here.
+fn base_under(held: &Tokens, setup: &Setup, req: ReqId) -> Option<DevId>
+    ensures { result ≡ base_under setup.now (as_request (here_in held.now.items (ids.Request req))) }
+{
+    match held.get(Id::Request(req)) {
+        Some(Kept::Request(r)) => Some(base_of(setup, r.dev)),
+        _ => None,
+    }
+}
+
+/// The pieces of a request that wait here unsent are no longer to be put; all else is, in its order. Nor are
+/// they in flight, and those that wait to be sent again do so no more.
+pub fn drop_unsent(
+    outbox: &mut VecDeque<(u32, Token)>,
+    retries: &mut Retries,
+    held: &Tokens,
+    setup: &Setup,
+    req: ReqId,
+)
+    ensures outbox { outbox.new.items ≡ without_unsent req (here_in held.now.items) outbox.old.items }
+    ensures retries { retries.new ≡ channels_without setup.now req (here_in held.now.items) outbox.old.items retries.old }
+{
+    let before = outbox.len();
+    keep_others(outbox, held, req);
+    let after = outbox.len();
+    if let Some(base) = base_under(held, setup, req) {
+        retries.dropped(base, req, before.saturating_sub(after));
+    }
+}
+
+/// Where a request completes with this status, but for success, its pieces that wait here unsent are no longer
+/// to be put, in flight, or to be sent again: they end with it.
+pub fn drop_left(
+    outbox: &mut VecDeque<(u32, Token)>,
+    retries: &mut Retries,
+    held: &Tokens,
+    setup: &Setup,
+    req: ReqId,
+    status: Status,
+)
+    ensures outbox { outbox.new.items ≡ left_by req status (here_in held.now.items) outbox.old.items }
+    ensures retries { retries.new ≡ channels_left setup.now req status (here_in held.now.items) outbox.old.items retries.old }
+{
+    if !matches!(status, Status::Success) {
+        drop_unsent(outbox, retries, held, setup, req);
+    }
+}
+
+/// A request that is aborted waits no longer at the home of a limited device, if it went out to one.
+pub fn stop_waiting(part: &mut Part, setup: &Setup, req: ReqId, r: OpenRequest)
+    ensures { part.new ≡ stopped setup.now part.old req (Some r) }
+{
+    match waits_at(setup, r) {
+        Some(dev) => depart(&mut part.limited, req, dev),
+        None => {}
+    }
+}

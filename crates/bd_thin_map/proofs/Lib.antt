@@ -1,0 +1,6 @@
+mod Counted
+mod Least
+mod Order
+mod Rows
+mod Taken
+mod Totals

@@ -1,5 +1,0 @@
-use Rattle.bd_told.proofs.Over.{over_goes_on}
-use Rattle.bd_told.proofs.law.over_goes_on.Goals as goal
-
-pub returns : goal.returns
-returns c = over_goes_on

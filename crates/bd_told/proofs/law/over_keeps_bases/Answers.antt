@@ -1,5 +1,0 @@
-use Rattle.bd_told.proofs.Over.{over_keeps_bases}
-use Rattle.bd_told.proofs.law.over_keeps_bases.Goals as goal
-
-pub returns : goal.returns
-returns c = over_keeps_bases

@@ -1,5 +1,0 @@
-use Rattle.bd_told.proofs.Start.{start_is_told}
-use Rattle.bd_told.proofs.law.start_is_told.Goals as goal
-
-pub returns : goal.returns
-returns c = start_is_told

@@ -1,0 +1,5 @@
+pub mod Orders
+pub mod Zeros
+pub mod Maps
+pub mod Volumes
+pub mod Steps

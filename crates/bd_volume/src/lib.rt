@@ -1,0 +1,8 @@
+//! A volume: blocks in clusters that its snapshots share until one of them writes.
+#![tactic(auto)]
+
+mod cluster;
+mod clusters;
+mod volume;
+
+pub use volume::Volume;

@@ -1,0 +1,264 @@
+"""judge: says what is wrong with a history beside its report and the script that it played.
+
+It works from the text alone, as tests/trace/reader.py reads it, and from the script's lines, and shares no code with
+the program. wrong_with() returns a list of what is wrong, which is empty where nothing is.
+"""
+
+from collections import Counter, defaultdict
+
+
+def order(entries):
+    """Entries stand by stamp and thread, and a thread's stamps rise from 1 on."""
+    last = {}
+    for before, entry in zip([None] + entries, entries):
+        if before and (before.stamp, before.thread) >= (entry.stamp, entry.thread):
+            yield f"entry {entry.line()!r} doesn't stand after {before.line()!r}"
+        if entry.stamp <= last.get(entry.thread, 0):
+            yield f"stamps of thread {entry.thread} don't rise at {entry.stamp}"
+        last[entry.thread] = entry.stamp
+
+
+def requests(entries):
+    """Each accepted request is cut where it has more pieces, done piece by piece, and completed once, on its thread."""
+    accepted, completed = {}, Counter()
+    pieces, applied = defaultdict(lambda: 1), defaultdict(Counter)
+    status = {}
+    for entry in entries:
+        name = entry.get("request")
+        if entry.act == "accept":
+            if name in accepted:
+                yield f"request {name} is accepted twice"
+            if int(name.split(".")[0]) != entry.thread:
+                yield f"request {name} is accepted on thread {entry.thread}"
+            accepted[name] = entry
+        elif entry.act == "cut":
+            pieces[name] = int(entry.get("pieces"))
+        elif entry.act == "apply":
+            if entry.get("end") == "done":
+                applied[name][int(entry.get("piece"))] += 1
+        elif entry.act == "complete":
+            completed[name] += 1
+            status[name] = entry.get("status")
+            if name not in accepted or accepted[name].thread != entry.thread:
+                yield f"request {name} is completed on thread {entry.thread} without an accept there"
+            reads = accepted.get(name) and accepted[name].get("type") == "read" and status[name] == "success"
+            if bool(reads) != (entry.get("sha256") is not None):
+                yield f"request {name} shows data, or none, against its type and status"
+    for name in accepted:
+        if completed[name] != 1:
+            yield f"request {name} is completed {completed[name]} times"
+        if status.get(name) == "success" and applied[name] != Counter(range(pieces[name])):
+            yield f"request {name} succeeded with the pieces {dict(applied[name])} of {pieces[name]}"
+
+
+def cuts(entries):
+    """A request is cut once, before its first piece goes; one that is aborted may not be."""
+    cut, sent, status = Counter(), set(), {}
+    for entry in entries:
+        name = entry.get("request")
+        if entry.act == "cut":
+            cut[name] += 1
+            if name in sent:
+                yield f"request {name} is cut once its pieces go"
+        elif entry.act == "put" and entry.get("message") == "piece":
+            sent.add(name)
+        elif entry.act == "complete":
+            status[name] = entry.get("status")
+    for name, end in status.items():
+        if cut[name] != 1 and (end != "aborted" or cut[name]):
+            yield f"request {name}, which ends with {end}, is cut {cut[name]} times"
+
+
+def registry(entries):
+    """Handles are numbered in turn and closed once; channels are given back as often as they are got, and dropped
+    where a message says so; a removal visits the threads with a channel; what ends is told."""
+    opened, closed, got, back = [], Counter(), Counter(), Counter()
+    visits, wanted, drops, told, ended = Counter(), Counter(), Counter(), Counter(), Counter()
+    for entry in entries:
+        event, answer, device = entry.get("event"), entry.get("answer"), entry.get("device")
+        if entry.act == "visit":
+            visits[device, str(entry.thread)] += 1
+        elif entry.act == "destruct":
+            ended[device] += 1
+        elif entry.act == "took" and entry.get("message") == "channel":
+            drops[entry.thread, device] += 1
+        elif entry.act != "registry":
+            continue
+        if answer == "opened":
+            opened.append(int(entry.get("handle")))
+        elif answer == "closed":
+            closed[int(entry.get("handle"))] += 1
+        elif answer == "got":
+            got[entry.thread, device] += 1
+        elif answer == "put-down":
+            back[entry.thread, device] += 1
+        elif answer == "removing":
+            wanted.update((device, thread) for thread in entry.all("thread"))
+        elif event == "drop-channel":
+            drops[entry.thread, device] -= 1
+        elif event == "destructed":
+            told[device] += 1
+    if opened and opened != list(range(opened[0], opened[0] + len(opened))):
+        yield f"handles are numbered {opened}"
+    if any(closed[handle] != 1 for handle in range(opened[-1] + 1 if opened else 0)):
+        yield f"handles are closed {dict(closed)} times"
+    for what, one, other in [("channels got and given back", got, back), ("visits", visits, wanted), ("devices that end", ended, told)]:
+        if one != other:
+            yield f"{what}: {dict(one)} and {dict(other)}"
+    if any(drops.values()):
+        yield f"channels to be dropped: {dict(drops)}"
+
+
+def asked(entries, script):
+    """Before a line that opens, claims or removes stands what was asked of the registry for it, with its answer."""
+    events = {"open": ("open", "opened"), "claim": ("claim", "claimed"), "remove": ("begin-remove", "removing")}
+    since = defaultdict(list)
+    for entry in entries if script else []:
+        if entry.act == "registry":
+            since[entry.thread].append((entry.get("event"), entry.get("answer")))
+        elif entry.act == "script":
+            words = script[int(entry.get("line")) - 1].split()
+            if words[1] in events and entry.get("outcome") == "ok" and events[words[1]] not in since[entry.thread]:
+                yield f"line {entry.get('line')} is done without its event"
+            since[entry.thread] = []
+
+
+def messages(entries):
+    """Messages from one thread to another are numbered from 0; each that is put is taken once, later, and as it was."""
+    puts, numbers, taken = {}, Counter(), Counter()
+    for entry in entries:
+        if entry.act not in ("put", "took"):
+            continue
+        other, number, what = int(entry.fields[0][1]), int(entry.get("number")), entry.fields[2:]
+        if entry.act == "put":
+            way = entry.thread, other
+            if number != numbers[way]:
+                yield f"the message {number} of {way} should be {numbers[way]}"
+            numbers[way] += 1
+            puts[way, number] = what
+        else:
+            way = other, entry.thread
+            if puts.get((way, number)) != what:
+                yield f"the message {number} of {way} is taken, and wasn't put so before"
+            if number != taken[way]:
+                yield f"the message {number} of {way} is taken out of turn"
+            taken[way] += 1
+    if numbers != taken:
+        yield f"messages put {dict(numbers)} and taken {dict(taken)}"
+
+
+def ends(report, entries):
+    """Each device of the report is destructed once, with the digest that the report shows; the end comes once."""
+    shown = [line.split(" ") for line in report if line.startswith("device ")]
+    told = defaultdict(list)
+    for entry in entries:
+        if entry.act == "destruct":
+            told[int(entry.get("device"))].append(entry.get("sha256"))
+    for number, words in enumerate(shown):
+        digest = words[words.index("sha256") + 1] if "sha256" in words else None
+        if told[number] != [digest]:
+            yield f"device {number} tells {told[number]} for {digest}"
+    if len(told) != len(shown):
+        yield f"{len(told)} devices end, and the report has {len(shown)}"
+    if sum(entry.act == "shutdown" for entry in entries) != 1:
+        yield "there isn't one shutdown"
+
+
+def counts(report, entries):
+    """The report's counts of threads, of devices and of all are those of the entries."""
+    by_thread, size = defaultdict(Counter), []
+    accepted, moved = {}, defaultdict(Counter)
+    for entry in entries:
+        if entry.act in ("accept", "refuse"):
+            by_thread[entry.thread]["accepted" if entry.act == "accept" else "refused"] += 1
+        if entry.act == "accept":
+            accepted[entry.get("request")] = entry
+        if entry.act == "complete":
+            by_thread[entry.thread][entry.get("status")] += 1
+            begin = accepted.get(entry.get("request"))
+            if begin and entry.get("status") == "success" and begin.get("type") in ("read", "write"):
+                moved[int(begin.get("device"))][begin.get("type")] += 1
+                moved[int(begin.get("device"))][begin.get("type") + "_blocks"] += int(begin.get("count"))
+    every = Counter()
+    for line in report:
+        words = line.split(" ")
+        if words[0] in ("thread", "end"):
+            at = 2 if words[0] == "thread" else 1
+            said = {key: int(value) for key, value in zip(words[at::2], words[at + 1::2])}
+            found = by_thread[int(words[1])] if at == 2 else every
+            every.update({key: found[key] for key in said} if at == 2 else {})
+            for key, value in said.items():
+                if found[key] != value:
+                    yield f"{line!r}, and the entries say {key} {found[key]}"
+        if words[0] == "device":
+            number, block = len(size), int(words[words.index("size") + 1])
+            size.append(block)
+            said = {key: int(value) for key, value in zip(words[7:15:2], words[8:16:2])}
+            found = moved[number]
+            wanted = {"reads": found["read"], "writes": found["write"], "read_bytes": found["read_blocks"] * block,
+                      "write_bytes": found["write_blocks"] * block}
+            if said != wanted:
+                yield f"{line!r}, and the entries say {wanted}"
+
+
+def job_result(entry, completions):
+    """What a report says of a script's line by its entry."""
+    outcome = entry.get("outcome")
+    if outcome == "ok":
+        return "ok"
+    if outcome == "refused":
+        return f"errno {entry.get('errno')}"
+    if outcome == "busy":
+        return f"errno 16 open {entry.get('open')}"
+    end = completions.get(entry.get("request"))
+    if end is None:
+        return "skipped"
+    data = f" first {end.get('first')} sha256 {end.get('sha256')}" if end.get("sha256") else ""
+    return end.get("status") + data
+
+
+def lines(report, entries, script):
+    """Each job line is what its entry says; the request that a line is accepted as is what the script has there."""
+    done, completions, accepted = {}, {}, {}
+    for entry in entries:
+        if entry.act == "script":
+            key = entry.thread, int(entry.get("line"))
+            if key in done:
+                yield f"line {key} is done twice"
+            done[key] = entry
+        elif entry.act == "complete":
+            completions[entry.get("request")] = entry
+        elif entry.act == "accept":
+            accepted[entry.get("request")] = entry
+    for line in report:
+        words = line.split(" ", 4)
+        if words[0] == "job":
+            entry = done.pop((int(words[2]), int(words[1])), None)
+            said = " ".join(words[4:])
+            found = "skipped" if entry is None else job_result(entry, completions)
+            if said != found:
+                yield f"{line!r}, and the entries say {found!r}"
+    if any(line.startswith("job ") for line in report) and done:
+        yield f"the report has no line for {sorted(done)}"
+    for (thread, number), entry in ((key, it) for key, it in done_again(entries) if script):
+        words = script[number - 1].split()
+        if words[0] != str(thread):
+            yield f"line {number} is done by thread {thread}"
+        request = accepted.get(entry.get("request")) if entry.get("outcome") == "accepted" else None
+        if entry.get("outcome") == "accepted" and (request is None or [words[1], *words[3:5]]
+                != [request.get("type"), request.get("lba"), request.get("count")]):
+            yield f"line {number} {words} is accepted as {request and request.line()!r}"
+
+
+def done_again(entries):
+    """The entries of scripts' lines by thread and line."""
+    return [((entry.thread, int(entry.get("line"))), entry) for entry in entries if entry.act == "script"]
+
+
+def wrong_with(report, entries, script):
+    """Returns what is wrong with these, at most ten of each kind."""
+    found = []
+    for part in (order(entries), requests(entries), cuts(entries), registry(entries), asked(entries, script), messages(entries), ends(report, entries), counts(report, entries),
+                 lines(report, entries, script)):
+        found += list(part)[:10]
+    return found

@@ -1,0 +1,136 @@
+"""What of a script is refused once it is played, as far as its lines and the devices alone say so.
+
+The program ends with status 0 whatever a request came to, so such a slip is easily overlooked. Nothing is said of devices that
+the script removes or claims, nor of lines whose answer depends on the order in which threads take their turns.
+"""
+
+from .places import quoted
+from .rules import meant
+from .mistakes import Mistake
+
+MOST_BYTES_OF_REQUEST = 262144
+UNBOUND, UNSURE = "unbound", "unsure"
+WRITES = ("write", "zeroes", "unmap", "flush")
+SUBMITS = ("read", *WRITES)
+
+
+class Handle:
+    def __init__(self, device, writes):
+        self.device = device
+        self.writes = writes
+        self.is_used = False  # whether requests on it may be open
+
+
+class Course:
+    """Goes through a script's commands over the devices of a configuration. `notes` have each line's errno with what is said."""
+
+    def __init__(self, script, made):
+        self.script = script
+        self.made = made
+        self.notes = []
+        self.posted = {words[1] for _, _, words in script.commands if words[0] == "post"}
+        self.shaky = self.unsure_devices()
+        self.errnos = {}  # of lines: the number of the error, or None where the line is never done
+        for thread in sorted({thread for _, thread, _ in script.commands}):
+            self.handles = {}
+            for place, of_thread, words in script.commands:
+                if of_thread == thread and not self.goes_on(place, words):
+                    break
+
+    def unsure_devices(self):
+        """The names of devices that some line removes or claims, with all that stand over and below them."""
+        named = {words[1] for _, _, words in self.script.commands if words[0] == "remove"}
+        claiming = {(thread, words[1]) for _, thread, words in self.script.commands if words[0] == "claim"}
+        named |= {words[2] for _, thread, words in self.script.commands if words[0] == "open" and (thread, words[1]) in claiming}
+        stacks = [self.stack(device) for device in self.made.values()]
+        return {name for stack in stacks for name in stack if named & set(stack)}
+
+    def stack(self, device):
+        """The name of a device and of those below it."""
+        names = []
+        while device:
+            names.append(device.name)
+            device = device.base
+        return names
+
+    def note(self, place, errno, said):
+        self.errnos[place] = errno
+        at = (self.script.name, (place, self.script.columns[place]))
+        end = "errno %d: " % errno if errno else ""
+        self.notes.append(Mistake(None, None, 0, end + said, at, place))
+
+    def goes_on(self, place, words):
+        """Follows a line; whether its thread goes on after it."""
+        word = words[0]
+        if word == "wait":
+            for handle in self.handles.values():
+                if isinstance(handle, Handle):
+                    handle.is_used = False
+        elif word == "await":
+            if words[1] not in self.posted:
+                self.note(place, None, "no line posts the mark %s, so this waits in vain, and the thread does no line after it" % quoted(words[1]))
+                return False
+        elif word == "open":
+            self.open(place, *words[1:])
+        elif word == "remove":
+            if words[1] not in self.made:
+                self.note(place, 19, self.no_device(words[1]))
+        elif word in ("close", "claim", "gone", *SUBMITS):
+            return self.with_handle(place, word, words)
+        return True
+
+    def no_device(self, name):
+        close = meant(name, self.made)
+        return "the configuration makes no device %s%s" % (quoted(name), "; %s is meant, it seems" % quoted(close) if close else "")
+
+    def open(self, place, name, device, mode):
+        state = self.handles.get(name, UNBOUND)
+        found = self.made.get(device)
+        if state is UNSURE:
+            return
+        if state is not UNBOUND:
+            self.note(place, 17, "the name %s is bound to an open handle" % quoted(name))
+        elif found is None:
+            self.note(place, 19, self.no_device(device))
+        elif device in self.shaky:
+            self.handles[name] = UNSURE
+        elif mode == "w" and found.over:
+            self.note(place, 1, "the device %s is claimed by %s, which stands on it: it can be opened with r alone" % (quoted(device), quoted(found.over[0].name)))
+        else:
+            self.handles[name] = Handle(found, mode == "w")
+
+    def with_handle(self, place, word, words):
+        name = words[1]
+        handle = self.handles.get(name, UNBOUND)
+        if handle is UNSURE:
+            return True
+        if handle is UNBOUND:
+            self.note(place, 9, "no handle %s is open on this thread" % quoted(name))
+        elif word == "gone":
+            self.note(place, None, "no line removes the device of %s, so this waits in vain, and the thread does no line after it" % quoted(name))
+            return False
+        elif word == "close":
+            self.handles[name] = UNSURE if handle.is_used else UNBOUND
+            if handle.is_used:
+                self.notes.append(Mistake(None, None, 0, "no wait stands before this: where a request is open yet, it ends with errno 16",
+                                          (self.script.name, (place, self.script.columns[place])), place))
+        elif word in SUBMITS:
+            self.submit(place, word, handle, name, int(words[2]), int(words[3]))
+        return True
+
+    def submit(self, place, word, handle, name, first, count):
+        device = handle.device
+        bottom = self.made[self.stack(device)[-1]]
+        if word in WRITES and not handle.writes:
+            self.note(place, 9, "the handle %s was opened with r, and doesn't write" % quoted(name))
+        elif word == "unmap" and bottom.kind == "aio":
+            self.note(place, 95, "an aio device doesn't take unmap" if bottom is device else "%s stands on an aio device, which doesn't take unmap" % quoted(device.name))
+        elif count == 0:
+            self.note(place, 22, "COUNT is 0")
+        elif count * device.size > MOST_BYTES_OF_REQUEST:
+            said = "COUNT is %d, which are %d bytes; a request has at most %d, here %d blocks"
+            self.note(place, 22, said % (count, count * device.size, MOST_BYTES_OF_REQUEST, MOST_BYTES_OF_REQUEST // device.size))
+        elif first + count > device.blocks:
+            self.note(place, 22, "the blocks %d to %d pass the end of %s, which has %d blocks" % (first, first + count - 1, quoted(device.name), device.blocks))
+        else:
+            handle.is_used = True
