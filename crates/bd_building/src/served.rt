@@ -4,8 +4,8 @@ ghost use Rattle.bd_building.specs.Served.{first_unserved, is_served};
 
 use bd_config::Command;
 
-/// Whether the program serves what a command asks for as yet: a malloc, a null or an aio device, one
-/// that stands on another and only hands on or delays, or what is ignored.
+/// Whether the program serves what a command asks for as yet: a device of any kind, an injected
+/// error, or what is ignored.
 pub fn is_served(command: &Command) -> bool
     ensures { result ≡ is_served command.now }
 {
@@ -16,6 +16,8 @@ pub fn is_served(command: &Command) -> bool
         | Command::Passthru { .. }
         | Command::Split { .. }
         | Command::Delay { .. }
+        | Command::Error { .. }
+        | Command::InjectError { .. }
         | Command::PassedOver => true,
         _ => false,
     }
