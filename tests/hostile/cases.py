@@ -211,10 +211,10 @@ def methods(dice):
 
 def stacks(dice):
     """Devices over each other: some in the wrong order, over a claimed base, with a name that stands, or with parts that don't fit."""
-    names = ["M", "N", "P", "Q", "Mp0", "Mp1", "Pp0", "Mp1p0"]
+    names = ["M", "N", "P", "Q", "Mp0", "Mp1", "Pp0", "Mp1p0", "EE_M", "EE_P"]
     calls = []
     for _ in range(2 + dice.below(7)):
-        kind = dice.below(5)
+        kind = dice.below(7)
         if kind == 0:
             calls.append(malloc(dice.of(names[:3]), num_blocks=dice.of([1, 2, 3, 64, 65, 2048, 4097, 2097152]), optimal_io_boundary=dice.of([0, 8, 9])))
         elif kind == 3:
@@ -224,6 +224,11 @@ def stacks(dice):
         elif kind == 4:
             latencies = {"%s_%s_latency" % (of, way): dice.of([0, 1, 2] if of == "avg" else [1, 2, 3]) for way in ("read", "write") for of in ("avg", "p99")}
             calls.append({"method": "bdev_delay_create", "params": {"base_bdev_name": dice.of(names), "name": dice.of(names), **latencies}})
+        elif kind == 5:
+            calls.append({"method": "bdev_error_create", "params": {"base_name": dice.of(names)}})
+        elif kind == 6:
+            params = {"name": dice.of(["EE_M", "EE_P", "EE_EE_M", "M"]), "io_type": "all", "error_type": dice.of(["failure", "pending", "corrupt_data"])}
+            calls.append({"method": "bdev_error_inject_error", "params": {**params, "num": dice.of([0, 1, 4294967295])}})
         else:
             params = {"base_bdev": dice.of(names), "split_count": dice.of([1, 2, 3, 64]), "split_size_mb": dice.of([0, 0, 1, 2, 1048576])}
             calls.append({"method": "bdev_split_create", "params": params})

@@ -16,7 +16,7 @@ MOST_NAME = 255
 MOST_MEMORY = 1 << 30
 U64 = (1 << 64) - 1
 
-NOT_FOUND, INVALID, NOT_SUPPORTED, EXISTS, CLAIMED, TOO_MUCH = -32601, -32602, -95, -17, -1, -22
+NOT_FOUND, INVALID, NOT_SUPPORTED, EXISTS, NO_DEVICE, CLAIMED, TOO_MUCH = -32601, -32602, -95, -17, -19, -1, -22
 
 
 # ---- JSON
@@ -299,16 +299,18 @@ def delay(call):
 
 
 def error(call):
-    call.name("base_name")
+    return ("error", call.name("base_name"))
 
 
 def inject(call):
-    call.name("name"), call.whole("num", 0, (1 << 32) - 1, 1)
+    name = call.name("name")
+    call.whole("num", 0, (1 << 32) - 1, 1)
     kind, types = call.text("error_type"), call.text("io_type")
     if kind not in ("failure", "pending", "corrupt_data"):
         raise Wrong
     if types not in ("read", "write", "all") + (() if kind == "corrupt_data" else ("write_zeroes", "unmap", "flush")):
         raise Wrong
+    return ("inject", name)
 
 
 def limits(call):
@@ -399,10 +401,10 @@ class Devices:
     """The devices that commands make, each with its blocks, their size, how many layers it has and whether it is claimed."""
 
     def __init__(self):
-        self.made, self.memory = {}, 0
+        self.made, self.memory, self.errors = {}, 0, set()
 
     def base_of(self, command):
-        return None if command[0] in ("malloc", "null", "aio") else command[1]
+        return None if command[0] in ("malloc", "null", "aio", "inject") else command[1]
 
     def rows(self, command):
         """What the command asks for: names, with blocks, size and layers."""
@@ -413,6 +415,8 @@ class Devices:
         blocks, size, layers = self.made[command[1]][:3]
         if command[0] in ("passthru", "delay"):
             return [(command[2], (blocks, size, layers + 1))]
+        if command[0] == "error":
+            return [("EE_" + command[1], (blocks, size, layers + 1))]
         count, megabytes = command[2], command[3]
         each = (megabytes << 20) // size if megabytes else blocks // count
         # As many parts are made as fit. Their names are looked at where one fits at all.
@@ -420,6 +424,13 @@ class Devices:
         return [("%sp%d" % (command[1], i), (each, size, layers + 1)) for i in range(count)]
 
     def do(self, command):
+        if command[0] == "inject":
+            # It makes nothing, and doesn't wait.
+            if command[1] not in self.made:
+                raise Refused(NO_DEVICE)
+            if command[1] not in self.errors:
+                raise Refused(TOO_MUCH)
+            return
         rows, base = self.rows(command), self.base_of(command)
         if any(name in self.made for name, _ in rows):
             raise Refused(EXISTS)
@@ -436,6 +447,8 @@ class Devices:
         self.memory = memory
         for name, row in rows:
             self.made[name] = [*row, False]
+            if command[0] == "error":
+                self.errors.add(name)
         if base is not None:
             self.made[base][3] = True
 

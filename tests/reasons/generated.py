@@ -16,7 +16,7 @@ from cases import Dice, Pairs, Raw
 
 # The files of the folder of a run, with their bytes; None stands for a folder.
 FILES = {"disk.img": 5000, "small.img": 511, "empty.img": 0, "whole.img": 65536, "folder": None}
-NAMES = ["M", "N", "Disk0", "Top", "P", "Mp0", "Mp1", "Np0", "Disk0p1", "Nvme0n1"]
+NAMES = ["M", "N", "Disk0", "Top", "P", "Mp0", "Mp1", "Np0", "Disk0p1", "Nvme0n1", "EE_M", "EE_Mp0"]
 BAD = ["0", "-1", "64.0", "1e2", '"64"', "null", "true", "[]", "{}", '""', '"a b"', '"\\u00e9"', "2097153", "18446744073709551616", "1099511627777", "513", "7", "1025", '"x"', "-0", '"' + "n" * 201 + '"']
 HANDLES = ["h", "k", "handle-1", "a_b"]
 BAD_WORDS = ["", "-1", "00", "0x1", "4k", "1.0", "18446744073709551616", "h/", "h" * 33, "rw", "W", "#", "opne", "Read", "\xe9", "\x7f", "both", "none", "shared", "3", "r", "now"]
@@ -26,7 +26,7 @@ def method_of(dice):
     """A command with good parameters: its method, and its parameters' texts."""
     name, base = dice.of(NAMES) if dice.below(3) == 0 else "D%d" % dice.below(1000), dice.of(NAMES)
     blocks = dice.of(["1", "8", "64", "65", "2048", "8192"])
-    kind = dice.below(12)
+    kind = dice.below(15)
     if kind < 3:
         return "bdev_malloc_create", [("name", json.dumps(name)), ("num_blocks", blocks), ("block_size", dice.of(["512", "4096"]))]
     if kind < 5:
@@ -39,6 +39,11 @@ def method_of(dice):
     if kind < 10:
         size = [("split_size_mb", dice.of(["0", "1", "4"]))] if dice.below(3) == 0 else []
         return "bdev_split_create", [("base_bdev", json.dumps(base)), ("split_count", dice.of(["1", "2", "3", "64"])), *size]
+    if kind in (12, 13):
+        return "bdev_error_create", [("base_name", json.dumps(dice.of(["M", base])))]
+    if kind == 14:
+        types = [("io_type", json.dumps(dice.of(["read", "write", "write_zeroes", "unmap", "flush", "all"]))), ("error_type", json.dumps(dice.of(["failure", "pending", "corrupt_data"])))]
+        return "bdev_error_inject_error", [("name", json.dumps(dice.of(["EE_M", "EE_" + base]))), *types, *([("num", dice.of(["0", "1", "3"]))] if dice.below(2) else [])]
     if kind == 10:
         return dice.of(["bdev_set_options", "bdev_examine", "bdev_wait_for_examine", "iobuf_set_options"]), [("whatever", "1")]
     if dice.below(6):

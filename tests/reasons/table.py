@@ -65,6 +65,11 @@ def split(base='"M"', count="2", *more):
     return command("bdev_split_create", '"base_bdev": ' + base, '"split_count": ' + count, *more)
 
 
+def inject(name='"EE_M"', type='"read"', kind='"failure"', *more):
+    """Four lines: the name in column 9, the type of request in 12, the kind of error in 15."""
+    return command("bdev_error_inject_error", '"name": ' + name, '"io_type": ' + type, '"error_type": ' + kind, *more)
+
+
 def refused(index, code):
     return "configuration command %d refused: %d" % (index, code)
 
@@ -136,6 +141,7 @@ SHAPES = [
 
 NVME = command("bdev_nvme_attach_controller", '"name": "Nvme0"', '"trtype": "PCIe"', '"traddr": "0000:00:05.0"')
 QOS = command("bdev_set_qos_limit", '"name": "M"', '"rw_ios_per_sec": 1000')
+ERROR = command("bdev_error_create", '"base_name": "M"')
 DELAY = command("bdev_delay_create", '"base_bdev_name": "M"', '"name": "D"', '"avg_read_latency": 5', '"p99_read_latency": 4', '"avg_write_latency": 5', '"p99_write_latency": 5')
 COMMANDS = [
     of_command("a method mistyped", 0, -32601, bdev(command("bdev_malloc_creat", '"name": "M"')), "config:2:12: ", "command 0, bdev_malloc_creat 'M'", "isn't served", "bdev_malloc_create is meant"),
@@ -169,6 +175,13 @@ COMMANDS = [
     of_command("a limit", 1, -95, bdev(malloc(), QOS), "config:6:12: command 1, bdev_set_qos_limit 'M'", "not served yet", "served are"),
     of_command("a delay that is shorter for the hundredth", 1, -22, bdev(malloc(), DELAY), "config:10:21: command 1, bdev_delay_create 'D'", "p99_read_latency is 4", "avg_read_latency, which is 5, or more"),
     of_command("a delay without its latencies", 1, -32602, bdev(malloc(), command("bdev_delay_create", '"base_bdev_name": "M"', '"name": "D"')), "config:6:43: ", "avg_read_latency is absent", "p99_write_latency is absent"),
+    of_command("an error for a device that comes later", 0, -19, bdev(inject(), malloc(), ERROR), "config:3:9: command 0, bdev_error_inject_error 'EE_M'", "name is 'EE_M'", "command 2, which would make it, comes later"),
+    of_command("an error for a device that waits", 1, -19, bdev(ERROR, inject(), malloc()), "config:5:9: command 1, bdev_error_inject_error 'EE_M'", "command 0, which would make it, waits itself"),
+    of_command("an error for no error device", 1, -22, bdev(malloc(), inject('"M"')), "config:7:9: command 1, bdev_error_inject_error 'M'", "it is of kind malloc", "bdev_error_create makes one over it: EE_M"),
+    of_command("a type of request that SPDK has", 2, -32602, bdev(malloc(), ERROR, inject(type='"clear"')), "config:10:12: ", 'io_type is "clear"', "'read', 'write', 'write_zeroes', 'unmap', 'flush' or 'all'"),
+    of_command("spoilt data of an unmap", 2, -32602, bdev(malloc(), ERROR, inject(type='"unmap"', kind='"corrupt_data"')), "config:10:12: ", 'io_type is "unmap"', "'read', 'write' or 'all'", "no other has data"),
+    of_command("two error devices over one base", 2, -17, bdev(malloc(), ERROR, ERROR), "config:9:14: command 2, bdev_error_create over 'M'", "'EE_M' stands already, made by command 1", "base_name is 'M', on which command 1"),
+    of_command("an error device over a claimed base", 2, -1, bdev(malloc(), passthru(), ERROR), "config:10:14: command 2, bdev_error_create over 'M'", "base_name is 'M'", "command 1, bdev_passthru_create 'P', stands already", "delay or error device"),
     of_command("a name twice", 1, -17, bdev(malloc(), null(name='"M"')), "config:7:9: command 1, bdev_null_create 'M'", "'M' stands already, made by command 0"),
     of_command("the name of a part", 2, -17, bdev(malloc(), null('"Mp1"'), split()), "config:11:14: command 2, bdev_split_create over 'M'", "'Mp1' stands already, made by command 1"),
     of_command("two over one base", 2, -1, bdev(malloc(), passthru(), passthru('"M"', '"Q"')), "config:10:19: command 2, bdev_passthru_create 'Q'", "base_bdev_name is 'M'", "command 1, bdev_passthru_create 'P', stands already"),

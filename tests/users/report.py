@@ -17,6 +17,7 @@ from harness import TOP, called, program, read, tool, write
 from schema import faults
 
 FIRST = "examples/first-path/report.txt"
+INJECTED = "examples/injected-errors/report.txt"
 REMOVAL = "examples/hot-removal/report.txt"
 PATTERN = "c3717cf549ddf372826820cc644a3290eb934e51efef437764e816825dbfd7d6"
 DEVICE = "86cd2c9acac57ea80bb89b887b62a568aafde3fb8899d022955e70b6d97f57c6"
@@ -120,8 +121,8 @@ N,null,1099511627776,4096,18446744073709551615,0,18446744073709551615,0,
 }
 
 EVERY_VERDICT = """line 2 thread 0 open: refused, errno 17 EEXIST: the name is bound to an open handle
-line 3 thread 0 write: failed: the file of its device did
-line 4 thread 0 write: aborted: its device was removed
+line 3 thread 0 write: failed: the file of its device did, or an injected error met it
+line 4 thread 0 write: aborted: its device was removed, by the script or as the run ended
 line 7 thread 0 close: refused, errno 16 EBUSY: the handle has 2 open requests
 line 8 thread 1 unmap: refused, errno 95 ENOTSUP: an aio device takes none
 line 9 thread 1 claim: refused, errno 22 EINVAL: the key is 0
@@ -130,6 +131,14 @@ line 12 thread 1 flush: never done: it stands after line 11
 command 3 of the configuration, bdev_passthru_create: waits for Base, which was not made
 command 5 of the configuration, bdev_split_create: waits for 7, which was not made
 bad: 1 failed, 1 aborted, 4 refused, 2 skipped, 2 waiting
+"""
+
+INJECTED_VERDICT = """line 2 thread 0 write: failed: the file of its device did, or an injected error met it
+line 4 thread 0 write: failed: the file of its device did, or an injected error met it
+line 16 thread 0 read: aborted: its device was removed, by the script or as the run ended
+line 18 thread 0 wait: never done: a request before it never ended
+line 19 thread 0 close: never done: it stands after line 18
+bad: 2 failed, 1 aborted, 2 skipped
 """
 
 TABLES = """threads
@@ -368,6 +377,7 @@ def check_refused(checks):
 def check_verdicts(checks, room):
     checks.equal(called("report", "--verdict", FIRST), (0, "good: 6 commands, 2 requests, 1 device\n", ""), "a good verdict")
     checks.equal(called("report", "--verdict", given=EVERY), (5, EVERY_VERDICT, ""), "a verdict of all that can be bad")
+    checks.equal(called("report", "--verdict", INJECTED), (5, INJECTED_VERDICT, ""), "a verdict of requests that injected errors met")
     no_jobs = "thread 3 accepted 3 success 1 failed 1 aborted 1 refused 2\nend accepted 3 success 1 failed 1 aborted 1\n"
     wanted = "thread 3: 1 request failed\nthread 3: 1 request aborted\nthread 3: 2 requests refused\nbad: 1 failed, 1 aborted, 2 refused\n"
     checks.equal(tool("report", "--verdict", given=no_jobs), (5, wanted, ""), "a verdict without jobs")

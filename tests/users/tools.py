@@ -29,6 +29,9 @@ DIGESTS = [
     ("saved-configuration", 11, "--size 4096 1 1 write 0 2 9"),
     ("saved-configuration", "Malloc0", "0 2048 write 2047 1 5"),
     ("saved-configuration", "Malloc1", "--size 4096 0 256 write 0 2 9"),
+    ("injected-errors", 8, "0 1 write 0 1 5"),
+    ("injected-errors", 17, "0 1"),
+    ("injected-errors", "Malloc0", "0 64 write 0 1 5"),
     ("exercise", "M", "0 1024 " + " ".join(f"write {64 * t + 7 * i} 1 {1000 * t + i}" for t in (0, 1) for i in range(8))),
 ]
 
@@ -247,6 +250,14 @@ def split(base, count, **more):
     return "bdev_split_create", {"base_bdev": base, "split_count": count, **more}
 
 
+def error(base):
+    return "bdev_error_create", {"base_name": base}
+
+
+def inject(name, kind="failure", **more):
+    return "bdev_error_inject_error", {"name": name, "io_type": "read", "error_type": kind, **more}
+
+
 def nvme(name):
     return "bdev_nvme_attach_controller", {"name": name, "trtype": "PCIe", "traddr": "0000:5e:00.0"}
 
@@ -277,6 +288,9 @@ CASES = [
     (bdev(malloc("A"), malloc("Ap1"), split("A", 2)), "", ["A malloc 64 512", "Ap1 malloc 64 512"], "left out: command 2, bdev_split_create over 'A': a device 'Ap1' stands already"),
     (bdev(*[malloc("A")] + [passthru(f"P{it}" if it else "A", f"P{it + 1}") for it in range(65)]), "", ["A malloc 64 512"] + [f"P{it} passthru 64 512" for it in range(1, 64)], "it would stand in layer 65"),
     (bdev(*[malloc(f"M{it}", 1) for it in range(257)]), "", [f"M{it} malloc 1 512" for it in range(256)], "left out: command 256, bdev_malloc_create 'M256': "),
+    (bdev(malloc("A"), error("A"), inject("EE_A", num=0), passthru("EE_A", "P")), "", ["A malloc 64 512", "EE_A error 64 512", "P passthru 64 512"], ""),
+    (bdev(error("A"), inject("EE_A"), malloc("A"), inject("A"), inject("EE_A")), "", ["A malloc 64 512", "EE_A error 64 512"], "left out: command 3, bdev_error_inject_error 'A': name is 'A': it is of kind malloc"),
+    (bdev(malloc("A"), error("A"), inject("EE_A", num=-1), inject("EE_A", "nomem")), "", ["A malloc 64 512", "EE_A error 64 512"], "left out: command 3, bdev_error_inject_error 'EE_A': error_type is"),
     (bdev(raid("R"), passthru("R", "P")), "", [], "left out: command 0, bdev_raid_create 'R': the method isn't served"),
     (bdev(raid("R"), passthru("R", "P")), "--size R=77", ["R malloc 77 512", "P passthru 77 512"], "R becomes a malloc device"),
     (bdev(("bdev_aio_create", {"name": "F", "filename": "/nowhere/f", "block_size": 512})), "--size F=7", ["F malloc 7 512"], ""),
@@ -304,6 +318,8 @@ def any_configuration(chance):
         lambda: nvme(name()),
         lambda: raid(name()),
         lambda: ("bdev_delay_create", {"name": name(), "base_bdev_name": name()}),
+        lambda: error(name()),
+        lambda: inject(chance.choice(["EE_D0", "EE_D1", "D0", ""]), chance.choice(["failure", "pending", "nomem"])),
         lambda: ("bdev_malloc_set_options", {}),
         lambda: ("bdev_null_create", {}),
     ]

@@ -1,7 +1,8 @@
 """What of a script is refused once it is played, as far as its lines and the devices alone say so.
 
 The program ends with status 0 whatever a request came to, so such a slip is easily overlooked. Nothing is said of devices that
-the script removes or claims, nor of lines whose answer depends on the order in which threads take their turns.
+the script removes or claims, nor of lines whose answer depends on the order in which threads take their turns, nor of those after a
+wait that a request may hold up for ever: one that an injected error keeps.
 """
 
 from .places import quoted
@@ -11,6 +12,8 @@ from .mistakes import Mistake
 MOST_BYTES_OF_REQUEST = 262144
 UNBOUND, UNSURE = "unbound", "unsure"
 WRITES = ("write", "zeroes", "unmap", "flush")
+# The types of request by which injected errors go, where they have other names.
+TYPES = {"zeroes": "write_zeroes"}
 SUBMITS = ("read", *WRITES)
 
 
@@ -33,6 +36,7 @@ class Course:
         self.errnos = {}  # of lines: the number of the error, or None where the line is never done
         for thread in sorted({thread for _, thread, _ in script.commands}):
             self.handles = {}
+            self.may_hang = False
             for place, of_thread, words in script.commands:
                 if of_thread == thread and not self.goes_on(place, words):
                     break
@@ -53,6 +57,14 @@ class Course:
             device = device.base
         return names
 
+    def keeps(self, word, device=None):
+        """Whether an injected error may keep such a request on this device, or on any."""
+        for each in map(self.made.get, self.stack(device)) if device else self.made.values():
+            kind, number = each.errors.get(TYPES.get(word, word), (None, 0))
+            if kind == "pending" and number:
+                return True
+        return False
+
     def note(self, place, errno, said):
         self.errnos[place] = errno
         at = (self.script.name, (place, self.script.columns[place]))
@@ -63,6 +75,8 @@ class Course:
         """Follows a line; whether its thread goes on after it."""
         word = words[0]
         if word == "wait":
+            if self.may_hang:
+                return False
             for handle in self.handles.values():
                 if isinstance(handle, Handle):
                     handle.is_used = False
@@ -103,6 +117,7 @@ class Course:
         name = words[1]
         handle = self.handles.get(name, UNBOUND)
         if handle is UNSURE:
+            self.may_hang = self.may_hang or word in SUBMITS and self.keeps(word)
             return True
         if handle is UNBOUND:
             self.note(place, 9, "no handle %s is open on this thread" % quoted(name))
@@ -134,3 +149,4 @@ class Course:
             self.note(place, 22, "the blocks %d to %d pass the end of %s, which has %d blocks" % (first, first + count - 1, quoted(device.name), device.blocks))
         else:
             handle.is_used = True
+            self.may_hang = self.may_hang or self.keeps(word, device)

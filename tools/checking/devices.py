@@ -5,7 +5,7 @@ import re
 from .files import Disks, Refused, sized
 from .mistakes import DEVICES, Mistake
 from .places import counted, quoted, shown
-from .rules import BASES, CLAIMED, EXISTS, LIMITS, MOST_BLOCKS, MOST_DEVICES, MOST_LAYERS, MOST_MEMORY, MOST_NAME, TOO_MUCH, UNSERVED, meant
+from .rules import BASES, CLAIMED, EXISTS, LIMITS, MOST_BLOCKS, MOST_DEVICES, MOST_LAYERS, MOST_MEMORY, MOST_NAME, NO_DEVICE, TOO_MUCH, UNSERVED, Type, meant
 
 KINDS = {
     "bdev_malloc_create": "malloc",
@@ -14,10 +14,17 @@ KINDS = {
     "bdev_passthru_create": "passthru",
     "bdev_split_create": "part",
     "bdev_delay_create": "delay",
+    "bdev_error_create": "error",
 }
-BASE_KEYS = {"bdev_passthru_create": "base_bdev_name", "bdev_split_create": "base_bdev", "bdev_delay_create": "base_bdev_name"}
+BASE_KEYS = {
+    "bdev_passthru_create": "base_bdev_name",
+    "bdev_split_create": "base_bdev",
+    "bdev_delay_create": "base_bdev_name",
+    "bdev_error_create": "base_name",
+}
 # Devices that have all of their base's blocks.
-WHOLE = ("bdev_passthru_create", "bdev_delay_create")
+WHOLE = ("bdev_passthru_create", "bdev_delay_create", "bdev_error_create")
+INJECTS = "bdev_error_inject_error"
 MEGABYTE = 1 << 20
 
 
@@ -32,6 +39,7 @@ class Device:
         self.begin = begin
         self.layers = base.layers + 1 if base else 1
         self.over = []
+        self.errors = {}  # of an error device: the kind and the number of each type's errors
 
 
 class Devices:
@@ -53,6 +61,8 @@ class Devices:
                 self.begin(call)
             elif call.method in KINDS:
                 self.lost(call)
+            elif call.method == INJECTS and call.is_good:
+                self.inject(call, calls)
         self.limits = [call for call in calls if call.method == "bdev_set_qos_limit"]
         self.waits = [self.wait(call, calls) for call in self.waiting]
         self.notes += self.waits
@@ -82,13 +92,40 @@ class Devices:
     def is_ready(self, call):
         return call.method in BASES or self.base_of(call) in self.made
 
+    def name_of(self, call):
+        """The name that a command gives its device; None of a split, and where a part of it isn't given."""
+        if call.method == "bdev_error_create":
+            base = self.base_of(call)
+            return "EE_" + base if isinstance(base, str) else None
+        return call.value("name")
+
     def lost(self, call):
         """Remembers a name that would stand if its command weren't refused: for a split, that of its base with p."""
-        name = call.value("name")
+        name = self.name_of(call)
         if call.method == "bdev_split_create" and isinstance(call.value("base_bdev"), str):
             name = call.value("base_bdev") + "p"
         if isinstance(name, str):
             self.refused.setdefault(name, call)
+
+    def inject(self, call, calls):
+        """Sets errors of a device, in place of those of the same types."""
+        self.steps += 1
+        name, kind = call.value("name"), call.value("error_type")
+        device = self.made.get(name)
+        if device is None:
+            later = next((each for each in calls if each.index > call.index and each.method in KINDS and self.name_of(each) == name), None)
+            why = "command %d, which would make it, comes later" % later.index if later else self.why_absent(name, call, calls)
+            code, said = NO_DEVICE, "there is no such device when this is done: " + why
+        elif device.kind != "error":
+            said = "it is of kind %s; errors are injected into an error device, as bdev_error_create makes one over it: EE_%s"
+            code, said = TOO_MUCH, said % (device.kind, shown(name, 200))
+        else:
+            for each in Type.types(call.value("io_type"), kind):
+                device.errors[each] = (kind, call.value("num", 1))
+            return
+        mistake = call.mistake(DEVICES, code, "name is %s: %s" % (quoted(name, 200), said), call.param("name"))
+        mistake.order = (DEVICES, self.steps)
+        self.mistakes.append(mistake)
 
     def do(self, call):
         self.steps += 1
@@ -125,7 +162,7 @@ class Devices:
             return [Device(call, call.value("name"), self.bytes // size, size)]
         base = self.made[self.base_of(call)]
         if call.method in WHOLE:
-            return [Device(call, call.value("name"), base.blocks, base.size, base)]
+            return [Device(call, self.name_of(call), base.blocks, base.size, base)]
         wanted, each = call.value("split_count"), self.part_blocks(call, base)
         fit = min(wanted, base.blocks // each) if each else 0
         if 0 < fit < wanted:
@@ -139,7 +176,7 @@ class Devices:
 
     def causes(self, call, rows):
         """Why the devices aren't made: codes, what is said, and the parameter at fault."""
-        own_key = "name" if call.method != "bdev_split_create" else "base_bdev"
+        own_key = "name" if call.param("name") else BASE_KEYS[call.method]
         for row in rows:
             if row.name in self.made:
                 other = self.made[row.name].call
@@ -147,12 +184,12 @@ class Devices:
         base = self.made.get(self.base_of(call))
         if base and base.over:
             other = base.over[0].call
-            said = "%s is %s, on which command %d, %s%s, stands already: one base takes one passthru, one delay, or the parts of one split"
+            said = "%s is %s, on which command %d, %s%s, stands already: one base takes one passthru, delay or error device, or the parts of one split"
             yield CLAIMED, said % (BASE_KEYS[call.method], quoted(base.name, 256), other.index, other.method, other.label()), BASE_KEYS[call.method]
         yield from self.bounds(call, rows, base)
         for row in rows:
             if len(row.name) > MOST_NAME:
-                yield TOO_MUCH, "its part %s has a name of %d bytes; there are at most %d" % (quoted(row.name), len(row.name), MOST_NAME), own_key
+                yield TOO_MUCH, "its device %s has a name of %d bytes; there are at most %d" % (quoted(row.name), len(row.name), MOST_NAME), own_key
                 break
         if len(self.made) + len(rows) > MOST_DEVICES:
             said = "it makes %s, and %d stand already; there are at most %d" % (counted(len(rows), "device"), len(self.made), MOST_DEVICES)
@@ -193,12 +230,15 @@ class Devices:
 
     def why_waiting(self, call, calls):
         """Why the base isn't there."""
-        base = self.base_of(call)
+        return self.why_absent(self.base_of(call), call, calls)
+
+    def why_absent(self, base, call, calls):
+        """Why a device isn't there that a command names."""
         refused = self.refused.get(base) or next((each for each in self.refused.values() if self.is_part(base, each)), None)
         if refused:
             return "command %d, which would make it, is refused" % refused.index
         for each in self.waiting:
-            if each is not call and (each.value("name") == base or self.is_part(base, each)):
+            if each is not call and (self.name_of(each) == base or self.is_part(base, each)):
                 return "command %d, which would make it, waits itself" % each.index
         for each in calls:
             # The namespaces of an NVMe controller have its name, n and a number.
@@ -243,6 +283,8 @@ class Devices:
             said += ", file %s" % quoted(call.value("filename"), 200)
         if device.over:
             said += ", claimed by %s" % (device.over[0].name if len(device.over) == 1 else "its %d parts" % len(device.over))
+        given = ["%s %s %d" % (each, *device.errors[each]) for each in Type.ONE if device.errors.get(each, (None, 0))[1]]
+        said += ", injected errors %s" % ", ".join(given) if given else ""
         for limit in self.limits:
             if limit.value("name") == device.name:
                 given = ["%s %d" % (key, limit.value(key)) for key in LIMITS if limit.param(key) and limit.param(key).kind == "whole"]

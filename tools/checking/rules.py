@@ -20,7 +20,7 @@ MOST_WORK = 500
 MOST_LINES = 20000
 U64 = (1 << 64) - 1
 
-NOT_FOUND, INVALID, NOT_SUPPORTED, EXISTS, CLAIMED, TOO_MUCH = -32601, -32602, -95, -17, -1, -22
+NOT_FOUND, INVALID, NOT_SUPPORTED, EXISTS, NO_DEVICE, CLAIMED, TOO_MUCH = -32601, -32602, -95, -17, -19, -1, -22
 
 # The name under which users have tools/check.
 CHECK = os.environ.get("BDEVRUN_CHECK", "tools/check")
@@ -126,7 +126,15 @@ class Choice:
 class Type(Choice):
     """The type of request of an injected error; errors that need data are those of reads and writes."""
 
-    ALL = ("read", "write", "write_zeroes", "unmap", "flush", "all")
+    ONE = ("read", "write", "write_zeroes", "unmap", "flush")
+    ALL = (*ONE, "all")
+
+    @classmethod
+    def types(cls, word, kind):
+        """The types of which a word tells, for errors of a kind."""
+        if word != "all":
+            return (word,)
+        return cls.ONE[:2] if kind == "corrupt_data" else cls.ONE
 
 
 NAME, FILE_NAME, BOUNDARY = Name(), FileName(), Boundary()
@@ -156,8 +164,6 @@ SERVED = {
         "name": (NAME, NEEDED),
         **{key: (Whole(0, (1 << 64) - 1), NEEDED) for key in ("avg_read_latency", "p99_read_latency", "avg_write_latency", "p99_write_latency")},
     },
-}
-UNSERVED = {
     "bdev_error_create": {"base_name": (NAME, NEEDED)},
     "bdev_error_inject_error": {
         "name": (NAME, NEEDED),
@@ -165,6 +171,8 @@ UNSERVED = {
         "error_type": (Choice("failure", "pending", "corrupt_data"), NEEDED),
         "num": (Whole(0, (1 << 32) - 1), False),
     },
+}
+UNSERVED = {
     "bdev_set_qos_limit": {
         "name": (NAME, NEEDED),
         "rw_ios_per_sec": (Whole(0, 10**9), False),

@@ -140,13 +140,13 @@ class Script:
                 missing = wanted[i - 2 :]
                 raise Wrong(i, "%s %s missing; the form is '%s'%s" % (listed(missing, "and"), "is" if len(missing) == 1 else "are", form, self.may(missing[0])))
             self.word(i, kind, words[i], form)
+        if word == "abort" and (thread, number(words[3])) not in self.submitted:
+            said = "LINE is %s; it must be the number of an earlier line of thread %d that is a %s"
+            raise Wrong(3, said % (text_of(words[3]), thread, listed(SUBMITS)))
         if len(words) > len(wanted) + 2:
             extra = text_of(words[len(wanted) + 2])
             more = ": a comment has a line of its own, which begins with #" if extra.startswith("#") else ""
             raise Wrong(len(wanted) + 2, "%s stands after the command; the form is '%s'%s" % (quoted(extra), form, more))
-        if word == "abort" and (thread, number(words[3])) not in self.submitted:
-            said = "LINE is %s; it must be the number of an earlier line of thread %d that is a %s"
-            raise Wrong(3, said % (text_of(words[3]), thread, listed(SUBMITS)))
 
     def thread(self, place, words):
         first = text_of(words[0])
