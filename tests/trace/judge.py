@@ -52,10 +52,12 @@ def requests(entries):
 
 
 def cuts(entries):
-    """A request is cut once, before its first piece goes; one that is aborted may not be."""
-    cut, sent, status = Counter(), set(), {}
+    """A request is cut once, before its first piece goes; one that is aborted may not be, and one that an injected error fails isn't."""
+    cut, sent, status, injected = Counter(), set(), {}, set()
     for entry in entries:
         name = entry.get("request")
+        if entry.act == "inject" and entry.get("decision") == "fail":
+            injected.add(name)
         if entry.act == "cut":
             cut[name] += 1
             if name in sent:
@@ -65,8 +67,39 @@ def cuts(entries):
         elif entry.act == "complete":
             status[name] = entry.get("status")
     for name, end in status.items():
-        if cut[name] != 1 and (end != "aborted" or cut[name]):
+        if cut[name] != (name not in injected) and (end != "aborted" or cut[name]):
             yield f"request {name}, which ends with {end}, is cut {cut[name]} times"
+
+
+def decisions(entries):
+    """A decision is the one that the registry answered in the thread's entry before; a request has one of each device at most, none
+    after one that fails or keeps it, and none once it is cut; it is kept once, where its last decision says so."""
+    before, asked, last, cut, kept = {}, set(), {}, set(), set()
+    for entry in entries:
+        name, of_thread = entry.get("request"), before.get(entry.thread)
+        if entry.act == "inject":
+            wanted = [("event", "take-injection"), *entry.fields[1:2], ("request", name), ("answer", "injected"), ("decision", entry.get("decision"))]
+            if of_thread is None or [field for field in of_thread.fields if field in wanted] != wanted:
+                yield f"{entry.line()!r} stands after {of_thread and of_thread.line()!r}"
+            if (name, entry.get("device")) in asked or last.get(name, "pass") in ("fail", "pend") or name in cut:
+                yield f"{entry.line()!r} is a decision too many"
+            asked.add((name, entry.get("device")))
+            last[name] = entry.get("decision")
+        elif of_thread is not None and of_thread.get("answer") == "injected":
+            yield f"{entry.line()!r} stands after {of_thread.line()!r}"
+        elif entry.act == "pend":
+            if last.get(name) != "pend" or name in kept:
+                yield f"{entry.line()!r} has no decision for it"
+            kept.add(name)
+        elif entry.act == "cut":
+            cut.add(name)
+        before[entry.thread] = entry
+    for entry in entries:
+        if entry.act == "complete":
+            name = entry.get("request")
+            wanted = {"fail": "failed", "pend": "aborted"}.get(last.get(name))
+            if wanted and entry.get("status") != wanted:
+                yield f"{entry.line()!r} ends a request with the decision {last[name]}"
 
 
 def registry(entries):
@@ -258,7 +291,7 @@ def done_again(entries):
 def wrong_with(report, entries, script):
     """Returns what is wrong with these, at most ten of each kind."""
     found = []
-    for part in (order(entries), requests(entries), cuts(entries), registry(entries), asked(entries, script), messages(entries), ends(report, entries), counts(report, entries),
+    for part in (order(entries), requests(entries), cuts(entries), decisions(entries), registry(entries), asked(entries, script), messages(entries), ends(report, entries), counts(report, entries),
                  lines(report, entries, script)):
         found += list(part)[:10]
     return found
