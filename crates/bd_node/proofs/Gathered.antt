@@ -28,7 +28,7 @@ use Rattle.bd_worker.specs.Seats.{part_in, IsHandedOut, seen_over, made_by, IsAt
 use Rattle.bd_node.specs.declared.node.Node.{Node}
 use Rattle.bd_node.specs.declared.node.NodeState.{NodeState}
 use Rattle.bd_node.specs.declared.node.NodeState.TheVariants.{Idle, Done, Busy}
-use Rattle.bd_node.specs.Whole.{are_all_taken, entries_left, has_taken, is_at_rest, is_idle, is_over, log_with, logs_of, past_of, seat_has_destructed, seat_is_blocked, seat_rests, state_of, ArePhases, AreSeated, HasSameLogs, IsNodeOf, IsTrace}
+use Rattle.bd_node.specs.Whole.{are_all_taken, entries_left, has_taken, is_idle, is_over, log_with, logs_of, past_of, seat_has_destructed, seat_is_blocked, seat_is_done, seat_rests, state_of, ArePhases, AreSeated, HasSameLogs, IsNodeOf, IsTrace}
 use Rattle.bd_node.proofs.Disks.{no_more}
 use Rattle.bd_worker.proofs.Places.{has_at, is_below, set_else, set_here}
 use Rattle.bd_node.proofs.Resting.{seat_at}
@@ -139,6 +139,9 @@ module _ {D : Type 0} (stamp : ℕ) (seats news : List (Seat D)) (len : length n
 
   pub rest_alike : list_all seat_rests news ≡ list_all seat_rests seats
   rest_alike = same_test seat_rests (λ a n. refl)
+
+  pub done_alike : list_all seat_is_done news ≡ list_all seat_is_done seats
+  done_alike = same_test seat_is_done (λ a n. refl)
 
   pub blocked_alike : list_all seat_is_blocked news ≡ list_all seat_is_blocked seats
   blocked_alike = same_test seat_is_blocked (λ a n. refl)
@@ -346,9 +349,9 @@ pub state_alike : {D : Type 0} (n new : Node D) (stamp : ℕ) → new.shut ≡ n
 state_alike n new stamp flag len each =
     let rest = rest_alike stamp n.seats.items new.seats.items len each in
     let taken = taken_alike stamp n.seats.items new.seats.items len each in
-    let at_rest : is_at_rest new ≡ is_at_rest n = ap₂ (λ (a b : Bool). a && b) rest taken in
-    let over : is_over new ≡ is_over n = ap₂ (λ (a b : Bool). a && b) at_rest (destructed_alike stamp n.seats.items new.seats.items len each) in
-    let idle : is_idle new ≡ is_idle n = ap₂ (λ (a b : Bool). a && b) at_rest (blocked_alike stamp n.seats.items new.seats.items len each) in
+    let over : is_over new ≡ is_over n =
+    ap₂ (λ (a b : Bool). a && b) (ap₂ (λ (a b : Bool). a && b) (done_alike stamp n.seats.items new.seats.items len each) taken) (destructed_alike stamp n.seats.items new.seats.items len each) in
+    let idle : is_idle new ≡ is_idle n = ap₂ (λ (a b : Bool). a && b) (ap₂ (λ (a b : Bool). a && b) rest taken) (blocked_alike stamp n.seats.items new.seats.items len each) in
     ap₂ (λ (s o : Bool). cond s (cond o Done Busy) (cond (is_idle new) Idle Busy)) flag over
     ∙ ap (λ (i : Bool). cond n.shut (cond (is_over n) Done Busy) (cond i Idle Busy)) idle
 
@@ -381,7 +384,7 @@ gathers_so {D} a b c r s same g = gathers_then a b c (subst (λ (x : Node D). Is
 -- how far a node is goes by whether the Shutdown came, and by the seats
 abbrev state_at : {D : Type 0} → Bool → List (Seat D) → NodeState
 state_at f ss =
-    cond f (cond ((list_all seat_rests ss && are_all_taken ss) && list_all seat_has_destructed ss) Done Busy) (cond ((list_all seat_rests ss && are_all_taken ss) && list_all seat_is_blocked ss) Idle Busy)
+    cond f (cond ((list_all seat_is_done ss && are_all_taken ss) && list_all seat_has_destructed ss) Done Busy) (cond ((list_all seat_rests ss && are_all_taken ss) && list_all seat_is_blocked ss) Idle Busy)
 
 -- a node in which nothing happened is as far as before, with all that its threads did
 pub unchanged_logs : {D : Type 0} (a b : Node D) → IsUnchanged a b → HasSameLogs a b

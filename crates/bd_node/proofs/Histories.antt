@@ -1,5 +1,5 @@
 -- From a node's disks at their opening to those at the end, by its history.
-use Rattle.std.proofs.Common.{◌≡◌, ℕ, ◌<◌, Bool, true, false, cond, List, [], ◌∷◌, find, length, map, Option, Some, IfSome, refl, sym, ◌∙◌, ap, subst}
+use Rattle.std.proofs.Common.{◌≡◌, ℕ, ◌<◌, Bool, true, false, cond, ◌&&◌, List, [], ◌∷◌, find, length, map, Option, Some, IfSome, refl, sym, ◌∙◌, ap, subst}
 use Rattle.std.specs.List.{list_all, slice_get}
 use Rattle.std.proofs.lemmas.Bool.{and_parts}
 use Rattle.std.proofs.lemmas.List.{length-map}
@@ -33,7 +33,7 @@ use Rattle.bd_node.specs.declared.node.Node.{Node}
 use Rattle.bd_node.specs.declared.node.NodeState.TheVariants.{Busy, Done, Idle}
 use Rattle.bd_worker.specs.declared.seat.Seat.{Seat}
 use Rattle.bd_node.specs.Disks.{disks_at, disks_of, pieces_of, told_of, SaysOfDisks}
-use Rattle.bd_node.specs.Whole.{are_all_taken, is_at_rest, is_idle, is_over, log_with, logs_of, past_of, seat_has_destructed, seat_rests, setup_in, state_of, ArePhases, AreSeated, AreShut, IsNodeOf, KeepsDisks}
+use Rattle.bd_node.specs.Whole.{are_all_taken, is_idle, is_over, log_with, logs_of, past_of, seat_has_destructed, seat_is_done, setup_in, state_of, ArePhases, AreSeated, AreShut, IsNodeOf, KeepsDisks}
 use Rattle.bd_node.proofs.Resting.{local_of}
 use Rattle.bd_node.proofs.Settling.{courses_of, done_bases, done_complete, done_served, end_is, ends_of, map_at, map_from, passes_of, seat_is, seat_of}
 
@@ -69,7 +69,7 @@ pub record Settles {D : Type 0} (state : D → DiskState) (setup : Setup) (start
 
 module _ {D : Type 0} (state : D → DiskState) (setup : Setup) (w : Wires) (starts : List (List (DevId × D))) (met : ℕ) (trace : List Entry) (seats : List (Seat D)) (phases : ℕ → Phase) (a : AreSeated state setup w starts (past_of met trace) seats true phases)
     (sh : AreShut setup (told_of state setup starts) phases) (lowest : AreBasesLowest setup) (many : length starts ≡ setup.threads)
-    (rest : list_all seat_rests seats ≡ true) (taken : are_all_taken seats ≡ true) (gone : list_all seat_has_destructed seats ≡ true) (d : wires.AreDelivered (map passes_of seats))
+    (done : list_all seat_is_done seats ≡ true) (taken : are_all_taken seats ≡ true) (gone : list_all seat_has_destructed seats ≡ true) (d : wires.AreDelivered (map passes_of seats))
     (r : Registered) (h : wires.HasJournalOf (map passes_of seats) r) (ordered : IsOrdered r.journal) (replay : (x : Setup) → HasRowsOf r x → IsReplayFromStart x r.journal)
     (merged : List Entry) (m : IsMerge (map (log_with trace) seats) merged) where
   abbrev told : Told
@@ -85,7 +85,7 @@ module _ {D : Type 0} (state : D → DiskState) (setup : Setup) (w : Wires) (sta
       let q = seat_is state setup told w starts met trace seats phases a sh lowest t s from.1 in
       let c = courses_of state setup told w starts met trace seats phases a sh lowest t in
       done_same state setup c.served (pieces_of state setup merged starts t) x y
-      (λ dev. sym (done_served state setup told w starts met trace seats phases a sh lowest rest taken gone d r h ordered replay merged m t dev lt))
+      (λ dev. sym (done_served state setup told w starts met trace seats phases a sh lowest done taken gone d r h ordered replay merged m t dev lt))
       (subst (λ (ds : List (DevId × D)). AreDoneBy state setup c.served ds y) opened
       (subst (λ (ds : List (DevId × D)). AreDoneBy state setup c.served (disks_at starts t) ds) from.2 q.done))
 
@@ -97,7 +97,7 @@ module _ {D : Type 0} (state : D → DiskState) (setup : Setup) (w : Wires) (sta
       let u = seat_of state setup told w starts met trace seats phases a sh lowest at (mod_below (base_of setup dev).0 setup.threads a.some) in
       let own : disks_at (disks_of seats) at ≡ u.0.disks = get_or_from_slice_get (disks_of seats) at u.0.disks [] (map_at (λ (s : Seat D). s.disks) seats at u.0 u.1) in
       let seen : find (is_base dev) (part_of (state_after setup told merged) at).bases ≡ base_here (ends_of state setup told w starts met trace seats phases a sh lowest at).view dev =
-      done_bases state setup told w starts met trace seats phases a sh lowest rest taken gone d r h ordered replay merged m dev in
+      done_bases state setup told w starts met trace seats phases a sh lowest done taken gone d r h ordered replay merged m dev in
       subst (λ (o : Option Base). IfSome o (λ base. base.content ≡ contents_of state (disks_at (disks_of seats) at) dev)) (sym seen)
       (subst (λ (l : Local). IfSome (base_here l.view dev) (λ base. base.content ≡ contents_of state (disks_at (disks_of seats) at) dev)) (sym (end_is state setup told w starts met trace seats phases a sh lowest at u.0 u.1))
       (subst (λ (ds : List (DevId × D)). IfSome (base_here (local_of state setup u.0).view dev) (λ base. base.content ≡ contents_of state ds dev)) (sym own)
@@ -106,7 +106,7 @@ module _ {D : Type 0} (state : D → DiskState) (setup : Setup) (w : Wires) (sta
   -- **a node that is done has a complete run, which says what its disks did**
   done_settles : Settles state setup starts (disks_of seats) merged
   done_settles = record {
-    complete = done_complete state setup told w starts met trace seats phases a sh lowest rest taken gone d r h ordered replay merged m;
+    complete = done_complete state setup told w starts met trace seats phases a sh lowest done taken gone d r h ordered replay merged m;
     says = record { len = length-map seats (λ (s : Seat D). s.disks) ∙ a.len ∙ sym many; each = each; holds = holds };
   }
 
@@ -126,11 +126,14 @@ pub node_settles : {D : Type 0} → (state : D → DiskState) (starts : List (Li
 node_settles {D} state starts n h lowest done passes passes-is d r j ordered replay merged m =
     go n.shut (done_parts n.shut (is_over n) (is_idle n) done).0 h.seated h.phases_are
   where
-    over : (is_at_rest n ≡ true) × (list_all seat_has_destructed n.seats.items ≡ true)
-    over = and_parts (is_at_rest n) (list_all seat_has_destructed n.seats.items) (done_parts n.shut (is_over n) (is_idle n) done).1
+    none : Bool
+    none = list_all seat_is_done n.seats.items && are_all_taken n.seats.items
 
-    rest : (list_all seat_rests n.seats.items ≡ true) × (are_all_taken n.seats.items ≡ true)
-    rest = and_parts (list_all seat_rests n.seats.items) (are_all_taken n.seats.items) over.0
+    over : (none ≡ true) × (list_all seat_has_destructed n.seats.items ≡ true)
+    over = and_parts none (list_all seat_has_destructed n.seats.items) (done_parts n.shut (is_over n) (is_idle n) done).1
+
+    rest : (list_all seat_is_done n.seats.items ≡ true) × (are_all_taken n.seats.items ≡ true)
+    rest = and_parts (list_all seat_is_done n.seats.items) (are_all_taken n.seats.items) over.0
 
     go : (b : Bool) → b ≡ true → AreSeated state (setup_in n) n.wires starts (past_of h.met n.trace.items) n.seats.items b h.phases → ArePhases (setup_in n) (told_of state (setup_in n) starts) b h.phases
         → Settles state (setup_in n) starts (disks_of n.seats.items) merged

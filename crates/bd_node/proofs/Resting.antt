@@ -9,18 +9,24 @@ use Rattle.bd_base.specs.declared.id.HandleId.{HandleId}
 use Rattle.bd_base.specs.declared.setup.Setup.{Setup}
 use Rattle.bd_machine.specs.declared.state.Handle.{Handle}
 use Rattle.bd_machine.specs.declared.state.Id.{Id}
+use Rattle.bd_machine.specs.declared.state.Id.TheVariants.{Request, Piece, Walk, Notice}
 use Rattle.bd_machine.specs.declared.state.Kept.{Kept}
+use Rattle.bd_machine.specs.declared.state.Kept.TheVariants as keeps
+use Rattle.bd_machine.specs.declared.state.Part.{Part}
 use Rattle.bd_machine.specs.declared.state.TakenInjection.{TakenInjection}
 use Rattle.bd_machine.specs.Admission.{is_gone}
 use Rattle.bd_machine.specs.Asked.{is_script_blocked, open_on}
 use Rattle.bd_machine.specs.BlockMap.{base_of, home}
+use Rattle.bd_machine.specs.Marks.{is_marked}
 use Rattle.bd_machine.specs.Messages.{count_at}
 use Rattle.bd_machine.specs.Registry.{handle_of}
-use Rattle.bd_machine.specs.Same.{same_dev, same_handle}
+use Rattle.bd_machine.specs.Same.{same_dev, same_handle, same_id}
 use Rattle.bd_machine.specs.Users.{dev_of, is_base_handle}
 use Rattle.bd_machine.specs.View.{View}
+use Rattle.bd_machine.proofs.Tables.{id_same}
 use Rattle.bd_turns.specs.Laws.{is_left_open_in, is_resting_here, AreBlocked, AreDestructed}
 use Rattle.bd_turns.specs.Local.{Local}
+use Rattle.bd_tokens.specs.Pended.{are_own_pended, is_own_pended}
 use Rattle.bd_tokens.specs.Tokens.{here_in}
 use Rattle.bd_law_logs.specs.Laws.{AreAllTaken, AreSpent}
 use Rattle.bd_law_threads.specs.Course.{Phase}
@@ -28,14 +34,14 @@ use Rattle.bd_law_threads.specs.Ends.{Rests}
 use Rattle.bd_law_threads.specs.Steps.{local_at_start}
 use Rattle.bd_thread.specs.declared.links.Links.{Links}
 use Rattle.bd_thread.specs.declared.thread.Thread.{Thread}
-use Rattle.bd_thread.specs.Resting.{has_destructed_all, is_settled, rests}
+use Rattle.bd_thread.specs.Resting.{has_destructed_all, is_done, is_settled, rests}
 use Rattle.bd_thread.specs.Seen.{number_of, setup_of, view_of}
 use Rattle.bd_wires.specs.declared.wires.Wires.{Wires}
 use Rattle.bd_worker.specs.declared.seat.Seat.{Seat}
 use Rattle.bd_worker.specs.Seats.{seen_over, Past}
 use Rattle.bd_outside.specs.Disk.{DiskState}
 use Rattle.bd_disks.specs.Contents.{contents_of}
-use Rattle.bd_node.specs.Whole.{are_all_taken, has_taken, seat_has_destructed, seat_is_blocked, seat_rests, AreSeated}
+use Rattle.bd_node.specs.Whole.{are_all_taken, has_taken, seat_has_destructed, seat_is_blocked, seat_is_done, seat_rests, AreSeated}
 use Rattle.bd_worker.proofs.Places.{all_at, all_below, has_at}
 
 -- ---- what seats see
@@ -70,29 +76,71 @@ none_taken (Some x) h = cc
 
 -- what a thread at rest has
 pub record HasRest (t : Thread) (links : Links) : Type 0 where
-  pub held : t.held.items ≡ []
   pub due : t.part.due ≡ []
   pub owed : t.part.owed ≡ []
   pub injection : t.part.injection ≡ None
+  pub pended : are_own_pended t.setup.now t.part t.me t.held.items ≡ true
   pub settled : list_all (is_settled t links) t.part.gone ≡ true
 
 pub rests_of : (t : Thread) (links : Links) → rests t links ≡ true → HasRest t links
 rests_of t links h =
-    let held : Bool = length t.held.items == 0 in
+    let sent : Bool = length t.outbox.items == 0 in
     let due : Bool = length t.part.due == 0 in
     let owed : Bool = length t.part.owed == 0 in
     let injection : Bool = is_none t.part.injection in
-    let p = and_parts (held && due && owed && injection) (list_all (is_settled t links) t.part.gone) h in
-    let q = and_parts (held && due && owed) injection p.0 in
-    let r = and_parts (held && due) owed q.0 in
-    let u = and_parts held due r.0 in
+    let pended : Bool = are_own_pended t.setup.now t.part t.me t.held.items in
+    let p = and_parts (sent && due && owed && injection && pended) (list_all (is_settled t links) t.part.gone) h in
+    let q = and_parts (sent && due && owed && injection) pended p.0 in
+    let r = and_parts (sent && due && owed) injection q.0 in
+    let u = and_parts (sent && due) owed r.0 in
     record {
-      held = nothing t.held.items u.0;
-      due = nothing t.part.due u.1;
-      owed = nothing t.part.owed r.1;
-      injection = none_taken t.part.injection q.1;
+      due = nothing t.part.due (and_parts sent due u.0).1;
+      owed = nothing t.part.owed u.1;
+      injection = none_taken t.part.injection r.1;
+      pended = q.1;
       settled = p.1;
     }
+
+-- what a thread that is done has
+pub record HasNone (t : Thread) : Type 0 where
+  pub held : t.held.items ≡ []
+  pub due : t.part.due ≡ []
+  pub owed : t.part.owed ≡ []
+
+pub none_of : (t : Thread) → is_done t ≡ true → HasNone t
+none_of t h =
+    let held : Bool = length t.held.items == 0 in
+    let due : Bool = length t.part.due == 0 in
+    let owed : Bool = length t.part.owed == 0 in
+    let p = and_parts (held && due && owed) (is_none t.part.injection) h in
+    let q = and_parts (held && due) owed p.0 in
+    let r = and_parts held due q.0 in
+    record { held = nothing t.held.items r.0; due = nothing t.part.due r.1; owed = nothing t.part.owed q.1 }
+
+-- ---- tokens at rest
+
+-- a pended request of this thread rests here, where the same devices carry marks
+pended_rests : (setup : Setup) (v : View) (part : Part) (me : ℕ) → ((dev : DevId) → is_marked setup v.part dev ≡ is_marked setup part dev) → (id : Id) (kept : Kept)
+    → is_own_pended setup part me id kept ≡ true → is_resting_here setup me v id (Some kept) ≡ true
+pended_rests setup v part me same (Request req) (keeps.Request r) h = ap (λ b. (req.thread == me) && (r.pended && is_none r.aborted && not b)) (same r.dev) ∙ h
+pended_rests setup v part me same (Request req) (keeps.Piece p) h = cc
+pended_rests setup v part me same (Request req) (keeps.Walk w) h = cc
+pended_rests setup v part me same (Request req) (keeps.Notice news) h = cc
+pended_rests setup v part me same (Piece req k) kept h = cc
+pended_rests setup v part me same (Walk walk) kept h = cc
+pended_rests setup v part me same (Notice sender receiver number) kept h = cc
+
+-- where all are, what is here of any token rests
+all_pended_rest : (setup : Setup) (v : View) (part : Part) (me : ℕ) → ((dev : DevId) → is_marked setup v.part dev ≡ is_marked setup part dev) → (items : List (Id × Kept))
+    → are_own_pended setup part me items ≡ true → (id : Id) → is_resting_here setup me v id (here_in items id) ≡ true
+all_pended_rest setup v part me same [] all id = refl
+all_pended_rest setup v part me same (x ∷ xs) all id =
+    let p = and_parts (is_own_pended setup part me x.0 x.1) (are_own_pended setup part me xs) all in
+    go (same_id x.0 id) refl (pended_rests setup v part me same x.0 x.1 p.0) (all_pended_rest setup v part me same xs p.1 id)
+  where
+    go : (b : Bool) → same_id x.0 id ≡ b → is_resting_here setup me v x.0 (Some x.1) ≡ true → is_resting_here setup me v id (here_in xs id) ≡ true → is_resting_here setup me v id (cond b (Some x.1) (here_in xs id)) ≡ true
+    go true e this others = subst (λ (i : Id). is_resting_here setup me v i (Some x.1) ≡ true) (id_same.exact x.0 id e) this
+    go false e this others = others
 
 -- ---- handles that a thread closes by itself
 
@@ -188,22 +236,24 @@ module _ {D : Type 0} (state : D → DiskState) (setup : Setup) (w : Wires) (sta
   pub all_rest : list_all seat_rests seats ≡ true → (t : ℕ) → t < setup.threads → Rests setup t (seen t)
   all_rest rest = of_each seat_rests (λ t v. Rests setup t v) rest one
     where
-      rests_none : (t : ℕ) (v : View) (id : Id) → is_resting_here setup t v id None ≡ true
-      rests_none t v id = refl
-
       one : (t : ℕ) (s : Seat D) → number_of s.worker.thread ≡ t → setup_of s.worker.thread ≡ setup → seat_rests s ≡ true → Rests setup t (local_of state setup s).view
       one t s number given h =
-          let r : HasRest s.worker.thread s.worker.links = rests_of s.worker.thread s.worker.links h in
+          let x : Thread = s.worker.thread in
+          let v : View = (local_of state setup s).view in
+          let r : HasRest x s.worker.links = rests_of x s.worker.links h in
           record {
             none_due = r.due;
             none_owed = r.owed;
-            closed = none_left_open s.worker.thread s.worker.links setup given r.settled (local_of state setup s).view.handles (λ id none. none);
-            resting = λ id. ap (is_resting_here setup t (local_of state setup s).view id) (none_held s.worker.thread.held.items r.held id) ∙ rests_none t (local_of state setup s).view id;
+            closed = none_left_open x s.worker.links setup given r.settled v.handles (λ id none. none);
+            resting = λ id.
+                subst (λ (n : ℕ). is_resting_here setup n v id (v.here id) ≡ true) number
+                (subst (λ (y : Setup). is_resting_here y (number_of x) v id (v.here id) ≡ true) given
+                (all_pended_rest x.setup.now v x.part x.me (λ dev. refl) x.held.items r.pended id));
           }
 
-  -- no token is on any
-  pub none_here : list_all seat_rests seats ≡ true → (t : ℕ) → t < setup.threads → (id : Id) → (seen t).here id ≡ None
-  none_here rest = of_each seat_rests (λ t v. (id : Id) → v.here id ≡ None) rest (λ t s number given h id. none_held s.worker.thread.held.items (rests_of s.worker.thread s.worker.links h).held id)
+  -- what a thread has that is done
+  done_at : list_all seat_is_done seats ≡ true → (q : View → Type 0) → ((s : Seat D) → HasNone s.worker.thread → q (local_of state setup s).view) → (t : ℕ) → t < setup.threads → q (seen t)
+  done_at done q gives = of_each seat_is_done (λ t v. q v) done (λ t s number given h. gives s (none_of s.worker.thread h))
 
   -- the last entry of none took an injection
   pub none_injected : list_all seat_rests seats ≡ true → (t : ℕ) → t < setup.threads → (seen t).part.injection ≡ None
@@ -222,11 +272,12 @@ module _ {D : Type 0} (state : D → DiskState) (setup : Setup) (w : Wires) (sta
       ∙ ap (λ (n : ℕ). count_at to.0.worker.thread.part.taken n) (me_of t from.0 from.1)
       ∙ sym (ap (λ (o : Option (Seat D)). count_at (local_or state setup u o).view.part.taken t) to.1)
 
-  pub are_spent : list_all seat_rests seats ≡ true → are_all_taken seats ≡ true → AreSpent setup.threads seen
-  are_spent rest taken = record {
-    none_here = none_here rest;
-    none_due = λ t lt. (all_rest rest t lt).none_due;
-    none_owed = λ t lt. (all_rest rest t lt).none_owed;
+  -- where all are done, no token is on any, and none has anything still to put or to do
+  pub are_spent : list_all seat_is_done seats ≡ true → are_all_taken seats ≡ true → AreSpent setup.threads seen
+  are_spent done taken = record {
+    none_here = done_at done (λ v. (id : Id) → v.here id ≡ None) (λ s h id. none_held s.worker.thread.held.items h.held id);
+    none_due = done_at done (λ v. v.part.due ≡ []) (λ s h. h.due);
+    none_owed = done_at done (λ v. v.part.owed ≡ []) (λ s h. h.owed);
     all_taken = all_taken taken;
   }
 

@@ -39,7 +39,7 @@ use Rattle.bd_worker.specs.declared.seat.Seat.{Seat}
 use Rattle.bd_node.specs.Disks.{disks_at}
 use Rattle.bd_worker.specs.Seats.{IsSeat, Past}
 use Rattle.bd_node.specs.declared.node.Node.{Node}
-use Rattle.bd_node.specs.Whole.{are_all_taken, log_with, past_of, seat_has_destructed, seat_rests, setup_in, AreSeated, AreShut, IsNode}
+use Rattle.bd_node.specs.Whole.{are_all_taken, log_with, past_of, seat_has_destructed, seat_is_done, setup_in, AreSeated, AreShut, IsNode}
 use Rattle.bd_node.proofs.Resting.{are_destructed, are_spent, local_or, locals_of, seat_at}
 
 abbrev pub passes_of : {D : Type 0} → Seat D → Passes
@@ -153,9 +153,9 @@ module _ {D : Type 0} (state : D → DiskState) (setup : Setup) (told : Told) (w
   end_is t s e = ap (local_or state setup t) e
 
   -- **the courses are at their end**
-  ended : list_all seat_rests seats ≡ true → are_all_taken seats ≡ true → list_all seat_has_destructed seats ≡ true
+  ended : list_all seat_is_done seats ≡ true → are_all_taken seats ≡ true → list_all seat_has_destructed seats ≡ true
       → ends.AreEnded setup told sh.stamp sh.firsts sh.marks logs_of courses_of ends_of
-  ended rest taken gone = record {
+  ended done taken gone = record {
     some = a.some;
     marked = sh.marked lowest;
     courses = λ t lt.
@@ -176,7 +176,7 @@ module _ {D : Type 0} (state : D → DiskState) (setup : Setup) (told : Told) (w
     logs_are = λ t lt. logs_are t lt ∙ ap (λ (p : Phase). all_rows p (courses_of t)) (sh.phases_are lowest t);
     none_else = none_else;
     none_first = sh.none_first;
-    spent = are_spent state setup w starts (past_of met trace) seats true phases a rest taken;
+    spent = are_spent state setup w starts (past_of met trace) seats true phases a done taken;
     destructed = are_destructed state setup w starts (past_of met trace) seats true phases a gone;
   }
 
@@ -235,7 +235,7 @@ module _ {D : Type 0} (state : D → DiskState) (setup : Setup) (told : Told) (w
     none_else = none_else;
   }
 
-  module _ (rest : list_all seat_rests seats ≡ true) (taken : are_all_taken seats ≡ true) (gone : list_all seat_has_destructed seats ≡ true) (d : wires.AreDelivered (map passes_of seats))
+  module _ (done : list_all seat_is_done seats ≡ true) (taken : are_all_taken seats ≡ true) (gone : list_all seat_has_destructed seats ≡ true) (d : wires.AreDelivered (map passes_of seats))
       (r : Registered) (h : wires.HasJournalOf (map passes_of seats) r) (ordered : IsOrdered r.journal) (replay : (x : Setup) → HasRowsOf r x → IsReplayFromStart x r.journal)
       (merged : List Entry) (m : IsMerge (map (log_with trace) seats) merged) where
     merge_is : IsMergeOf logs_of merged
@@ -245,19 +245,19 @@ module _ {D : Type 0} (state : D → DiskState) (setup : Setup) (told : Told) (w
     pub done_complete : IsCompleteRun setup told merged
     done_complete =
         courses_are_complete_run setup told sh.stamp sh.firsts sh.marks logs_of courses_of ends_of r.journal merged
-        (ended rest taken gone) (delivered d) (journal_of r h ordered replay) merge_is
+        (ended done taken gone) (delivered d) (journal_of r h ordered replay) merge_is
 
     -- in which each thread served what its course says
     pub done_served : (t : ℕ) (dev : DevId) → t < setup.threads → served_from setup t dev (start setup told) merged ≡ (courses_of t).served dev
     done_served =
         courses_serve_as_seen setup told sh.stamp sh.firsts sh.marks logs_of courses_of ends_of r.journal merged
-        (ended rest taken gone) (delivered d) (journal_of r h ordered replay) merge_is
+        (ended done taken gone) (delivered d) (journal_of r h ordered replay) merge_is
 
     -- and which leaves of each base device what its home sees
     pub done_bases : (dev : DevId) → find (is_base dev) (part_of (state_after setup told merged) (home setup dev)).bases ≡ base_here (ends_of (home setup dev)).view dev
     done_bases =
         bases_end_as_seen setup told sh.stamp sh.firsts sh.marks logs_of courses_of ends_of r.journal merged
-        (ended rest taken gone) (delivered d) (journal_of r h ordered replay) merge_is
+        (ended done taken gone) (delivered d) (journal_of r h ordered replay) merge_is
 
 -- ---- a node, taken apart
 

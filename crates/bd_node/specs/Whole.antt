@@ -15,7 +15,7 @@ use Rattle.bd_outside.specs.Disk.{DiskState}
 use Rattle.bd_law_threads.specs.Course.{Phase}
 use Rattle.bd_law_threads.specs.Ends.{phase_after, AreMarked}
 use Rattle.bd_law_threads.specs.Steps.{first_phase}
-use Rattle.bd_thread.specs.Resting.{has_destructed_all, is_blocked, rests}
+use Rattle.bd_thread.specs.Resting.{has_destructed_all, is_blocked, is_done, rests}
 use Rattle.bd_seat.specs.declared.seat_error.SeatError.{SeatError}
 use Rattle.bd_seat.specs.declared.seat_error.SeatError.TheVariants.{OutOfMemory, StampsSpent}
 use Rattle.bd_law_disks.specs.Told.{AreBasesLowest}
@@ -127,6 +127,9 @@ HasAllDisks state old new = AreAllThere state (disks_in old) (disks_in new)
 abbrev pub seat_rests : {D : Type 0} → Seat D → Bool
 seat_rests s = rests s.worker.thread s.worker.links
 
+abbrev pub seat_is_done : {D : Type 0} → Seat D → Bool
+seat_is_done s = is_done s.worker.thread
+
 abbrev pub seat_is_blocked : {D : Type 0} → Seat D → Bool
 seat_is_blocked s = is_blocked s.worker.thread s.worker.links
 
@@ -140,7 +143,7 @@ has_taken from to = count_at from.worker.thread.part.put to.worker.me == count_a
 abbrev pub are_all_taken : {D : Type 0} → List (Seat D) → Bool
 are_all_taken seats = list_all (λ from. list_all (λ to. has_taken from to) seats) seats
 
--- no token is on a thread, nothing is still to be put or done, no handle is still to be closed, and no message is on its way
+-- nothing goes on by itself on a thread but its script, where requests may be pended; and no message is on its way
 abbrev pub is_at_rest : {D : Type 0} → Node D → Bool
 is_at_rest n = list_all seat_rests n.seats.items && are_all_taken n.seats.items
 
@@ -148,9 +151,9 @@ is_at_rest n = list_all seat_rests n.seats.items && are_all_taken n.seats.items
 abbrev pub is_idle : {D : Type 0} → Node D → Bool
 is_idle n = is_at_rest n && list_all seat_is_blocked n.seats.items
 
--- at rest, and each device was destructed
+-- no token is on a thread, nothing is still to be put or done, no message is on its way, and each device was destructed
 abbrev pub is_over : {D : Type 0} → Node D → Bool
-is_over n = is_at_rest n && list_all seat_has_destructed n.seats.items
+is_over n = list_all seat_is_done n.seats.items && are_all_taken n.seats.items && list_all seat_has_destructed n.seats.items
 
 abbrev pub state_of : {D : Type 0} → Node D → NodeState
 state_of n = cond n.shut (cond (is_over n) Done Busy) (cond (is_idle n) Idle Busy)

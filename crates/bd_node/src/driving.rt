@@ -12,7 +12,7 @@ ghost use Rattle.bd_worker.specs.Seats.{has_moved, made_by, HasMoved, Tells};
 ghost use Rattle.bd_node.specs.Shutting.{AddsShutdown, IsUnchanged};
 ghost use Rattle.bd_node.specs.Waits.{TurnsQuietly};
 ghost use Rattle.bd_report.specs.Stats.{stats_of};
-ghost use Rattle.bd_node.specs.Whole.{disks_in, AreSeated, HasAllDisks, HasSameFlag, HasSameLogs, KeepsDisks, HasSameSetup, IsNode, IsNodeOf, are_all_taken, entries_left, entries_made, halt_of, has_taken, is_spent, is_at_rest, is_idle, is_over, logs_of, past_of, seat_goes, seat_has_destructed, seat_has_stamps, seat_is_blocked, seat_rests, seed_of, setup_in, state_of};
+ghost use Rattle.bd_node.specs.Whole.{disks_in, AreSeated, HasAllDisks, HasSameFlag, HasSameLogs, KeepsDisks, HasSameSetup, IsNode, IsNodeOf, are_all_taken, entries_left, entries_made, halt_of, has_taken, is_spent, is_at_rest, is_idle, is_over, logs_of, past_of, seat_goes, seat_has_destructed, seat_has_stamps, seat_is_blocked, seat_is_done, seat_rests, seed_of, setup_in, state_of};
 
 use crate::building::{abandon_all, seats_of};
 use crate::crew::Watch;
@@ -46,6 +46,12 @@ fn all_rest<'a, D>(seats: &[Seat<'a, D>]) -> bool
     seats
         .iter()
         .all(|seat| seat.worker.thread.rests(&seat.worker.links))
+}
+
+fn are_all_done<'a, D>(seats: &[Seat<'a, D>]) -> bool
+    ensures { result ≡ list_all seat_is_done seats.now }
+{
+    seats.iter().all(|seat| seat.worker.thread.is_done())
 }
 
 // Whether nothing goes on by itself on any thread but holds and scripts.
@@ -360,9 +366,9 @@ impl<'a, D> Node<'a, D> {
     }
 
     /// For how many microseconds all that is left waits for time alone, from about this moment on: nothing is under way
-    /// but requests that are held, no thread is shut down, and each thread whose script isn't blocked sleeps: the least
-    /// time until a hold or a sleep ends. None where something else may go on. It is a hint for who waits between
-    /// rounds, and asks no clock.
+    /// but requests that are held, or kept without an answer, no thread is shut down, and each thread whose script
+    /// isn't blocked sleeps: the least time until a hold or a sleep ends. None where something else may go on. It is a
+    /// hint for who waits between rounds, and asks no clock.
     pub(crate) fn waits_for(&self) -> Option<u64> {
         let seats = self.seats.as_slice();
         if self.shut || !all_rest_but_for_holds(seats) || !are_all_taken(seats) {
@@ -385,7 +391,9 @@ impl<'a, D> Node<'a, D> {
     fn is_over(&self) -> bool
         ensures { result ≡ is_over self.now }
     {
-        self.is_at_rest() && have_all_destructed(self.seats.as_slice())
+        are_all_done(self.seats.as_slice())
+            && are_all_taken(self.seats.as_slice())
+            && have_all_destructed(self.seats.as_slice())
     }
 
     /// How far the node is.

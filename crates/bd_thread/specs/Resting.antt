@@ -1,13 +1,16 @@
 -- When a thread has nothing under way.
-use Rattle.std.specs.Prelude.{Bool, true, ◌&&◌, ◌==◌, ◌^◌, nat_lt, List, length, is_none}
+use Rattle.std.specs.Prelude.{Bool, true, ◌&&◌, ◌==◌, ◌^◌, nat_lt, not, count_by, List, length, is_none}
 use Rattle.std.specs.List.{list_all, range_with_len}
 use Rattle.bd_base.specs.declared.act.Act.TheVariants as acts
 use Rattle.bd_base.specs.declared.id.HandleId.{HandleId}
+use Rattle.bd_machine.specs.declared.state.Open.{Open}
 use Rattle.bd_machine.specs.Asked.{is_script_blocked}
 use Rattle.bd_turns.specs.declared.queue.Message.{Message}
 use Rattle.bd_steps.specs.Resting.{is_done_with}
 use Rattle.bd_steps.specs.Resting.{is_settled as settles}
 use Rattle.bd_links.specs.Entries.{longer}
+use Rattle.bd_tokens.specs.Pended.{are_own_pended, is_pended_at}
+use Rattle.bd_tokens.specs.Tokens.{here_in}
 use Rattle.bd_thread.specs.declared.links.Links.{Links}
 use Rattle.bd_thread.specs.declared.thread.Thread.{Thread}
 use Rattle.bd_thread.specs.Seen.{view_of}
@@ -16,15 +19,23 @@ use Rattle.bd_thread.specs.Seen.{view_of}
 abbrev pub is_settled : Thread → Links → HandleId → Bool
 is_settled t links id = settles t.setup.now (view_of t links) id
 
--- no token is on the thread, nothing is still to be put or done, its last entry took no injection, and each handle whose remove event it took is closed, but for base handles
+-- nothing is still to be sent, put or done, its last entry took no injection, of tokens there are only its own requests that are pended, and each handle whose remove event it took is closed, but for base handles
 abbrev pub rests : Thread → Links → Bool
 rests t links =
-    (length t.held.items == 0) && (length t.part.due == 0) && (length t.part.owed == 0) && is_none t.part.injection && list_all (is_settled t links) t.part.gone
+    (length t.outbox.items == 0) && (length t.part.due == 0) && (length t.part.owed == 0) && is_none t.part.injection && are_own_pended t.setup.now t.part t.me t.held.items && list_all (is_settled t links) t.part.gone
 
--- each of its open requests is held, and nothing is still to be put or done
+-- no token is on the thread, nothing is still to be put or done, and its last entry took no injection
+abbrev pub is_done : Thread → Bool
+is_done t = (length t.held.items == 0) && (length t.part.due == 0) && (length t.part.owed == 0) && is_none t.part.injection
+
+-- the open request isn't here, or isn't pended
+abbrev pub is_unpended : Thread → Open → Bool
+is_unpended t open_request = not (is_pended_at t.setup.now t.part (here_in t.held.items) open_request.id)
+
+-- each of its open requests is held or pended, and nothing is still to be put or done
 abbrev pub rests_but_for_holds : Thread → Links → Bool
 rests_but_for_holds t links =
-    (length t.holds == length t.part.requests) && (length t.outbox.items == 0) && (length t.part.due == 0) && (length t.part.owed == 0) && is_none t.part.injection && list_all (is_settled t links) t.part.gone
+    (length t.outbox.items == 0) && (length t.part.due == 0) && (length t.part.owed == 0) && is_none t.part.injection && (count_by (is_unpended t) t.part.requests == length t.holds) && list_all (is_settled t links) t.part.gone
 
 -- its script is at its end, or the next line waits
 abbrev pub is_blocked : Thread → Links → Bool

@@ -1,6 +1,6 @@
 //! When a thread has nothing under way.
-ghost use Rattle.std.specs.Prelude.{◌≡◌};
-ghost use Rattle.bd_thread.specs.Resting.{has_destructed_all, is_blocked, rests, rests_but_for_holds};
+ghost use Rattle.std.specs.Prelude.{◌≡◌, count_by};
+ghost use Rattle.bd_thread.specs.Resting.{has_destructed_all, is_blocked, is_done, is_unpended, rests, rests_but_for_holds};
 
 use crate::links::Links;
 use crate::thread::Thread;
@@ -8,28 +8,54 @@ use bd_rule_script::is_script_blocked;
 use bd_steps::{are_done_with, are_settled};
 
 impl<'a> Thread<'a> {
-    /// Whether no token is on the thread, nothing is still to be put or done, each handle whose remove
-    /// event it took is closed (but for base handles), and its last entry took no injection.
+    /// Whether nothing goes on by itself here, but by its script: of tokens there are only its own requests that are
+    /// kept without an answer, and that nothing stops; nothing is still to be sent, put or done, each handle whose
+    /// remove event it took is closed (but for base handles), and its last entry took no injection.
     pub fn rests(&self, links: &Links) -> bool
         ensures { result ≡ rests self.now links.now }
+    {
+        self.outbox.len() == 0
+            && self.part.due.len() == 0
+            && self.part.owed.len() == 0
+            && self.part.injection.is_none()
+            && self.held.are_all_pended(self.setup, &self.part, self.me)
+            && are_settled(&self.seen(links), self.setup)
+    }
+
+    /// Whether nothing is left: no token is on the thread, not even a request without an answer, nothing is still to be
+    /// put or done, and its last entry took no injection.
+    pub fn is_done(&self) -> bool
+        ensures { result ≡ is_done self.now }
     {
         self.held.len() == 0
             && self.part.due.len() == 0
             && self.part.owed.len() == 0
             && self.part.injection.is_none()
-            && are_settled(&self.seen(links), self.setup)
     }
 
-    /// Whether each of its open requests is held, and nothing is still to be put or done: nothing goes on by itself
-    /// here but its holds and its script.
+    // How many of its open requests may get their answer without a removal: all but those that are here, kept without
+    // an answer, and that nothing stops.
+    fn count_unpended(&self) -> usize
+        ensures { result ≡ count_by (is_unpended self.now) self.now.part.requests }
+    {
+        self.part
+            .requests
+            .as_slice()
+            .iter()
+            .filter(|open| !self.held.is_pended(self.setup, &self.part, open.id))
+            .count()
+    }
+
+    /// Whether each of its open requests is held, or kept without an answer, and nothing is still to be put or done:
+    /// nothing goes on by itself here but its holds and its script.
     pub fn rests_but_for_holds(&self, links: &Links) -> bool
         ensures { result ≡ rests_but_for_holds self.now links.now }
     {
-        self.holds.len() == self.part.requests.len()
-            && self.outbox.len() == 0
+        self.outbox.len() == 0
             && self.part.due.len() == 0
             && self.part.owed.len() == 0
             && self.part.injection.is_none()
+            && self.count_unpended() == self.holds.len()
             && are_settled(&self.seen(links), self.setup)
     }
 

@@ -1,3 +1,4 @@
 pub mod Keys
+pub mod Pended
 pub mod Places
 pub mod Tokens

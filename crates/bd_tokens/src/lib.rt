@@ -3,6 +3,7 @@
 
 mod key;
 mod others;
+mod pended;
 mod places;
 mod tokens;
 

@@ -3,18 +3,21 @@ ghost use Rattle.std.specs.Prelude.{◌≡◌, ◌+◌, ◌<◌, ◌≤◌, [], 
 ghost use Rattle.std.specs.HashMap.{spare};
 ghost use Rattle.bd_rule_effects.specs.Begun.{begun, taken, walk_moved};
 ghost use Rattle.bd_machine.specs.Alone.{held_after};
+ghost use Rattle.bd_tokens.specs.Pended.{are_own_pended, is_pended_at};
 ghost use Rattle.bd_tokens.specs.Places.{is_free, items_with, place_of, AreKept};
 ghost use Rattle.bd_tokens.specs.Tokens.{here_in, left_of, Sets};
 
 use crate::key::Key;
 use crate::others::{drop_other, get_other, hold_other, take_other};
+use crate::pended::{are_others_pended, are_rows_pended, is_pended};
 use crate::places::{
     Row, clear_at, count, free_place, kept_at_place, make_places, own_place, put_at, take_at,
 };
-use bd_base::{OutOfMemory, Token, WalkId};
-use bd_machine::{Id, Kept, OpenWalk};
+use bd_base::{OutOfMemory, ReqId, Setup, Token, WalkId};
+use bd_machine::{Id, Kept, OpenWalk, Part};
 use bd_parcel::Parcel;
 use bd_rule_effects::{is_at_end, progress_took, stays};
+use bd_rule_view::as_request;
 use std::alloc::Global;
 use std::collections::HashMap;
 use std::marker::Model;
@@ -192,6 +195,25 @@ impl Tokens {
         match kept_at_place(self.rows.as_slice(), id) {
             Some(kept) => Some(kept),
             None => get_other(&self.map, id),
+        }
+    }
+
+    /// Whether each token that is held is a request of this thread that is kept without an answer, and that nothing
+    /// stops: it wasn't aborted, and no device below it carries a mark. It goes over all of them.
+    pub fn are_all_pended(&self, setup: &Setup, part: &Part, me: u32) -> bool
+        ensures { result ≡ are_own_pended setup.now part.now me self.now.items }
+    {
+        are_rows_pended(self.rows.as_slice(), setup, part, me)
+            && are_others_pended(&self.map, setup, part, me)
+    }
+
+    /// Whether the request is held, kept without an answer, and nothing stops it.
+    pub fn is_pended(&self, setup: &Setup, part: &Part, req: ReqId) -> bool
+        ensures { result ≡ is_pended_at setup.now part.now (here_in self.now.items) req }
+    {
+        match as_request(self.get(Id::Request(req))) {
+            Some(r) => is_pended(setup, part, r),
+            None => false,
         }
     }
 
