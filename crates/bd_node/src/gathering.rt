@@ -12,13 +12,21 @@ use bd_log::{LogPart, merge_onto};
 use bd_outside::Disk;
 use bd_worker::Seat;
 
+// The greater of two stamps.
+fn greater(first: u128, second: u128) -> u128
+    ensures first { first ≤ result }
+    ensures second { second ≤ result }
+{
+    if first < second { second } else { first }
+}
+
 /// A stamp that no log's last is above.
 pub(crate) fn greatest<'a, D>(seats: &[Seat<'a, D>]) -> u128
     ensures { All (λ s. s.worker.log.last ≤ result) seats.now }
 {
     let mut greatest = 0;
     for seat in seats {
-        greatest = greatest.max(seat.worker.log.last());
+        greatest = greater(greatest, seat.worker.log.last());
     }
     greatest
 }

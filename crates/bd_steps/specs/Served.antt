@@ -1,4 +1,4 @@
--- What threads take, put and ask so far: all but what limits, injected errors and resets need.
+-- What threads take, put and ask so far: all but what limits and resets need.
 use Rattle.std.specs.Prelude.{Bool, true, false}
 use Rattle.bd_base.specs.declared.act.Token.{Token}
 use Rattle.bd_base.specs.declared.act.Token.TheVariants as tokens
@@ -15,7 +15,7 @@ is_served_token (tokens.Gone handle) = true
 is_served_token (tokens.Device dev) = true
 is_served_token _ = false
 
--- any but those of resets and injections
+-- any but those of resets; the decision of an error device is asked in one method with the entry that follows it, and is none of these
 abbrev pub is_served_event : RegEvent → Bool
 is_served_event (events.Open name write) = true
 is_served_event (events.Close handle) = true

@@ -17,7 +17,8 @@ use Rattle.bd_machine.specs.Requests.{may_cut}
 use Rattle.bd_thread.specs.declared.links.Links.{Links}
 use Rattle.bd_thread.specs.declared.thread.Thread.{Thread}
 use Rattle.bd_thread.specs.Acted.{Acted}
-use Rattle.bd_thread.specs.Waits.{is_abort_or_cut, Idles, IsIdle, NoStep, NoStepBelow, NoStepOf}
+use Rattle.bd_thread.specs.Injections.{asks_decision, is_inject, next_found, Finds, FindsBelow, NoneAsksBelow}
+use Rattle.bd_thread.specs.Waits.{is_taken_alone, Idles, IsIdle, NoStep, NoStepBelow, NoStepOf, StandsBelow, StandsBut, StandsOf}
 use Rattle.bd_thread.specs.Aborts.{abort_due}
 use Rattle.bd_thread.specs.Cuts.{may_cut_now}
 use Rattle.bd_thread.specs.Seen.{view_of}
@@ -98,13 +99,83 @@ cut_is_due req t links may = go (request_here (view_of t links) req) refl may
     go None is h = cc
     go (Some r) is h = ap (may_cut t.setup.now t.me (view_of t links) req) is ∙ h
 
--- it is no step that threads take beside the completion
-pub other_step : (step : Step) → (step ≡ steps.Cut → ⊥) → ((cause : AbortCause) → step ≡ steps.Abort cause → ⊥) → is_abort_or_cut step ≡ false
-other_step (steps.Abort cause) uncut unaborted = absurd (unaborted cause refl)
-other_step steps.Cut uncut unaborted = absurd (uncut refl)
-other_step (steps.Limit dev) uncut unaborted = refl
-other_step (steps.Inject dev) uncut unaborted = refl
-other_step steps.Pend uncut unaborted = refl
-other_step steps.Hold uncut unaborted = refl
-other_step (steps.Complete status) uncut unaborted = refl
-other_step steps.Wait uncut unaborted = refl
+-- it is no step that a thread takes by itself, beside the completion
+pub other_step : (step : Step) → (step ≡ steps.Cut → ⊥) → (step ≡ steps.Pend → ⊥) → ((cause : AbortCause) → step ≡ steps.Abort cause → ⊥) → is_taken_alone step ≡ false
+other_step (steps.Abort cause) uncut unpended unaborted = absurd (unaborted cause refl)
+other_step steps.Cut uncut unpended unaborted = absurd (uncut refl)
+other_step steps.Pend uncut unpended unaborted = absurd (unpended refl)
+other_step (steps.Limit dev) uncut unpended unaborted = refl
+other_step (steps.Inject dev) uncut unpended unaborted = refl
+other_step steps.Hold uncut unpended unaborted = refl
+other_step (steps.Complete status) uncut unpended unaborted = refl
+other_step steps.Wait uncut unpended unaborted = refl
+
+-- a step that a thread takes by itself asks for no decision
+pub taken_asks_none : (step : Step) (may : Bool) → is_taken_alone step ≡ true → is_inject step && may ≡ false
+taken_asks_none (steps.Abort cause) may h = refl
+taken_asks_none steps.Cut may h = refl
+taken_asks_none steps.Pend may h = refl
+taken_asks_none (steps.Limit dev) may h = refl
+taken_asks_none (steps.Inject dev) may h = cc
+taken_asks_none steps.Hold may h = refl
+taken_asks_none (steps.Complete status) may h = refl
+taken_asks_none steps.Wait may h = refl
+
+-- ---- which waits for a decision
+
+-- the one at this place can't be carried on either, and is found where it is the first that asks
+pub stands_below : (place : ℕ) (r : Open) (asks : Bool) (found next : Option ReqId) (o : Thread) (a : Links) (m : Thread) (b : Links) (n : Thread) (c : Links)
+    → Acted o a m b
+    → Acted m b n c
+    → slice_get m.part.requests place ≡ Some r
+    → next_found asks r.id found ≡ next
+    → Idles (StandsBelow found place) o a m b
+    → Idles (StandsOf asks r.id) m b n c
+    → Idles (StandsBelow next (place + 1)) o a n c
+stands_below place r asks found next o a m b n c g h at next_is f s few =
+    let first : IsIdle (StandsBelow found place) o a m b = f (omega (arith, few, grown m b n c h)) in
+    let second : IsIdle (StandsOf asks r.id) m b n c = s (omega (arith, few, grown o a m b g)) in
+    let none : IsIdle (NoStepBelow (place + 1)) o a n c =
+    steps_below place r o a m b n c g h at (λ less. let i = f less in record { thread = i.thread; links = i.links; waits = i.waits.none }) (λ less. let i = s less in record { thread = i.thread; links = i.links; waits = i.waits.none }) few in
+    let here : slice_get o.part.requests place ≡ Some r = subst (λ (t : Thread). slice_get t.part.requests place ≡ Some r) first.thread at in
+    let asks_is : asks ≡ asks_decision o a r.id = subst (λ (t : Thread). asks ≡ asks_decision t a r.id) first.thread (subst (λ (l : Links). asks ≡ asks_decision m l r.id) first.links second.waits.asks_is) in
+    record {
+      thread = none.thread;
+      links = none.links;
+      waits = record { none = none.waits; finds = subst (λ (x : Option ReqId). FindsBelow (place + 1) x o a) next_is (finds_next asks found here asks_is first.waits.finds) };
+    }
+  where
+    below_next : slice_get o.part.requests place ≡ Some r → asks_decision o a r.id ≡ false → NoneAsksBelow place o a → (i : ℕ) (x : Open) → i < place + 1 → slice_get o.part.requests i ≡ Some x → (i < place) ⊎ (place ≤ i) → asks_decision o a x.id ≡ false
+    below_next here one below i x less found (inl lower) = below i x lower found
+    below_next here one below i x less found (inr upper) =
+        let same : i ≡ place = omega (arith, less, upper) in
+        let is : r ≡ x = same_Some r x (sym here ∙ subst (λ (k : ℕ). slice_get o.part.requests k ≡ Some x) same found) in
+        subst (λ (y : Open). asks_decision o a y.id ≡ false) is one
+
+    finds_next : (b : Bool) (x : Option ReqId) → slice_get o.part.requests place ≡ Some r → b ≡ asks_decision o a r.id → FindsBelow place x o a → FindsBelow (place + 1) (next_found b r.id x) o a
+    finds_next b (Some x) here is finds = finds
+    finds_next true None here is finds = sym is
+    finds_next false None here is finds = λ i x less found. below_next here (sym is) finds i x less found (cases_lt i place)
+
+-- all before the end can't be carried on, and the first that asks was found
+pub stands_all : (count : ℕ) (found : Option ReqId) (o : Thread) (a : Links) (n : Thread) (c : Links) → length o.part.requests ≤ count → Idles (StandsBelow found count) o a n c → Idles (StandsBut found) o a n c
+stands_all count found o a n c whole f few =
+    let first : IsIdle (StandsBelow found count) o a n c = f few in
+    record {
+      thread = first.thread;
+      links = first.links;
+      waits = record { none = λ i x at. first.waits.none i x (omega (arith, whole, slice_get_within o.part.requests i x at)) at; finds = all found first.waits.finds };
+    }
+  where
+    all : (x : Option ReqId) → FindsBelow count x o a → Finds x o a
+    all None finds = λ i x at. finds i x (omega (arith, whole, slice_get_within o.part.requests i x at)) at
+    all (Some req) finds = finds
+
+-- a place that was there once is there still, where nothing changed
+pub stands_there : {Q : Type 0} (place : ℕ) (found : Option ReqId) (o : Thread) (a : Links) (n : Thread) (c : Links)
+    → place < length o.part.requests
+    → slice_get n.part.requests place ≡ None
+    → Idles (StandsBelow found place) o a n c
+    → length c.entries ≤ length a.entries
+    → Q
+stands_there place found o a n c within none f few = steps_there place o a n c within none (λ less. let i = f less in record { thread = i.thread; links = i.links; waits = i.waits.none }) few

@@ -1,5 +1,6 @@
 pub mod Completing
 pub mod Delaying
+pub mod Injecting
 pub mod Cutting
 pub mod Submissions
 pub mod Tickets

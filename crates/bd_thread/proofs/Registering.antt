@@ -98,7 +98,7 @@ decision_self decisions.Fail = refl
 decision_self decisions.Pend = refl
 decision_self decisions.Corrupt = refl
 
-answer_self : (a : Answer) → same_answer a a ≡ true
+pub answer_self : (a : Answer) → same_answer a a ≡ true
 answer_self (answers.Opened h d) = and_from (h.0 == h.0) (d.0 == d.0) (eq-eqb h.0 h.0 refl) (eq-eqb d.0 d.0 refl)
 answer_self (answers.Closed d) = if_any_self same_dev dev_self d
 answer_self answers.Claimed = refl
@@ -132,7 +132,7 @@ module _ (setup : Setup) (me : ℕ) where
   asked_between v registry shut answer _ None = refl
   asked_between v registry shut answer _ (Some (Closing u dev)) = refl
 
-  asked_local : (l : Local) (event : RegEvent) (answer : Answer)
+  pub asked_local : (l : Local) (event : RegEvent) (answer : Answer)
       → asks_event setup me l.view (came_between l.shared.registry.between l.shared.shut) event ≡ true
       → asks_event setup me l.view (came_local setup me l (acts.Reg event answer)) event ≡ true
   asked_local l event answer asks =

@@ -15,6 +15,7 @@ use Rattle.bd_base.specs.declared.event.ClaimKind.TheVariants as kinds
 use Rattle.bd_base.specs.declared.event.RegEvent.{RegEvent}
 use Rattle.bd_base.specs.declared.event.RegEvent.TheVariants as events
 use Rattle.bd_base.specs.declared.id.HandleId.{HandleId}
+use Rattle.bd_base.specs.declared.id.ReqId.{ReqId}
 use Rattle.bd_base.specs.declared.job.Job.{Job}
 use Rattle.bd_base.specs.declared.job.Job.TheVariants as jobs
 use Rattle.bd_base.specs.declared.job.Line.{Line}
@@ -51,14 +52,18 @@ use Rattle.bd_steps.specs.Asking.{is_base_if_any}
 use Rattle.bd_steps.specs.Duties.{duty_owed}
 use Rattle.bd_steps.specs.Sending.{first_due, token_of}
 use Rattle.bd_thread.specs.Duties.{NoDuty}
+use Rattle.bd_thread.specs.Injections.{StandsAsked}
 use Rattle.bd_thread.specs.Lines.{claim_if_bound, claim_of, close_of, handle_if_any, if_asked, if_closable, may_ask, may_ask_after, may_close, open_of, remove_of}
 use Rattle.bd_thread.specs.Moves.{turned_of}
+use Rattle.bd_thread.specs.Requests.{KeepsTickets}
 use Rattle.bd_thread.specs.Sent.{may_put, may_send}
 use Rattle.bd_thread.specs.Seen.{local, view_of}
-use Rattle.bd_thread.specs.Waits.{asks_unbuilt, is_line_waiting, is_submission, is_unbuilt, may_post, Idles, IsWaiting, NoDestructBelow, NoDestructOn, NoHandleBelow, NoHandleOn, NoLine, NoMessage, NoPiece, NoPieceBelow, NoPieceOn, NoRefusal, NoRetry, NoStep, NothingLeft, NothingToPost, NothingToSend, Quiets}
+use Rattle.bd_thread.specs.Waits.{asks_unbuilt, is_line_waiting, is_submission, is_unbuilt, may_post, Idles, IsWaiting, NoDestructBelow, NoDestructOn, NoHandleBelow, NoHandleOn, NoLine, NoMessage, NoPiece, NoPieceBelow, NoPieceOn, NoRefusal, NoRetry, NoStep, NothingLeft, NothingToPost, NothingToSend, Quiets, StandsBut, IsIdle, IsStill}
 use Rattle.bd_thread.proofs.Going.{acted_then}
+use Rattle.bd_thread.proofs.Injecting.{stands_undecided}
 use Rattle.bd_thread.proofs.Idle.{idle_last, idle_then}
 use Rattle.bd_thread.proofs.Leftovers.{found_is}
+use Rattle.bd_thread.proofs.Tickets.{same_tickets}
 
 -- ---- what is the same as itself
 
@@ -397,7 +402,7 @@ due_waits t links x first stays = go t.part.due refl first
 -- ---- the answer of a turn
 
 -- one part of a turn after the other
-pub turn_idle : (o : Thread) (a : Links) (p1 : Thread) (l1 : Links) (p2 : Thread) (l2 : Links) (p3 : Thread) (l3 : Links) (p4 : Thread) (l4 : Links) (p5 : Thread) (l5 : Links) (p6 : Thread) (l6 : Links) (p7 : Thread) (l7 : Links) (p8 : Thread) (l8 : Links) (p9 : Thread) (l9 : Links) (n : Thread) (c : Links)
+pub turn_idle : (found : Option ReqId) (o : Thread) (a : Links) (p1 : Thread) (l1 : Links) (p2 : Thread) (l2 : Links) (p3 : Thread) (l3 : Links) (p4 : Thread) (l4 : Links) (p5 : Thread) (l5 : Links) (p6 : Thread) (l6 : Links) (p7 : Thread) (l7 : Links) (p8 : Thread) (l8 : Links) (p9 : Thread) (l9 : Links) (p10 : Thread) (l10 : Links) (p11 : Thread) (l11 : Links) (n : Thread) (c : Links)
     → Acted o a p1 l1
     → Acted p1 l1 p2 l2
     → Acted p2 l2 p3 l3
@@ -407,19 +412,23 @@ pub turn_idle : (o : Thread) (a : Links) (p1 : Thread) (l1 : Links) (p2 : Thread
     → Acted p6 l6 p7 l7
     → Acted p7 l7 p8 l8
     → Acted p8 l8 p9 l9
-    → Acted p9 l9 n c
+    → Acted p9 l9 p10 l10
+    → Acted p10 l10 p11 l11
+    → Acted p11 l11 n c
     → Idles NoMessage o a p1 l1
     → Idles NoRetry p1 l1 p2 l2
     → Idles NoDuty p2 l2 p3 l3
     → Idles NoPiece p3 l3 p4 l4
     → Idles NoLine p4 l4 p5 l5
-    → Idles NothingLeft p5 l5 p6 l6
-    → Idles NothingToSend p6 l6 p7 l7
-    → Idles NothingToPost p7 l7 p8 l8
-    → (length a.entries ≡ length l8.entries → Idles NoStep p8 l8 p9 l9)
-    → (length a.entries ≡ length l9.entries → Idles NoRefusal p9 l9 n c)
+    → (length a.entries ≡ length l5.entries → Idles (StandsAsked None) p5 l5 p6 l6)
+    → Idles NothingLeft p6 l6 p7 l7
+    → Idles NothingToSend p7 l7 p8 l8
+    → Idles NothingToPost p8 l8 p9 l9
+    → (length a.entries ≡ length l9.entries → Idles (StandsBut found) p9 l9 p10 l10)
+    → (length a.entries ≡ length l10.entries → Idles (StandsAsked found) p10 l10 p11 l11)
+    → (length a.entries ≡ length l11.entries → Idles NoRefusal p11 l11 n c)
     → Idles IsWaiting o a n c
-turn_idle o a p1 l1 p2 l2 p3 l3 p4 l4 p5 l5 p6 l6 p7 l7 p8 l8 p9 l9 n c acted0 acted1 acted2 acted3 acted4 acted5 acted6 acted7 acted8 acted9 message retry duty piece line left outbox due request refusal =
+turn_idle found o a p1 l1 p2 l2 p3 l3 p4 l4 p5 l5 p6 l6 p7 l7 p8 l8 p9 l9 p10 l10 p11 l11 n c acted0 acted1 acted2 acted3 acted4 acted5 acted6 acted7 acted8 acted9 acted10 acted11 message retry duty piece line called left outbox due request asked refusal =
     let so1 : Idles (λ t links. NoMessage t links × NoRetry t links) o a p2 l2 =
     idle_then o a p1 l1 p2 l2 acted0 acted1 (λ first next. (first, next)) message retry in
     let both1 = acted_then o a p1 l1 p2 l2 acted0 acted1 in
@@ -432,23 +441,64 @@ turn_idle o a p1 l1 p2 l2 p3 l3 p4 l4 p5 l5 p6 l6 p7 l7 p8 l8 p9 l9 n c acted0 a
     let so4 : Idles (λ t links. NoMessage t links × NoRetry t links × NoDuty t links × NoPiece t links × NoLine t links) o a p5 l5 =
     idle_then o a p4 l4 p5 l5 both3 acted4 (λ so next. (so.0, so.1, so.2, so.3, next)) so3 line in
     let both4 = acted_then o a p4 l4 p5 l5 both3 acted4 in
-    let so5 : Idles (λ t links. NoMessage t links × NoRetry t links × NoDuty t links × NoPiece t links × NoLine t links × NothingLeft t links) o a p6 l6 =
-    idle_then o a p5 l5 p6 l6 both4 acted5 (λ so next. (so.0, so.1, so.2, so.3, so.4, next)) so4 left in
+    let so5 : Idles (λ t links. NoMessage t links × NoRetry t links × NoDuty t links × NoPiece t links × NoLine t links) o a p6 l6 =
+    idle_last o a p5 l5 p6 l6 both4 acted5 (λ so next. so) so4 called in
     let both5 = acted_then o a p5 l5 p6 l6 both4 acted5 in
-    let so6 : Idles (λ t links. NoMessage t links × NoRetry t links × NoDuty t links × NoPiece t links × NoLine t links × NothingLeft t links × NothingToSend t links) o a p7 l7 =
-    idle_then o a p6 l6 p7 l7 both5 acted6 (λ so next. (so.0, so.1, so.2, so.3, so.4, so.5, next)) so5 outbox in
+    let so6 : Idles (λ t links. NoMessage t links × NoRetry t links × NoDuty t links × NoPiece t links × NoLine t links × NothingLeft t links) o a p7 l7 =
+    idle_then o a p6 l6 p7 l7 both5 acted6 (λ so next. (so.0, so.1, so.2, so.3, so.4, next)) so5 left in
     let both6 = acted_then o a p6 l6 p7 l7 both5 acted6 in
-    let so7 : Idles (λ t links. NoMessage t links × NoRetry t links × NoDuty t links × NoPiece t links × NoLine t links × NothingLeft t links × NothingToSend t links × NothingToPost t links) o a p8 l8 =
-    idle_then o a p7 l7 p8 l8 both6 acted7 (λ so next. (so.0, so.1, so.2, so.3, so.4, so.5, so.6, next)) so6 due in
+    let so7 : Idles (λ t links. NoMessage t links × NoRetry t links × NoDuty t links × NoPiece t links × NoLine t links × NothingLeft t links × NothingToSend t links) o a p8 l8 =
+    idle_then o a p7 l7 p8 l8 both6 acted7 (λ so next. (so.0, so.1, so.2, so.3, so.4, so.5, next)) so6 outbox in
     let both7 = acted_then o a p7 l7 p8 l8 both6 acted7 in
-    let so8 : Idles (λ t links. NoMessage t links × NoRetry t links × NoDuty t links × NoPiece t links × NoLine t links × NothingLeft t links × NothingToSend t links × NothingToPost t links × NoStep t links) o a p9 l9 =
-    idle_last o a p8 l8 p9 l9 both7 acted8 (λ so next. (so.0, so.1, so.2, so.3, so.4, so.5, so.6, so.7, next)) so7 request in
-    idle_last o a p9 l9 n c (acted_then o a p8 l8 p9 l9 both7 acted8) acted9
-    (λ so next. record { message = so.0; retry = so.1; duty = so.2; piece = so.3; line = line_waits o a so.4; left = so.5; outbox = so.6; due = so.7; request = so.8; refusal = next }) so8 refusal
+    let so8 : Idles (λ t links. NoMessage t links × NoRetry t links × NoDuty t links × NoPiece t links × NoLine t links × NothingLeft t links × NothingToSend t links × NothingToPost t links) o a p9 l9 =
+    idle_then o a p8 l8 p9 l9 both7 acted8 (λ so next. (so.0, so.1, so.2, so.3, so.4, so.5, so.6, next)) so7 due in
+    let both8 = acted_then o a p8 l8 p9 l9 both7 acted8 in
+    let so9 : Idles (λ t links. NoMessage t links × NoRetry t links × NoDuty t links × NoPiece t links × NoLine t links × NothingLeft t links × NothingToSend t links × NothingToPost t links × StandsBut found t links) o a p10 l10 =
+    idle_last o a p9 l9 p10 l10 both8 acted9 (λ so next. (so.0, so.1, so.2, so.3, so.4, so.5, so.6, so.7, next)) so8 request in
+    let both9 = acted_then o a p9 l9 p10 l10 both8 acted9 in
+    let so10 : Idles (λ t links. NoMessage t links × NoRetry t links × NoDuty t links × NoPiece t links × NoLine t links × NothingLeft t links × NothingToSend t links × NothingToPost t links × StandsBut found t links × StandsAsked found t links) o a p11 l11 =
+    idle_last o a p10 l10 p11 l11 both9 acted10 (λ so next. (so.0, so.1, so.2, so.3, so.4, so.5, so.6, so.7, so.8, next)) so9 asked in
+    idle_last o a p11 l11 n c (acted_then o a p10 l10 p11 l11 both9 acted10) acted11
+    (λ so next. record { message = so.0; retry = so.1; duty = so.2; piece = so.3; line = line_waits o a so.4; left = so.5; outbox = so.6; due = so.7; request = so.8.none; decision = stands_undecided found o a so.8.finds so.9; refusal = next }) so10 refusal
 
-pub quiet_by : (o : Thread) (a : Links) (n : Thread) (c : Links) (turned : Turned) → turned ≡ turned_of (length a.entries) (length c.entries) → Idles IsWaiting o a n c → Quiets o a n c turned
-quiet_by o a n c turned e h = subst (Quiets o a n c) (sym e) (go (length a.entries == length c.entries) refl)
+-- what is noted to be asked is nothing that a thread waits for, sees or keeps
+pub waits_noted : (t : Thread) (links : Links) (u : Thread) → IsWaiting t links → IsWaiting (record t { calls = u.calls }) links
+waits_noted t links u w = record {
+  message = w.message;
+  refusal = w.refusal;
+  retry = w.retry;
+  duty = w.duty;
+  piece = w.piece;
+  line = w.line;
+  left = record { removal = w.left.removal; own = record { handle = w.left.own.handle; device = w.left.own.device } };
+  outbox = w.outbox;
+  due = w.due;
+  request = λ i o at. record { step = (w.request i o at).step; still = record { release = (w.request i o at).still.release; hold = (w.request i o at).still.hold; completion = (w.request i o at).still.completion } };
+  decision = w.decision;
+}
+
+pub acted_noted : (o : Thread) (a : Links) (n : Thread) (c : Links) (u : Thread) → u ≡ record n { calls = u.calls } → Acted o a n c → Acted o a u c
+acted_noted o a n c u is h =
+    subst (λ (t : Thread). Acted o a t c) (sym is) (record { me = h.me; setup = h.setup; queues = h.queues; rows = h.rows; entries = h.entries; added = h.added; acts = h.acts; leads = h.leads })
+
+pub tickets_noted : (n : Thread) (u : Thread) → u ≡ record n { calls = u.calls } → KeepsTickets n → KeepsTickets u
+tickets_noted n u is keeps = same_tickets n u (ap (λ (t : Thread). t.purse.ids) is) (ap (λ (t : Thread). t.part.requests) is) (ap (λ (t : Thread). t.part.next_request) is) keeps
+
+-- where nothing but that changed, it waits as before
+pub still_by : (o : Thread) (a : Links) (n : Thread) (c : Links) (u : Thread) → u ≡ record n { calls = u.calls } → IsIdle IsWaiting o a n c → IsStill IsWaiting o a u c
+still_by o a n c u is i =
+    let noted : Thread → Thread = λ t. record t { calls = u.calls } in
+    let thread-is : u ≡ noted o = is ∙ ap noted i.thread in
+    record {
+      thread = thread-is;
+      links = i.links;
+      waits = subst (λ (t : Thread). IsWaiting t c) (sym thread-is) (subst (λ (l : Links). IsWaiting (noted o) l) (sym i.links) (waits_noted o a u i.waits));
+    }
+
+-- quiet is answered where no entry was added, whatever is noted then
+pub quiet_by : (o : Thread) (a : Links) (n : Thread) (c : Links) (u : Thread) (turned : Turned) → turned ≡ turned_of (length a.entries) (length c.entries) → u ≡ record n { calls = u.calls } → Idles IsWaiting o a n c → Quiets o a u c turned
+quiet_by o a n c u turned e is h = subst (Quiets o a u c) (sym e) (go (length a.entries == length c.entries) refl)
   where
-    go : (b : Bool) → (length a.entries == length c.entries) ≡ b → Quiets o a n c (cond b Quiet (Moved (length c.entries - length a.entries)))
-    go true same = h (let k : length a.entries ≡ length c.entries = eqb-true (length a.entries) (length c.entries) same in omega arith)
+    go : (b : Bool) → (length a.entries == length c.entries) ≡ b → Quiets o a u c (cond b Quiet (Moved (length c.entries - length a.entries)))
+    go true same = still_by o a n c u is (h (let k : length a.entries ≡ length c.entries = eqb-true (length a.entries) (length c.entries) same in omega arith))
     go false same = tt

@@ -24,7 +24,7 @@ use Rattle.bd_thread.specs.Endings.{left_on}
 use Rattle.bd_thread.specs.Lines.{claim_of, close_of, handle_if_any, if_asked, if_closable, job_now, may_ask, may_ask_after, may_close, open_of, remove_of}
 use Rattle.bd_thread.specs.Seen.{view_of}
 use Rattle.bd_thread.specs.Waits.{IsWaiting, NoHandle, NoLine, NoRemoval}
-use Rattle.bd_thread.specs.Work.{has_left, has_removal, is_left_at, is_some_left, wants_registry, IsWaitingAlone}
+use Rattle.bd_thread.specs.Work.{has_calls, has_left, has_removal, is_left_at, is_some_left, wants_registry, IsWaitingAlone}
 use Rattle.bd_thread.proofs.Leftovers.{found_is, no_removal_beyond, none_left}
 use Rattle.bd_thread.proofs.Waiting.{line_waits}
 
@@ -145,9 +145,10 @@ nothing_else_waits t links alone unwanted =
     let following : Bool = is_some links.registry.state.between in
     let owing : Bool = list_any is_duty t.part.owed in
     let asking : Bool = asks_registry t.setup.now t.part (job_now t links) in
-    let one = neither (following || owing || asking) (is_some_left t links count) unwanted in
-    let two = neither (following || owing) asking one.0 in
-    let three = neither following owing two.0 in
+    let one = neither (following || owing || has_calls t || asking) (is_some_left t links count) unwanted in
+    let two = neither (following || owing || has_calls t) asking one.0 in
+    let noted = neither (following || owing) (has_calls t) two.0 in
+    let three = neither following owing noted.0 in
     let four = counted (nat_lt count (2 ^ 32)) one.1 in
     let asks = unasked t links (job_now t links) two.1 in
     let line : NoLine t links = record { opening = asks.0; closing = asks.1; claiming = asks.2; removing = asks.3; submission = alone.line.submission; outcome = alone.line.outcome } in (
@@ -163,6 +164,7 @@ nothing_else_waits t links alone unwanted =
         outbox = alone.outbox;
         due = alone.due;
         request = alone.request;
+        decision = λ free. alone.decision noted.1;
       },
     )
   where

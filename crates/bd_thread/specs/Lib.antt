@@ -11,6 +11,7 @@ pub mod Duties
 pub mod Served
 pub mod Requests
 pub mod Delays
+pub mod Injections
 pub mod Destructs
 pub mod Refusals
 pub mod Retries

@@ -18,7 +18,7 @@ pub record IsNewLinks (setup : Setup) (links : Links) : Type 0 where
   pub entries : links.entries ≡ []
   pub running : links.shut ≡ false
 
--- it is thread number `me` of the setup with its part as it is at the start, holds no token, has nothing to put, nothing in flight and nothing that waits to be sent again, keeps no ticket, had no turn, and holds no request
+-- it is thread number `me` of the setup with its part as it is at the start, holds no token, has nothing to put, nothing in flight and nothing that waits to be sent again, keeps no ticket, had no turn, holds no request, and has nothing noted to ask
 pub record IsNew (me : ℕ) (setup : Setup) (t : Thread) : Type 0 where
   pub own : t.me ≡ me
   pub given : t.setup.now ≡ setup
@@ -29,6 +29,7 @@ pub record IsNew (me : ℕ) (setup : Setup) (t : Thread) : Type 0 where
   pub tickets : t.purse.ids ≡ []
   pub time : t.time ≡ before_any
   pub holds : t.holds ≡ []
+  pub calls : t.calls.items ≡ []
 
 -- what a thread sees before any entry, with nothing told of its disks, and what is shared then
 abbrev pub local_at_start : Setup → ℕ → Local

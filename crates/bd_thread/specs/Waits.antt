@@ -30,6 +30,7 @@ use Rattle.bd_thread.specs.Delays.{StandsStill}
 use Rattle.bd_thread.specs.Destructs.{may_device_go}
 use Rattle.bd_thread.specs.Duties.{NoDuty}
 use Rattle.bd_thread.specs.Endings.{left_on, removal_due}
+use Rattle.bd_thread.specs.Injections.{asks_decision, Finds, FindsBelow, NoDecision}
 use Rattle.bd_thread.specs.Lines.{claim_asked, close_asked, job_now, open_asked, outcome_now, remove_asked}
 use Rattle.bd_thread.specs.Refusals.{refusal_now}
 use Rattle.bd_thread.specs.Retries.{may_retry}
@@ -83,15 +84,16 @@ NoRetry t links = (place : ℕ) → NoRetryAt place t links
 
 -- ---- open requests
 
--- a step that threads take as yet, beside those of a request whose pieces are back
-abbrev pub is_abort_or_cut : Step → Bool
-is_abort_or_cut (steps.Abort cause) = true
-is_abort_or_cut steps.Cut = true
-is_abort_or_cut _ = false
+-- a step that a thread takes by itself, beside those of a request whose pieces are back
+abbrev pub is_taken_alone : Step → Bool
+is_taken_alone (steps.Abort cause) = true
+is_taken_alone steps.Cut = true
+is_taken_alone steps.Pend = true
+is_taken_alone _ = false
 
--- the next step of the request is neither an abort by a mark nor the cut, and it can't be released at the turn's moment, held or completed
+-- the next step of the request is no abort by a mark, not the cut, and not that it is kept without an answer; and it can't be released at the turn's moment, held or completed
 pub record NoStepOf (req : ReqId) (t : Thread) (links : Links) : Type 0 where
-  pub step : is_abort_or_cut (next_step t.setup.now t.me (view_of t links) req) ≡ false
+  pub step : is_taken_alone (next_step t.setup.now t.me (view_of t links) req) ≡ false
   pub still : StandsStill req t links
 
 -- nor can any of the first n open requests
@@ -101,6 +103,21 @@ NoStepBelow n t links = (i : ℕ) (o : Open) → i < n → slice_get t.part.requ
 -- nor can any open request of the thread
 abbrev pub NoStep : Thread → Links → Type 0
 NoStep t links = (i : ℕ) (o : Open) → slice_get t.part.requests i ≡ Some o → NoStepOf o.id t links
+
+-- no step can be taken but a decision of an error device, and whether that is the next one
+pub record StandsOf (asks : Bool) (req : ReqId) (t : Thread) (links : Links) : Type 0 where
+  pub none : NoStepOf req t links
+  pub asks_is : asks ≡ asks_decision t links req
+
+-- the same of the first n open requests, and the first of them that waits for a decision
+pub record StandsBelow (found : Option ReqId) (n : ℕ) (t : Thread) (links : Links) : Type 0 where
+  pub none : NoStepBelow n t links
+  pub finds : FindsBelow n found t links
+
+-- and of all
+pub record StandsBut (found : Option ReqId) (t : Thread) (links : Links) : Type 0 where
+  pub none : NoStep t links
+  pub finds : Finds found t links
 
 -- ---- the next line
 
@@ -216,7 +233,7 @@ pub record IsIdle (Waits : Thread → Links → Type 0) (old : Thread) (before :
 abbrev pub Idles : (Thread → Links → Type 0) → Thread → Links → Thread → Links → Type 0
 Idles Waits old before new after = length after.entries ≤ length before.entries → IsIdle Waits old before new after
 
--- all that a thread waits for: a message that it can take, a piece that it can send back or send again, a pending action that it can do, a piece that it can serve on a device whose home it is, an open request that it can abort by a mark, cut, release at the turn's moment, hold or complete, a line that can go on, after Shutdown on thread 0 a device that it can remove, a handle that it can close by itself or a device that it can destruct, and room for the first of its outbox, if that may go there, and for the first message that is due
+-- all that a thread waits for: a message that it can take, a piece that it can send back or send again, a pending action that it can do, a piece that it can serve on a device whose home it is, an open request that it can abort by a mark, cut, keep without an answer, release at the turn's moment, hold or complete, or that asks for a decision that it can take, a line that can go on, after Shutdown on thread 0 a device that it can remove, a handle that it can close by itself or a device that it can destruct, and room for the first of its outbox, if that may go there, and for the first message that is due
 pub record IsWaiting (t : Thread) (links : Links) : Type 0 where
   pub message : NoMessage t links
   pub refusal : NoRefusal t links
@@ -228,8 +245,15 @@ pub record IsWaiting (t : Thread) (links : Links) : Type 0 where
   pub outbox : NothingToSend t links
   pub due : NothingToPost t links
   pub request : NoStep t links
+  pub decision : NoDecision t links
+
+-- nothing changed but what is noted to be asked of the registry, and the thread waits for this
+pub record IsStill (Waits : Thread → Links → Type 0) (old : Thread) (before : Links) (new : Thread) (after : Links) : Type 0 where
+  pub thread : new ≡ record old { calls = new.calls }
+  pub links : after ≡ before
+  pub waits : Waits new after
 
 -- a quiet turn changed nothing, and the thread waits for all this
 abbrev pub Quiets : Thread → Links → Thread → Links → Turned → Type 0
-Quiets old before new after Quiet = IsIdle IsWaiting old before new after
+Quiets old before new after Quiet = IsStill IsWaiting old before new after
 Quiets old before new after (Moved n) = Unit {0}

@@ -1,8 +1,9 @@
 -- What a thread does that asks the registry for nothing: what that leaves, what the thread waits for then, and when it wants the registry.
-use Rattle.std.specs.Prelude.{◌≡◌, ℕ, ◌^◌, Bool, true, false, cond, not, ◌&&◌, ◌||◌, ◌==◌, nat_lt, List, [], ◌++◌, length, None, is_some}
+use Rattle.std.specs.Prelude.{◌≡◌, ℕ, ◌^◌, Bool, true, false, cond, not, ◌&&◌, ◌||◌, ◌==◌, nat_lt, List, [], ◌∷◌, ◌++◌, length, Option, Some, None, is_some}
 use Rattle.std.specs.List.{list_any, range_with_len}
 use Rattle.bd_base.specs.declared.act.Act.{Act}
 use Rattle.bd_base.specs.declared.act.Entry.{Entry}
+use Rattle.bd_base.specs.declared.id.ReqId.{ReqId}
 use Rattle.bd_base.specs.declared.setup.Setup.{Setup}
 use Rattle.bd_machine.specs.Messages.{count_at}
 use Rattle.bd_machine.specs.Users.{dev_of}
@@ -15,8 +16,9 @@ use Rattle.bd_thread.specs.declared.turn.Turned.{Turned}
 use Rattle.bd_thread.specs.declared.turn.Turned.TheVariants.{Moved, Quiet}
 use Rattle.bd_thread.specs.Acted.{is_own, ActedBy}
 use Rattle.bd_thread.specs.Endings.{left_on}
+use Rattle.bd_thread.specs.Injections.{NoneAsks}
 use Rattle.bd_thread.specs.Lines.{job_now, outcome_now}
-use Rattle.bd_thread.specs.Waits.{IsIdle, IsWaiting, NoDestruct, NoLine, NoMessage, NoPiece, NoRefusal, NoRetry, NoStep, NoSubmission, NothingToPost, NothingToSend}
+use Rattle.bd_thread.specs.Waits.{IsStill, IsWaiting, NoDestruct, NoLine, NoMessage, NoPiece, NoRefusal, NoRetry, NoStep, NoSubmission, NothingToPost, NothingToSend}
 
 -- ---- what asks the registry for nothing
 
@@ -44,6 +46,15 @@ pub record NoLineAlone (t : Thread) (links : Links) : Type 0 where
   pub submission : NoSubmission t links
   pub outcome : outcome_now t links ≡ None
 
+-- something is noted to be asked of the registry
+abbrev pub has_calls : Thread → Bool
+has_calls t = nat_lt 0 (length t.calls.items)
+
+-- where nothing was noted and this was found, it is noted
+abbrev pub calls_with : Option ReqId → List ReqId → List ReqId
+calls_with (Some req) [] = req ∷ []
+calls_with found calls = calls
+
 -- all that a thread waits for but what it would ask the registry
 pub record IsWaitingAlone (t : Thread) (links : Links) : Type 0 where
   pub message : NoMessage t links
@@ -55,10 +66,12 @@ pub record IsWaitingAlone (t : Thread) (links : Links) : Type 0 where
   pub outbox : NothingToSend t links
   pub due : NothingToPost t links
   pub request : NoStep t links
+  -- and where nothing is noted to be asked, no open request waits for a decision
+  pub decision : has_calls t ≡ false → NoneAsks t links
 
--- quiet work changed nothing, and the thread waits for all this
+-- quiet work changed nothing but what is noted to be asked, and the thread waits for all this
 abbrev pub QuietsAlone : Thread → Links → Thread → Links → Turned → Type 0
-QuietsAlone old before new after Quiet = IsIdle IsWaitingAlone old before new after
+QuietsAlone old before new after Quiet = IsStill IsWaitingAlone old before new after
 QuietsAlone old before new after (Moved n) = Unit {0}
 
 -- ---- when it wants the registry
@@ -79,10 +92,10 @@ has_removal t links count = links.shut && (t.me == 0) && list_any (is_live_at li
 abbrev pub is_some_left : Thread → Links → ℕ → Bool
 is_some_left t links count = cond (nat_lt count (2 ^ 32)) (has_left t links count || has_removal t links count) true
 
--- something has to follow at the registry, the thread owes what an event does, its next line asks the registry, or something is left on the devices
+-- something has to follow at the registry, the thread owes what an event does, something is noted to be asked, its next line asks the registry, or something is left on the devices
 abbrev pub wants_registry : Thread → Links → Bool
 wants_registry t links =
-    is_some links.registry.state.between || list_any is_duty t.part.owed || asks_registry t.setup.now t.part (job_now t links) || is_some_left t links (length t.setup.now.devices)
+    is_some links.registry.state.between || list_any is_duty t.part.owed || has_calls t || asks_registry t.setup.now t.part (job_now t links) || is_some_left t links (length t.setup.now.devices)
 
 -- where a thread waits but for what it would ask the registry, and doesn't want that, it waits altogether: for its next line nothing can be done either
 abbrev pub NothingElseWaits : Type 0

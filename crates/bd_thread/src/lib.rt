@@ -7,6 +7,7 @@ mod disks;
 mod duties;
 mod ending;
 mod homes;
+mod injections;
 pub mod law;
 mod lines;
 mod links;

@@ -1,8 +1,9 @@
 //! The next step of open requests: where a turn did nothing else, each that can take one takes it.
-ghost use Rattle.std.specs.Prelude.{◌≡◌, ◌<◌, length, vec_len, OnOk};
+ghost use Rattle.std.specs.Prelude.{◌≡◌, ◌<◌, length, vec_len, IfOk, OnOk};
 ghost use Rattle.bd_thread.specs.Acted.{Acted};
 ghost use Rattle.bd_thread.specs.Requests.{KeepsTickets};
-ghost use Rattle.bd_thread.specs.Waits.{Idles, NoStep, NoStepOf};
+ghost use Rattle.bd_thread.specs.Injections.{is_inject, next_found};
+ghost use Rattle.bd_thread.specs.Waits.{Idles, StandsBut, StandsOf};
 ghost use Rattle.bd_thread.specs.Work.{AsksNothing};
 
 use crate::links::Links;
@@ -10,28 +11,51 @@ use crate::thread::Thread;
 use bd_base::{OutOfMemory, ReqId};
 use bd_flight::{Step, next_step};
 
+// Whether it is a decision of an error device.
+fn is_inject(step: Step) -> bool
+    ensures { result ≡ is_inject step }
+{
+    matches!(step, Step::Inject(_))
+}
+
+// The first that was found, or else this one, where it asks.
+fn next_found(asks: bool, req: ReqId, found: Option<ReqId>) -> Option<ReqId>
+    ensures { result ≡ next_found asks req found }
+{
+    match found {
+        Some(first) => Some(first),
+        None => { if asks { Some(req) } else { None } }
+    }
+}
+
 impl<'a> Thread<'a> {
-    // Takes the next step of the request, where that is one that threads take as yet: it is aborted by a
-    // mark, cut, released, held, or completed.
-    fn carry(&mut self, links: &mut Links, req: ReqId) -> Result<(), OutOfMemory>
+    /// Takes the next step of the request, where that is one that threads take as yet and that asks the registry for
+    /// nothing: it is aborted by a mark, cut, kept without an answer, released, held, or completed. Whether its next
+    /// step is a decision of an error device.
+    pub(crate) fn carry(&mut self, links: &mut Links, req: ReqId) -> Result<bool, OutOfMemory>
         requires { self.old.me < vec_len links.old.queues }
         ensures acted { OnOk result (Acted self.old links.old self.new links.new) }
         ensures tickets { OnOk result (KeepsTickets self.old → KeepsTickets self.new) }
-        ensures quiet { OnOk result (Idles (NoStepOf req) self.old links.old self.new links.new) }
+        ensures quiet { IfOk result (λ asks. Idles (StandsOf asks req) self.old links.old self.new links.new) }
         ensures alone { OnOk result (AsksNothing links.old links.new) }
     {
-        match next_step(&self.seen(links), self.setup, self.me, req) {
+        let step = next_step(&self.seen(links), self.setup, self.me, req);
+        match step {
             Step::Abort(cause) => {
                 self.stop(links, req, cause)?;
-                Ok(())
+                Ok(false)
             }
             Step::Cut => {
                 self.cut(links, req)?;
-                Ok(())
+                Ok(false)
+            }
+            Step::Pend => {
+                self.pend(links, req)?;
+                Ok(false)
             }
             _ => {
                 self.go_on(links, req)?;
-                Ok(())
+                Ok(is_inject(step))
             }
         }
     }
@@ -39,24 +63,31 @@ impl<'a> Thread<'a> {
     /// Carries the open requests on, in order of acceptance, up to the first that can take a step, and only
     /// where there are still as many entries as there were: in a turn that did nothing else. A request is
     /// cut as it is accepted, aborted as the mark comes, held or completed as its last piece comes back, and
-    /// released in the turn whose moment it is held until, so there is hardly ever one.
-    pub(crate) fn carry_all(&mut self, links: &mut Links, entries: usize) -> Result<(), OutOfMemory>
+    /// released in the turn whose moment it is held until, so there is hardly ever one. The first of them that waits for
+    /// a decision of an error device.
+    pub(crate) fn carry_all(
+        &mut self,
+        links: &mut Links,
+        entries: usize,
+    ) -> Result<Option<ReqId>, OutOfMemory>
         requires { self.old.me < vec_len links.old.queues }
         ensures acted { OnOk result (Acted self.old links.old self.new links.new) }
         ensures tickets { OnOk result (KeepsTickets self.old → KeepsTickets self.new) }
-        ensures quiet { OnOk result (entries ≡ length links.old.entries → Idles NoStep self.old links.old self.new links.new) }
+        ensures quiet { IfOk result (λ found. entries ≡ length links.old.entries → Idles (StandsBut found) self.old links.old self.new links.new) }
         ensures alone { OnOk result (AsksNothing links.old links.new) }
     {
+        let mut found = None;
         for place in 0..self.part.requests.len() {
             if entries != links.entries.len() {
-                return Ok(());
+                break;
             }
             let Some(request) = self.part.requests.as_slice().get(place) else {
-                return Ok(());
+                break;
             };
             let req = request.id;
-            self.carry(links, req)?;
+            let asks = self.carry(links, req)?;
+            found = next_found(asks, req, found);
         }
-        Ok(())
+        Ok(found)
     }
 }

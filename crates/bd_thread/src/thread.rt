@@ -6,7 +6,7 @@ ghost use Rattle.bd_thread.specs.Seen.{untaken};
 ghost use Rattle.bd_thread.specs.Starts.{IsNew};
 
 use crate::links::Links;
-use bd_base::{Act, OutOfMemory, Setup, Token};
+use bd_base::{Act, OutOfMemory, ReqId, Setup, Token};
 use bd_blocks::part_at_start;
 use bd_held::Held;
 use bd_links::add;
@@ -36,6 +36,9 @@ pub struct Thread<'a> {
     pub(crate) time: Time,
     // its requests that delay devices hold, in the order in which their holds end
     pub(crate) holds: Held,
+    // requests that were not cut as they were accepted, or that were found waiting for a decision of the registry: what
+    // is to be asked next, also some for which there is nothing to ask any more
+    pub(crate) calls: VecDeque<ReqId>,
 }
 
 impl<'a> Thread<'a> {
@@ -57,6 +60,7 @@ impl<'a> Thread<'a> {
             purse: Purse::new(alloc),
             time: Time::new(),
             holds: Held::new(alloc),
+            calls: VecDeque::new(alloc),
         })
     }
 
@@ -83,6 +87,7 @@ impl<'a> Thread<'a> {
             purse,
             time: _,
             holds: _,
+            calls: _,
         } = self;
         purse.abandon();
     }

@@ -50,7 +50,21 @@ pub(crate) fn tell(before: usize, after: usize) -> Turned
 }
 
 impl<'a> Thread<'a> {
-    // Submits through a handle, and cuts what was accepted.
+    // Cuts a request that was accepted, or notes it, where it can't be cut yet.
+    fn cut_or_note(&mut self, links: &mut Links, req: ReqId) -> Result<(), OutOfMemory>
+        requires { self.old.me < vec_len links.old.queues }
+        ensures acted { OnOk result (Acted self.old links.old self.new links.new) }
+        ensures tickets { OnOk result (KeepsTickets self.old → KeepsTickets self.new) }
+        ensures alone { OnOk result (AsksNothing links.old links.new) }
+    {
+        let pieces = self.cut(links, req)?;
+        if pieces == 0 {
+            self.note_call(req)?;
+        }
+        Ok(())
+    }
+
+    // Submits through a handle, and cuts what was accepted, or notes it where it can't be cut yet.
     #[tactic(auto, using(crate::proofs::Alone::alone_none))]
     fn submit_through(
         &mut self,
@@ -70,7 +84,7 @@ impl<'a> Thread<'a> {
         };
         match self.submit(links, handle, asked, ticket) {
             Ok(req) => {
-                self.cut(links, req)?;
+                self.cut_or_note(links, req)?;
                 Ok(true)
             }
             Err((refused, ticket)) => {
@@ -356,12 +370,22 @@ impl<'a> Thread<'a> {
         Ok(())
     }
 
+    // After a quiet turn nothing is left to be asked.
+    fn forget_calls(&mut self, turned: Turned)
+        ensures { self.new ≡ record self.old { calls = self.new.calls } }
+    {
+        if turned == Turned::Quiet {
+            self.calls.clear();
+        }
+    }
+
     /// A turn: at most 8 messages, at most 8 pieces of each base device that are sent again, the pending
     /// actions, at most 8 pieces of each base device whose home it is and that is no aio device, the releases
-    /// of held requests that are due, at most 8 lines of the script, the closes of handles whose device is being removed (after Shutdown of all) and the
+    /// of held requests that are due, at most 8 lines of the script, the decisions of error devices that requests wait
+    /// for, the closes of handles whose device is being removed (after Shutdown of all) and the
     /// destructs that are due, and what is still to be put, until the queue that it goes to is full; where
-    /// it did none of this, it cuts, holds or completes the first open request that can be, or sends back a piece that is
-    /// one too many at a device. `Quiet` only where nothing could be done. It answers out of memory also where a number runs out: after 2^62 requests
+    /// it did none of this, it cuts, holds or completes the first open request that can be or takes a decision on it, or
+    /// sends back a piece that is one too many at a device. `Quiet` only where nothing could be done. It answers out of memory also where a number runs out: after 2^62 requests
     /// of the thread, or where a count of messages, handles, pieces or lines would pass its type.
     pub fn turn(&mut self, links: &mut Links) -> Result<Turned, OutOfMemory>
         requires me { number_of self.old < vec_len links.old.queues }
@@ -378,11 +402,15 @@ impl<'a> Thread<'a> {
         self.serve_all(links)?;
         self.release_all(links)?;
         self.command_all(links)?;
+        self.call_noted(links, before)?;
         self.end_all(links)?;
         self.put_outbox(links)?;
         self.put_all_due(links)?;
-        self.carry_all(links, before)?;
+        let found = self.carry_all(links, before)?;
+        self.call_found(links, before, found)?;
         self.refuse_all(links, before)?;
-        Ok(tell(before, links.entries.len()))
+        let turned = tell(before, links.entries.len());
+        self.forget_calls(turned);
+        Ok(turned)
     }
 }

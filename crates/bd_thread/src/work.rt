@@ -6,12 +6,12 @@ ghost use Rattle.bd_thread.specs.Moves.{AddsMore};
 ghost use Rattle.bd_thread.specs.Requests.{KeepsTickets};
 ghost use Rattle.bd_thread.specs.Seen.{number_of};
 ghost use Rattle.bd_thread.specs.Waits.{Idles};
-ghost use Rattle.bd_thread.specs.Work.{has_left, is_left_at, put_count, taken_count, wants_registry, ActedAlone, AsksNothing, NoLineAlone, QuietsAlone};
+ghost use Rattle.bd_thread.specs.Work.{calls_with, has_left, is_left_at, put_count, taken_count, wants_registry, ActedAlone, AsksNothing, NoLineAlone, QuietsAlone};
 
 use crate::links::Links;
 use crate::thread::Thread;
 use crate::turn::{BATCH, Turned, tell};
-use bd_base::{DevId, OutOfMemory};
+use bd_base::{DevId, OutOfMemory, ReqId};
 use bd_rule_requests::count_at;
 use bd_rule_script::undecided_job;
 use bd_rule_view::Records;
@@ -35,11 +35,26 @@ impl<'a> Thread<'a> {
         Ok(())
     }
 
+    // After a quiet turn a request that was found waiting for a decision is noted, where none is.
+    fn note_found(&mut self, turned: Turned, found: Option<ReqId>) -> Result<(), OutOfMemory>
+        ensures thread { OnOk result (self.new ≡ record self.old { calls = self.new.calls }) }
+        ensures noted { OnOk result (turned ≡ Turned.Quiet → self.new.calls.items ≡ calls_with found self.old.calls.items) }
+    {
+        let Some(req) = found else {
+            return Ok(());
+        };
+        if turned == Turned::Quiet && self.calls.len() == 0 {
+            self.calls.push_back(req)?;
+        }
+        Ok(())
+    }
+
     /// A turn that asks the registry for nothing, and leaves it as it is: at most 8 messages, at most 8
     /// pieces of each base device that are sent again, at most 8 pieces of each store, the releases of held requests that are due, at most 8 lines of the script as far as they submit or only end, the
     /// destructs that are due, and what is still to be put, until the queue that it goes to is full;
     /// where it did none of this, it cuts, holds or completes the first open request that can be. `Quiet` only
-    /// where nothing could be done. It answers out of memory where `turn` does.
+    /// where nothing could be done; a request that waits for a decision is then noted for a turn that has the registry,
+    /// so that the thread wants that. It answers out of memory where `turn` does.
     pub fn work(&mut self, links: &mut Links) -> Result<Turned, OutOfMemory>
         requires { number_of self.old < vec_len links.old.queues }
         ensures acted { OnOk result (Acted self.old links.old self.new links.new) }
@@ -57,9 +72,11 @@ impl<'a> Thread<'a> {
         self.destruct_all(links)?;
         self.put_outbox(links)?;
         self.put_all_due(links)?;
-        self.carry_all(links, before)?;
+        let found = self.carry_all(links, before)?;
         self.refuse_all(links, before)?;
-        Ok(tell(before, links.entries.len()))
+        let turned = tell(before, links.entries.len());
+        self.note_found(turned, found)?;
+        Ok(turned)
     }
 
     // Whether on one of these devices a handle is left that the thread closes by itself.
@@ -79,13 +96,16 @@ impl<'a> Thread<'a> {
     }
 
     /// Whether a turn could use the registry, by what the thread sees of it: something has to follow
-    /// there, the thread owes something that an event does, its next line opens, closes, claims or
+    /// there, the thread owes something that an event does, a request is noted for a decision, its next line opens, closes, claims or
     /// removes, a handle whose remove event it took may be closed, or, after Shutdown on thread 0, a
     /// device is left to remove. It takes no memory.
     pub fn wants_registry(&self, links: &Links) -> bool
         ensures { result ≡ wants_registry self.now links.now }
     {
-        if links.registry.between().is_some() || has_duty(self.part.owed.as_slice()) {
+        if links.registry.between().is_some()
+            || has_duty(self.part.owed.as_slice())
+            || self.calls.len() > 0
+        {
             return true;
         }
         let job = undecided_job(self.setup, self.me, &self.part);

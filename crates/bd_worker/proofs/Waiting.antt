@@ -8,7 +8,7 @@ use Rattle.bd_thread.specs.declared.thread.Thread.{Thread}
 use Rattle.bd_thread.specs.declared.turn.Turned.{Turned}
 use Rattle.bd_thread.specs.declared.turn.Turned.TheVariants.{Moved, Quiet}
 use Rattle.bd_thread.specs.Waits.{IsWaiting, Quiets}
-use Rattle.bd_thread.specs.Work.{wants_registry, QuietsAlone}
+use Rattle.bd_thread.specs.Work.{wants_registry, IsWaitingAlone, QuietsAlone}
 use Rattle.bd_worker.specs.declared.seat.Seat.{Seat}
 use Rattle.bd_worker.specs.declared.worker.Worker.{Worker}
 use Rattle.bd_worker.specs.Waits.{begun_seat, Idles, IdlesAlone, IdlesWith, QuietTurns, Receives, Sends}
@@ -22,20 +22,29 @@ emptied l = record l { entries = [] }
 emptied_is : (l : Links) → l.entries ≡ [] → emptied l ≡ l
 emptied_is l empty = ap (λ (es : List Entry). record l { entries = es }) (sym empty)
 
+-- but for what is noted to be asked, a thread that is this one is that one
+noted_as : (old new t : Thread) → new ≡ t → t ≡ record old { calls = t.calls } → new ≡ record old { calls = new.calls }
+noted_as old new t same is = same ∙ is ∙ ap (λ (x : Thread). let y : Thread = record old { calls = x.calls } in y) (sym same)
+
 pub idles_alone : (old new : Worker) (t : Thread) (l : Links) (turned : Turned) → old.links.entries ≡ [] → QuietsAlone old.thread old.links t l turned → new.thread ≡ t → new.links ≡ emptied l → IdlesAlone old new turned
-idles_alone old new t l Quiet empty q thread links = record { thread = thread ∙ q.thread; links = links ∙ ap emptied q.links ∙ emptied_is old.links empty; waits = q.waits }
+idles_alone old new t l Quiet empty q thread links =
+    let links-are : new.links ≡ old.links = links ∙ ap emptied q.links ∙ emptied_is old.links empty in
+    record {
+      thread = noted_as old.thread new.thread t thread q.thread;
+      links = links-are;
+      waits = subst (λ (x : Thread). IsWaitingAlone x new.links) (sym thread) (subst (λ (x : Links). IsWaitingAlone t x) (q.links ∙ sym links-are) q.waits);
+    }
 idles_alone old new t l (Moved n) empty q thread links = tt
 
 pub idles_with : (lent : Registered) (old new : Worker) (r : Registered) (t : Thread) (l : Links) (turned : Turned) → old.links.entries ≡ [] → r.state ≡ lent.state
     → Quiets old.thread (record old.links { registry = r }) t l turned → new.thread ≡ t → new.links ≡ emptied l → IdlesWith lent old new turned
 idles_with lent old new r t l Quiet empty state q thread links =
     let links-are : new.links ≡ record old.links { registry = r } = links ∙ ap emptied q.links ∙ emptied_is (record old.links { registry = r }) empty in
-    let thread-is : new.thread ≡ old.thread = thread ∙ q.thread in
     record {
-      thread = thread-is;
+      thread = noted_as old.thread new.thread t thread q.thread;
       links = links-are ∙ ap (λ (x : Registered). record old.links { registry = x }) (sym (ap (λ (x : Links). x.registry) links-are));
       registry = ap (λ (x : Links). x.registry.state) links-are ∙ state;
-      waits = subst (λ (x : Thread). IsWaiting x new.links) (sym thread-is) (subst (λ (x : Links). IsWaiting old.thread x) (sym links-are) q.waits);
+      waits = subst (λ (x : Thread). IsWaiting x new.links) (sym thread) (subst (λ (x : Links). IsWaiting t x) (q.links ∙ sym links-are) q.waits);
     }
 idles_with lent old new r t l (Moved n) empty state q thread links = tt
 

@@ -7,20 +7,20 @@ use Rattle.bd_seat.specs.Outgoing.{FlushedAll}
 use Rattle.bd_thread.specs.declared.turn.Turned.{Turned}
 use Rattle.bd_thread.specs.declared.turn.Turned.TheVariants.{Moved, Quiet}
 use Rattle.bd_thread.specs.Asleep.{begun_at}
-use Rattle.bd_thread.specs.Waits.{IsIdle, IsWaiting}
+use Rattle.bd_thread.specs.Waits.{IsStill, IsWaiting}
 use Rattle.bd_thread.specs.Work.{wants_registry, IsWaitingAlone}
 use Rattle.bd_worker.specs.declared.seat.Seat.{Seat}
 use Rattle.bd_worker.specs.declared.worker.Worker.{Worker}
 
 -- ---- a worker
 
--- its thread and its links are as before, and it waits for all but what it would ask the registry
+-- its thread, but for what is noted to be asked, and its links are as before, and it waits for all but what it would ask the registry
 abbrev pub IsIdleAlone : Worker → Worker → Type 0
-IsIdleAlone old new = IsIdle IsWaitingAlone old.thread old.links new.thread new.links
+IsIdleAlone old new = IsStill IsWaitingAlone old.thread old.links new.thread new.links
 
 -- the same, but that its registry is what the one is that it was lent, and with that it waits altogether
 pub record IsIdleWith (lent : Registered) (old new : Worker) : Type 0 where
-  pub thread : new.thread ≡ old.thread
+  pub thread : new.thread ≡ record old.thread { calls = new.thread.calls }
   pub links : new.links ≡ record old.links { registry = new.links.registry }
   pub registry : new.links.registry.state ≡ lent.state
   pub waits : IsWaiting new.thread new.links

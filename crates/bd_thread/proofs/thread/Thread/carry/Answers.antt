@@ -1,12 +1,15 @@
-use Rattle.std.proofs.Common.{◌≡◌, false, sym, ◌∙◌, ap}
+use Rattle.std.proofs.Common.{◌≡◌, ◌&&◌, Bool, true, false, refl, sym, ◌∙◌, ap}
+use Rattle.bd_flight.specs.declared.next.Step.{Step}
 use Rattle.bd_flight.specs.declared.next.Step.TheVariants as steps
 use Rattle.bd_flight.specs.Next.{may_take, next_step}
 use Rattle.bd_machine.specs.View.{View}
+use Rattle.bd_thread.specs.Injections.{asks_decision, is_inject}
 use Rattle.bd_thread.specs.Seen.{view_of}
-use Rattle.bd_thread.specs.Waits.{is_abort_or_cut}
+use Rattle.bd_thread.specs.Waits.{is_taken_alone}
 use Rattle.bd_thread.proofs.Alone.{cuts_alone, stops_alone}
 use Rattle.bd_thread.proofs.Carried.{abort_is_due, cut_is_due, other_step}
 use Rattle.bd_thread.proofs.Idle.{cuts_more, stops_more}
+use Rattle.bd_thread.proofs.Injecting.{pend_is_due, pends_alone, pends_more}
 use Rattle.bd_thread.proofs.thread.Thread.carry.Goals as goal
 
 pub returns-in_ok-stop-in-Abort : goal.returns-in_ok-stop-in-Abort
@@ -37,17 +40,43 @@ returns-in_ok-cut-in-Cut c =
       alone = cuts_alone req t links c.cut.new.self c.cut.new.links n c.in_ok-cut-in-Cut.ensures.cut;
     }
 
+pub returns-in_ok-pend-in-Pend : goal.returns-in_ok-pend-in-Pend
+returns-in_ok-pend-in-Pend c =
+    let t = c.args.self.now in
+    let links = c.args.links.now in
+    let req = c.args.req in
+    let done = c.in_ok-pend-in-Pend.field-0 in
+    let may = ap (λ (v : View). may_take t.setup.now t.me v req steps.Pend) (sym c.seen.ensures) ∙ c.in-Pend.ensures.allowed in
+    record {
+      acted = c.in_ok-pend-in-Pend.ensures.acted;
+      tickets = c.in_ok-pend-in-Pend.ensures.tickets;
+      quiet = λ few. absurd (pends_more req t links c.pend.new.self c.pend.new.links done (pend_is_due req t links may) c.in_ok-pend-in-Pend.ensures.pends few);
+      alone = pends_alone req t links c.pend.new.self c.pend.new.links done c.in_ok-pend-in-Pend.ensures.pends;
+    }
+
+-- a step that the rules let it take, which is a decision or not
+asks_as : (step : Step) (may : Bool) → may ≡ true → is_inject step ≡ is_inject step && may
+asks_as step may h = go (is_inject step) may h
+  where
+    go : (a b : Bool) → b ≡ true → a ≡ a && b
+    go true true e = refl
+    go true false e = sym e
+    go false b e = refl
+
 pub returns-in_ok-go_on-in_default : goal.returns-in_ok-go_on-in_default
 returns-in_ok-go_on-in_default c =
     let t = c.args.self.now in
     let links = c.args.links.now in
     let req = c.args.req in
     let gone = c.in_ok-go_on-in_default.ensures in
-    let step-is = c.next_step.ensures.step ∙ ap (λ (v : View). next_step t.setup.now t.me v req) c.seen.ensures in
-    let stays : is_abort_or_cut (next_step t.setup.now t.me (view_of t links) req) ≡ false = sym (ap is_abort_or_cut step-is) ∙ other_step c.next_step.result c.in_default.not-Cut c.in_default.not-Abort in
+    let step-is = c.next_step-step.ensures.step ∙ ap (λ (v : View). next_step t.setup.now t.me v req) c.seen.ensures in
+    let stays : is_taken_alone (next_step t.setup.now t.me (view_of t links) req) ≡ false = sym (ap is_taken_alone step-is) ∙ other_step c.next_step-step.result c.in_default.not-Cut c.in_default.not-Pend c.in_default.not-Abort in
+    let may : may_take t.setup.now t.me (view_of t links) req (next_step t.setup.now t.me (view_of t links) req) ≡ true =
+    sym (ap (may_take t.setup.now t.me (view_of t links) req) step-is) ∙ ap (λ (v : View). may_take t.setup.now t.me v req c.next_step-step.result) (sym c.seen.ensures) ∙ c.next_step-step.ensures.allowed in
+    let asks : is_inject c.next_step-step.result ≡ asks_decision t links req = ap is_inject step-is ∙ asks_as (next_step t.setup.now t.me (view_of t links) req) (may_take t.setup.now t.me (view_of t links) req (next_step t.setup.now t.me (view_of t links) req)) may in
     record {
       acted = gone.acted;
       tickets = gone.tickets;
-      quiet = λ few. let i = gone.quiet few in record { thread = i.thread; links = i.links; waits = record { step = stays; still = i.waits } };
+      quiet = λ few. let i = gone.quiet few in record { thread = i.thread; links = i.links; waits = record { none = record { step = stays; still = i.waits }; asks_is = c.is_inject.ensures ∙ asks } };
       alone = gone.alone;
     }

@@ -1,8 +1,9 @@
-use Rattle.std.proofs.Common.{length, ◌∙◌, ap}
+use Rattle.std.proofs.Common.{◌≡◌, length, sym, ◌∙◌, ap}
 use Rattle.bd_thread.specs.Moves.{turned_of}
 use Rattle.bd_thread.proofs.Alone.{acted_alone, alone_then}
 use Rattle.bd_thread.proofs.Delaying.{then_released}
 use Rattle.bd_thread.proofs.Going.{acted_then}
+use Rattle.bd_thread.proofs.Waiting.{acted_noted, tickets_noted}
 use Rattle.bd_thread.proofs.Working.{quiet_alone_by, work_idle}
 use Rattle.bd_thread.proofs.thread.Thread.work.Goals as goal
 
@@ -15,8 +16,8 @@ returns c =
     let destructed = acted_then _ _ _ _ _ _ submitted c.in_ok-destruct_all.ensures.acted in
     let sent = acted_then _ _ _ _ _ _ destructed c.in_ok-put_outbox.ensures.acted in
     let posted = acted_then _ _ _ _ _ _ sent c.in_ok-put_all_due.ensures.acted in
-    let carried = acted_then _ _ _ _ _ _ posted c.in_ok-carry_all.ensures.acted in
-    let acted = acted_then _ _ _ _ _ _ carried c.in_ok-refuse_all.ensures.acted in
+    let carried = acted_then _ _ _ _ _ _ posted c.in_ok-found.ensures.acted in
+    let acted = acted_noted _ _ c.refuse_all.new.self _ c.note_found.new.self c.in_ok-note_found.ensures.thread (acted_then _ _ _ _ _ _ carried c.in_ok-refuse_all.ensures.acted) in
     let alone-retried = alone_then _ _ _ c.in_ok-receive_all.ensures.alone c.in_ok-retry_all.ensures.alone in
     let alone-served = alone_then _ _ _ alone-retried c.in_ok-serve_all.ensures.alone in
     let alone-released = alone_then _ _ _ alone-served c.in_ok-release_all.ensures.alone in
@@ -24,26 +25,28 @@ returns c =
     let alone-destructed = alone_then _ _ _ alone-submitted c.in_ok-destruct_all.ensures.alone in
     let alone-sent = alone_then _ _ _ alone-destructed c.in_ok-put_outbox.ensures.alone in
     let alone-posted = alone_then _ _ _ alone-sent c.in_ok-put_all_due.ensures.alone in
-    let alone-carried = alone_then _ _ _ alone-posted c.in_ok-carry_all.ensures.alone in
+    let alone-carried = alone_then _ _ _ alone-posted c.in_ok-found.ensures.alone in
     let alone = alone_then _ _ _ alone-carried c.in_ok-refuse_all.ensures.alone in
     let before = c.args.links.now in
     let piece-acted = acted_then _ _ _ _ _ _ c.in_ok-serve_all.ensures.acted c.in_ok-release_all.ensures.acted in
     let piece = then_released _ _ _ _ _ _ c.in_ok-serve_all.ensures.acted c.in_ok-release_all.ensures.acted c.in_ok-serve_all.ensures.quiet c.in_ok-release_all.ensures.quiet in
-    let answer = c.tell.ensures ∙ ap (λ n. turned_of n c.len.result) c.len-before.ensures ∙ ap (λ n. turned_of (length before.entries) n) c.len.ensures in
+    let answer = c.tell-turned.ensures ∙ ap (λ n. turned_of n c.len.result) c.len-before.ensures ∙ ap (λ n. turned_of (length before.entries) n) c.len.ensures in
     record {
       acted = acted;
       tickets = λ keeps.
           let received = c.in_ok-retry_all.ensures.tickets (c.in_ok-receive_all.ensures.tickets keeps) in
           let done = c.in_ok-destruct_all.ensures.tickets (c.in_ok-submit_all.ensures.tickets (c.in_ok-release_all.ensures.tickets (c.in_ok-serve_all.ensures.tickets received))) in
           let put = c.in_ok-put_all_due.ensures.tickets (c.in_ok-put_outbox.ensures.tickets done) in
-          c.in_ok-refuse_all.ensures.tickets (c.in_ok-carry_all.ensures.tickets put);
+          tickets_noted c.refuse_all.new.self c.note_found.new.self c.in_ok-note_found.ensures.thread (c.in_ok-refuse_all.ensures.tickets (c.in_ok-found.ensures.tickets put));
       turned = answer;
-      quiet = quiet_alone_by c.args.self.now before c.refuse_all.new.self c.refuse_all.new.links c.tell.result answer
-          (work_idle _ _ _ _ _ _ _ _ _ _ _ _ _ _ _ _ _ _ _ _
+      quiet = quiet_alone_by c.in_ok-found.found c.args.self.now before c.refuse_all.new.self c.refuse_all.new.links c.note_found.new.self c.tell-turned.result answer
+          c.in_ok-note_found.ensures.thread
+          c.in_ok-note_found.ensures.noted
+          (work_idle c.in_ok-found.found _ _ _ _ _ _ _ _ _ _ _ _ _ _ _ _ _ _ _ _
           c.in_ok-receive_all.ensures.acted c.in_ok-retry_all.ensures.acted piece-acted c.in_ok-submit_all.ensures.acted c.in_ok-destruct_all.ensures.acted
-          c.in_ok-put_outbox.ensures.acted c.in_ok-put_all_due.ensures.acted c.in_ok-carry_all.ensures.acted c.in_ok-refuse_all.ensures.acted
+          c.in_ok-put_outbox.ensures.acted c.in_ok-put_all_due.ensures.acted c.in_ok-found.ensures.acted c.in_ok-refuse_all.ensures.acted
           c.in_ok-receive_all.ensures.quiet c.in_ok-retry_all.ensures.quiet piece c.in_ok-submit_all.ensures.quiet c.in_ok-destruct_all.ensures.quiet
           c.in_ok-put_outbox.ensures.quiet c.in_ok-put_all_due.ensures.quiet
-          (λ same. c.in_ok-carry_all.ensures.quiet (c.len-before.ensures ∙ same)) (λ same. c.in_ok-refuse_all.ensures.quiet (c.len-before.ensures ∙ same)));
+          (λ same. c.in_ok-found.ensures.quiet (c.len-before.ensures ∙ same)) (λ same. c.in_ok-refuse_all.ensures.quiet (c.len-before.ensures ∙ same)));
       alone = acted_alone _ _ _ _ acted alone;
     }
