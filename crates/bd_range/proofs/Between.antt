@@ -26,10 +26,10 @@ both_true true b h = (refl, h)
 both_true false b h = (h, absurd (let no : false ≡ true = h in cc))
 
 -- where a lock begins that overlaps a range
-begins_low : (first count a n : ℕ) → n ≤ 512 → overlaps first count a n ≡ true → first - 511 ≤ a
+pub begins_low : (first count a n : ℕ) → n ≤ 512 → overlaps first count a n ≡ true → first - 511 ≤ a
 begins_low first count a n short h = let low = ltb-true first (a + n) (both_true _ _ h).0 in omega (arith, low, short)
 
-begins_before : (first count a n : ℕ) → overlaps first count a n ≡ true → a < first + count
+pub begins_before : (first count a n : ℕ) → overlaps first count a n ≡ true → a < first + count
 begins_before first count a n h = ltb-true a (first + count) (both_true _ _ h).1
 
 inside : (a b : Bool) → a ≡ true → b ≡ false → (a && not b) ≡ true

@@ -2,13 +2,15 @@
 use Rattle.std.proofs.Common.{◌≡◌, ℕ, ◌<◌, ◌≤◌, Bool, true, false, cond, ◌&&◌, ◌==◌, List, [], ◌∷◌, inl, inr, refl, sym, ◌∙◌, ap, arith}
 use Rattle.std.proofs.lemmas.Bool.{cases_lt}
 use Rattle.std.proofs.lemmas.Bool.Decides.{nat_tests}
+use Rattle.std.proofs.lemmas.Cmp.{nat_cmp_total, on_total, then_total}
 use Rattle.std.specs.declared.cmp.Ordering.{Ordering}
 use Rattle.std.specs.declared.cmp.Ordering.TheVariants.{Less, Equal, Greater}
 use Rattle.std.specs.Ordering.{is_eq, is_le, nat_cmp, ordering_then}
-use Rattle.std.specs.Cmp.{nat_cmp_is}
+use Rattle.std.specs.Cmp.{IsTotalOrder, nat_cmp_is}
 use Rattle.std.specs.Map.{remove_entry}
 use Rattle.bd_base.specs.declared.id.ReqId.{ReqId}
 use Rattle.bd_range.specs.Locks.{is_named, key_cmp, key_of, LockKey}
+use Rattle.bd_range.specs.Near.{is_key}
 
 eq_then : (o p : Ordering) → is_eq (ordering_then o p) ≡ (is_eq o && is_eq p)
 eq_then Less p = refl
@@ -18,15 +20,21 @@ eq_then Greater p = refl
 eq_cmp : (a b : ℕ) → is_eq (nat_cmp a b) ≡ (b == a)
 eq_cmp a b = grind (arith, nat_tests)
 
+-- keys compare as equal where they are the same
+pub eq_key : (a b : LockKey) → is_eq (key_cmp a b) ≡ is_key b a
+eq_key a b =
+    eq_then (ordering_then (nat_cmp a.0 b.0) (nat_cmp a.1 b.1)) (nat_cmp a.2 b.2)
+    ∙ ap (λ c. c && is_eq (nat_cmp a.2 b.2)) (eq_then (nat_cmp a.0 b.0) (nat_cmp a.1 b.1))
+    ∙ ap (λ c. c && is_eq (nat_cmp a.1 b.1) && is_eq (nat_cmp a.2 b.2)) (eq_cmp a.0 b.0)
+    ∙ ap (λ c. (b.0 == a.0) && c && is_eq (nat_cmp a.2 b.2)) (eq_cmp a.1 b.1)
+    ∙ ap (λ c. (b.0 == a.0) && (b.1 == a.1) && c) (eq_cmp a.2 b.2)
+
 -- a lock compares as equal to a key where it has its name
 pub named : (req : ReqId) (first : ℕ) (key : LockKey) → is_eq (key_cmp (key_of req first) key) ≡ is_named req first key
-named req first key =
-    let both = ordering_then (nat_cmp first key.0) (nat_cmp req.thread key.1) in
-    eq_then both (nat_cmp req.seq key.2)
-    ∙ ap (λ b. b && is_eq (nat_cmp req.seq key.2)) (eq_then (nat_cmp first key.0) (nat_cmp req.thread key.1))
-    ∙ ap (λ b. b && is_eq (nat_cmp req.thread key.1) && is_eq (nat_cmp req.seq key.2)) (eq_cmp first key.0)
-    ∙ ap (λ b. (key.0 == first) && b && is_eq (nat_cmp req.seq key.2)) (eq_cmp req.thread key.1)
-    ∙ ap (λ b. (key.0 == first) && (key.1 == req.thread) && b) (eq_cmp req.seq key.2)
+named req first key = eq_key (key_of req first) key
+
+pub key_total : IsTotalOrder key_cmp
+key_total = then_total (then_total (on_total (λ (k : LockKey). k.0) nat_cmp_total) (on_total (λ (k : LockKey). k.1) nat_cmp_total)) (on_total (λ (k : LockKey). k.2) nat_cmp_total)
 
 -- two tests that agree take out the same
 pub removed_same : {K X : Type 0} (p q : K → Bool) → ((k : K) → p k ≡ q k) → (es : List (K × X)) → remove_entry p es ≡ remove_entry q es

@@ -1,3 +1,4 @@
 mod Between
 mod Keys
 mod Held
+mod Noted

@@ -2,7 +2,9 @@
 #![tactic(auto)]
 
 mod locks;
+mod near;
 mod piece;
+mod rival;
 
 pub use locks::Locks;
 pub use piece::HeldPiece;

@@ -1,26 +1,27 @@
 //! The locks of a base device.
-ghost use Rattle.std.specs.Prelude.{◌≡◌, ◌≤◌, ◌↔◌, find, length, option_copied, position, IfOk, IsTrue, OnErr, OnOk};
+ghost use Rattle.std.specs.Prelude.{◌≡◌, ◌+◌, ◌<◌, ◌≤◌, ◌^◌, ◌↔◌, find, length, option_copied, position, IfOk, IsTrue, OnErr, OnOk};
 ghost use Rattle.std.specs.List.{list_any};
-ghost use Rattle.bd_range.specs.Locks.{first_free, held_by, is_free, is_piece, is_rival, may_go, no_locks, overlaps, stops, with_lock, without_held, without_lock};
+ghost use Rattle.bd_range.specs.Locks.{first_free, held_by, is_free, is_piece, is_rival, may_go, no_locks, stops, with_lock, without_held, without_lock};
 
+use crate::near::{Near, cluster_of, copy_near, forget, note, rival_near};
 use crate::piece::HeldPiece;
+use crate::rival::{Key, is_rival};
 use bd_base::{OutOfMemory, ReqId, Rows};
 use std::alloc::Global;
-use std::collections::BTreeMap;
 use std::collections::btree_map::Range;
+use std::collections::{BTreeMap, HashMap};
 use std::marker::Model;
 use std::ops::Bound;
 
 // The most blocks that a lock has. So a lock that overlaps a range begins less than that before it.
 const MOST: u64 = 512;
 
-// A lock's first block, and the thread and the number of its request.
-type Key = (u64, u32, u64);
-
 /// The locks of requests on ranges of a base device's blocks, and the pieces that they hold back.
 #[derive(Drop)]
 pub struct Locks {
     locks: BTreeMap<Key, u64>,
+    near: Near,
+    alloc: Global,
     held: Rows<HeldPiece>,
 }
 
@@ -28,26 +29,13 @@ impl Model for Locks {
     ghost use Rattle.std.specs.Prelude.{◌≤◌, All};
     ghost use Rattle.std.specs.BTreeMap.{values};
     ghost use Rattle.bd_range.specs.Locks.{LockRows};
+    ghost use Rattle.bd_range.specs.Near.{AreNoted};
 
     ghost Value = { LockRows };
 
     ghost view = { λ l. record { locks = l.locks.entries; held = l.held } };
 
-    ghost invariant = { λ l. All (λ n. n ≤ 512) (values l.locks) };
-}
-
-// Whether n blocks from a on and m blocks from b on have a block in common.
-fn overlaps(a: u64, n: u64, b: u64, m: u64) -> bool
-    ensures { result ≡ overlaps a n b m }
-{
-    u128::from(a) < u128::from(b) + u128::from(m) && u128::from(b) < u128::from(a) + u128::from(n)
-}
-
-// Whether a lock is another request's, and overlaps a range.
-fn is_rival(req: ReqId, first: u64, count: u64, key: Key, blocks: u64) -> bool
-    ensures { result ≡ is_rival req first count (key, blocks) }
-{
-    !(key.1 == req.thread && key.2 == req.seq) && overlaps(first, count, key.0, blocks)
+    ghost invariant = { λ l. All (λ n. n ≤ 512) (values l.locks) × AreNoted l.near l.locks };
 }
 
 // Whether one of some locks is another request's, and overlaps a range.
@@ -86,25 +74,53 @@ impl Locks {
     {
         Locks {
             locks: BTreeMap::new(alloc),
+            near: HashMap::new(alloc),
+            alloc,
             held: Rows::new(alloc),
         }
     }
 
-    /// Whether a request may lock a range: no lock of another overlaps it. It takes no memory.
-    pub fn may_lock(&self, req: ReqId, first: u64, count: u64) -> bool
-        ensures { result ≡ is_free self.now.locks req first count }
+    // Whether a lock of another request overlaps a range of at most 512 blocks: it begins in one of two clusters.
+    fn has_rival_near(&self, req: ReqId, first: u64, count: u64) -> bool
+        requires short { count ≤ 512 }
+        requires ends { first + count < 2 ^ 64 }
+        ensures { result ≡ list_any (is_rival req first count) self.now.locks }
+    {
+        if self.locks.len() == 0 {
+            return false;
+        }
+        let low = cluster_of(first.saturating_sub(MOST - 1));
+        let high = cluster_of(first + count);
+        rival_near(&self.near, low, req, first, count)
+            || (low != high && rival_near(&self.near, high, req, first, count))
+    }
+
+    // Whether a lock of another request overlaps a range, of any length.
+    fn has_rival_between(&self, req: ReqId, first: u64, count: u64) -> bool
+        ensures { result ≡ list_any (is_rival req first count) self.now.locks }
     {
         let from = (first.saturating_sub(MOST - 1), 0, 0);
         let to = match first.checked_add(count) {
             Some(end) => Bound::Excluded((end, 0, 0)),
             None => Bound::Unbounded,
         };
-        !has_rival(
+        has_rival(
             self.locks.range((Bound::Included(from), to)),
             req,
             first,
             count,
         )
+    }
+
+    /// Whether a request may lock a range: no lock of another overlaps it. It takes no memory.
+    pub fn may_lock(&self, req: ReqId, first: u64, count: u64) -> bool
+        ensures { result ≡ is_free self.now.locks req first count }
+    {
+        if count <= MOST && first <= u64::MAX - count {
+            !self.has_rival_near(req, first, count)
+        } else {
+            !self.has_rival_between(req, first, count)
+        }
     }
 
     /// A request locks a range. One of more than 512 blocks, which no request has, answers out of memory.
@@ -117,15 +133,24 @@ impl Locks {
         if count > MOST {
             return Err(OutOfMemory);
         }
-        let _ = self.locks.insert((first, req.thread, req.seq), count)?;
-        Ok(())
+        let key = (first, req.thread, req.seq);
+        note(&mut self.near, self.alloc, key, count)?;
+        match self.locks.insert(key, count) {
+            Ok(_) => Ok(()),
+            Err(_) => {
+                forget(&mut self.near, key);
+                Err(OutOfMemory)
+            }
+        }
     }
 
     /// The lock of a request from this block on goes; the locks of others stay. It takes no memory.
     pub fn unlock(&mut self, req: ReqId, first: u64)
         ensures { self.new ≡ without_lock self.old req first }
     {
-        let _ = self.locks.remove(&(first, req.thread, req.seq));
+        let key = (first, req.thread, req.seq);
+        let _ = self.locks.remove(&key);
+        forget(&mut self.near, key);
     }
 
     /// Whether there is no lock, and no piece waits. It takes no memory.
@@ -181,6 +206,8 @@ impl Locks {
     {
         Ok(Locks {
             locks: copy_of(&self.locks)?,
+            near: copy_near(&self.near)?,
+            alloc: self.alloc,
             held: self.held.copy()?,
         })
     }
