@@ -22,7 +22,7 @@ is_lock a b = is_key a.0 b.0 && (a.1 == b.1)
 abbrev pub is_other : LockKey → LockKey × ℕ → Bool
 is_other key lock = not (is_key lock.0 key)
 
--- there is a lock, and it has so many blocks
+-- there is a lock, of this number of blocks
 abbrev pub is_length : Option ℕ → ℕ → Bool
 is_length None blocks = false
 is_length (Some b) blocks = blocks == b

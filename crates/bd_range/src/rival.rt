@@ -14,7 +14,7 @@ fn overlaps(a: u64, n: u64, b: u64, m: u64) -> bool
 /// A lock's first block, and the thread and the number of its request.
 pub(crate) type Key = (u64, u32, u64);
 
-/// Whether a lock of this key, with so many blocks, is another request's, and overlaps a range.
+/// Whether a lock of this key and number of blocks is another request's, and overlaps a range.
 pub(crate) fn is_rival(req: ReqId, first: u64, count: u64, key: Key, blocks: u64) -> bool
     ensures { result ≡ is_rival req first count (key, blocks) }
 {
