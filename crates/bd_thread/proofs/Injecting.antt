@@ -1,7 +1,6 @@
 -- Decisions of error devices and what is kept without an answer, by the local rules.
-use Rattle.std.proofs.Common.{◌≡◌, ℕ, ◌+◌, ◌≤◌, Bool, true, false, cond, ◌&&◌, ◌==◌, List, [], ◌∷◌, length, is_none, is_some, Option, Some, None, refl, sym, ◌∙◌, ap, ap₂, subst, eq-eqb, arith}
-use Rattle.std.proofs.lemmas.Bool.{and_from, and_parts}
-use Rattle.std.proofs.lemmas.List.{length-append}
+use Rattle.std.proofs.Common.{◌≡◌, ℕ, ◌+◌, ◌≤◌, Bool, true, false, cond, ◌&&◌, List, ◌∷◌, length, is_none, is_some, Option, Some, None, refl, sym, ◌∙◌, ap, ap₂, subst, eq-eqb, arith}
+use Rattle.std.proofs.lemmas.Bool.{and_from}
 use Rattle.std.proofs.lemmas.Option.{same_Some}
 use mathlib.Core.Path.{fun_ext}
 use Rattle.bd_base.specs.declared.act.Act.{Act}
@@ -38,14 +37,13 @@ use Rattle.bd_machine.proofs.Tables.{request_same}
 use Rattle.bd_rule_view.specs.Came.{came_between}
 use Rattle.bd_turns.specs.declared.queue.Message.{Message}
 use Rattle.bd_turns.specs.Local.{Local}
-use Rattle.bd_links.specs.Entries.{longer}
 use Rattle.bd_links.specs.Queues.{queues_of}
 use Rattle.bd_tokens.specs.Tokens.{here_in}
 use Rattle.bd_thread.specs.declared.links.Links.{Links}
 use Rattle.bd_thread.specs.declared.thread.Thread.{Thread}
 use Rattle.bd_thread.specs.Acted.{Acted}
 use Rattle.bd_thread.specs.Injections.{asked_of, asks_decision, decided_registry, decision_asked, decision_of, is_inject, may_pend_now, pend_due, DecidedBy, Decides, DecidesBy, Finds, IsDecided, IsPended, IsUndecided, NoDecision, NoDecisionOf, Pends, PendsBy, StandsAsked, TakesDecision}
-use Rattle.bd_thread.specs.Lines.{asked_registry, may_ask, may_ask_after}
+use Rattle.bd_thread.specs.Lines.{may_ask, may_ask_after}
 use Rattle.bd_thread.specs.Requests.{KeepsTickets}
 use Rattle.bd_thread.specs.Seen.{local, local_at, untaken, view_of}
 use Rattle.bd_thread.specs.Waits.{Idles, IsIdle}
@@ -235,14 +233,6 @@ decided_none : (req : ReqId) (dev : DevId) (r : OpenRequest) (old : Thread) (bef
 decided_none req dev r old before new after (answers.Injected decision) none is = cc
 decided_none req dev r old before new after answer none is = is
 
--- what is said of an answer that is no decision
-pub undecided_by : (req : ReqId) (dev : DevId) (r : OpenRequest) (old : Thread) (before : Links) (new : Thread) (after : Links) (answer : Answer)
-    → ((decision : Decision) → answer ≡ answers.Injected decision → ⊥)
-    → IsUndecided req dev r answer old before new after
-    → DecidedBy req dev r old before new after answer
-undecided_by req dev r old before new after (answers.Injected decision) other is = absurd (other decision refl)
-undecided_by req dev r old before new after answer other is = is
-
 -- what was answered, and how the thread went on by it
 pub takes_acted : (old : Thread) (before : Links) (new : Thread) (after : Links) (req : ReqId) (dev : DevId) (r : OpenRequest)
     → request_here (view_of old before) req ≡ Some r
@@ -343,20 +333,6 @@ decision_none t links req step is other = sym (ap (λ (s : Step). decision_of t 
     go steps_of.Pend o never = refl
     go steps_of.Wait o never = refl
 
--- nor where the request isn't here
-pub decision_absent : (t : Thread) (links : Links) (req : ReqId) → request_here (view_of t links) req ≡ None → None ≡ decision_asked t links req
-decision_absent t links req absent = sym (ap (decision_of t links req (next_step t.setup.now t.me (view_of t links) req)) absent ∙ go (next_step t.setup.now t.me (view_of t links) req))
-  where
-    go : (s : Step) → decision_of t links req s None ≡ None
-    go (steps_of.Inject d) = refl
-    go (steps_of.Abort cause) = refl
-    go (steps_of.Complete status) = refl
-    go steps_of.Cut = refl
-    go steps_of.Hold = refl
-    go (steps_of.Limit d) = refl
-    go steps_of.Pend = refl
-    go steps_of.Wait = refl
-
 pub not_decided : (old : Thread) (before : Links) (req : ReqId) → decision_asked old before req ≡ None → Decides req old before old before false
 not_decided old before req none = subst (DecidesBy req old before old before false) (sym none) (refl, refl, refl)
 
@@ -380,14 +356,6 @@ decides_idle req old before new after done h few = go (decision_asked old before
     go : (o : Option (DevId × OpenRequest)) → decision_asked old before req ≡ o → DecidesBy req old before new after done o → IsIdle (NoDecisionOf req) old before new after
     go None e k = record { thread = k.1; links = k.2; waits = e }
     go (Some due) e k = absurd (taken_more req due.0 due.1 old before new after k.1.answer k.1.decided few)
-
--- where a decision was taken, entries were added
-pub decides_more : (req : ReqId) (old : Thread) (before : Links) (new : Thread) (after : Links) → Decides req old before new after true → length after.entries ≤ length before.entries → ⊥
-decides_more req old before new after h few = go (decision_asked old before req) h
-  where
-    go : (o : Option (DevId × OpenRequest)) → DecidesBy req old before new after true o → ⊥
-    go None k = let clash : true ≡ false = k.0 in cc
-    go (Some due) k = taken_more req due.0 due.1 old before new after k.1.answer k.1.decided few
 
 -- ---- what is kept without an answer
 

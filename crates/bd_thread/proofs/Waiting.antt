@@ -58,7 +58,7 @@ use Rattle.bd_thread.specs.Moves.{turned_of}
 use Rattle.bd_thread.specs.Requests.{KeepsTickets}
 use Rattle.bd_thread.specs.Sent.{may_put, may_send}
 use Rattle.bd_thread.specs.Seen.{local, view_of}
-use Rattle.bd_thread.specs.Waits.{asks_unbuilt, is_line_waiting, is_submission, is_unbuilt, may_post, Idles, IsWaiting, NoDestructBelow, NoDestructOn, NoHandleBelow, NoHandleOn, NoLine, NoMessage, NoPiece, NoPieceBelow, NoPieceOn, NoRefusal, NoRetry, NoStep, NothingLeft, NothingToPost, NothingToSend, Quiets, StandsBut, IsIdle, IsStill}
+use Rattle.bd_thread.specs.Waits.{asks_unbuilt, is_line_waiting, is_submission, is_unbuilt, may_post, Idles, IsWaiting, NoDestructBelow, NoDestructOn, NoHandleBelow, NoHandleOn, NoLine, NoMessage, NoPiece, NoPieceBelow, NoPieceOn, NoRefusal, NoRetry, NothingLeft, NothingToPost, NothingToSend, Quiets, StandsBut, IsIdle, IsStill}
 use Rattle.bd_thread.proofs.Going.{acted_then}
 use Rattle.bd_thread.proofs.Injecting.{stands_undecided}
 use Rattle.bd_thread.proofs.Idle.{idle_last, idle_then}

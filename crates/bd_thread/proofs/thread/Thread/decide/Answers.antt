@@ -1,5 +1,4 @@
-use Rattle.std.proofs.Common.{◌≡◌, Some, sym, ◌∙◌}
-use Rattle.bd_thread.specs.Injections.{decision_asked}
+use Rattle.std.proofs.Common.{sym, ◌∙◌}
 use Rattle.bd_thread.proofs.Injecting.{decision_may}
 use Rattle.bd_thread.proofs.thread.Thread.decide.Goals as goal
 

@@ -1,12 +1,8 @@
-use Rattle.std.proofs.Common.{◌≡◌, Some, true, false, sym, ◌∙◌, ap}
-use Rattle.bd_base.specs.declared.event.RegEvent.{RegEvent}
-use Rattle.bd_flight.specs.declared.next.Step.TheVariants as steps
+use Rattle.std.proofs.Common.{true, false, sym, ◌∙◌, ap}
 use Rattle.bd_flight.specs.Next.{next_step}
 use Rattle.bd_machine.specs.Kept.{request_here}
 use Rattle.bd_machine.specs.View.{View}
 use Rattle.bd_thread.specs.Lines.{may_ask}
-use Rattle.bd_thread.specs.Injections.{asked_of}
-use Rattle.bd_thread.specs.Seen.{view_of}
 use Rattle.bd_thread.proofs.Injecting.{decision_by, decision_none}
 use Rattle.bd_thread.proofs.thread.Thread.decision_asked.Goals as goal
 

@@ -1,4 +1,4 @@
-use Rattle.std.proofs.Common.{length, sym, ◌∙◌, ap}
+use Rattle.std.proofs.Common.{length, ◌∙◌, ap}
 use Rattle.bd_thread.specs.Moves.{turned_of}
 use Rattle.bd_thread.proofs.Delaying.{then_released}
 use Rattle.bd_thread.proofs.Going.{acted_then}
