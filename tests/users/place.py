@@ -12,9 +12,11 @@ PLACES = {
     "docs/bdevrun.1": "share/man/man1/bdevrun.1",
     "completions/bdevrun.bash": "share/bash-completion/completions/bdevrun",
     "docs/FORMATS.md": "share/doc/bdevrun/FORMATS.md",
+    "docs/TRACE.md": "share/doc/bdevrun/TRACE.md",
     "tools/installed": "bin/bdevrun",
     "tools/with-reason": "lib/bdevrun/with-reason",
     "tools/reasons": "lib/bdevrun/reasons",
+    "tools/check": "lib/bdevrun/check",
 }
 LIST = "share/doc/bdevrun/installed"
 
@@ -37,9 +39,9 @@ def set_up(top):
     """A repository as install sees it, without a program."""
     for name in ("examples", "completions", "tools"):
         shutil.copytree(f"{TOP}/{name}", f"{top}/{name}", ignore=shutil.ignore_patterns("*.img", "__pycache__"))
-    for name in ("crates/bdevrun/src", "crates/bdevrun/specs", "crates/bdevrun/proofs", "crates/bdevrun/out", "docs"):
+    for name in ("crates/bdevrun/src", "crates/bdevrun/specs", "crates/bdevrun/proofs", "crates/bdevrun/out", "crates/bdevtrace/out", "docs"):
         os.makedirs(f"{top}/{name}")
-    for name in ("install", "uninstall", "crates.txt", "docs/bdevrun.1", "docs/FORMATS.md"):
+    for name in ("install", "uninstall", "crates.txt", "docs/bdevrun.1", "docs/FORMATS.md", "docs/TRACE.md"):
         shutil.copy(f"{TOP}/{name}", f"{top}/{name}")
     for name in ("src", "specs", "proofs"):
         with open(f"{top}/crates/bdevrun/{name}/file", "w", encoding="utf-8") as it:
@@ -48,14 +50,15 @@ def set_up(top):
         it.write("a disk\n")
 
 
-def build(top, words="one"):
-    """What ./build leaves: a program, and the note of what it was made of."""
-    program = f"{top}/crates/bdevrun/out/bdevrun"
-    with open(program, "w", encoding="utf-8") as it:
-        it.write(f'#!/bin/sh\n[ "$1" != run ] || {{ echo "no file: $2" >&2; exit 3; }}\necho {words}\n')
-    os.chmod(program, 0o755)
+def build(top, words="one", names=("bdevrun", "bdevtrace")):
+    """What ./build leaves: each program, and the note of what it was made of."""
     contents = run(f"{top}/tools/executable", "--contents")[1].strip()
-    subprocess.run([f"{top}/tools/executable", "--proved", contents], check=True)
+    for name in names:
+        program = f"{top}/crates/{name}/out/{name}"
+        with open(program, "w", encoding="utf-8") as it:
+            it.write(f'#!/bin/sh\n[ "$1" != run ] || {{ echo "no file: $2" >&2; exit 3; }}\necho {words}\n')
+        os.chmod(program, 0o755)
+        subprocess.run([f"{top}/tools/executable", "--of", name, "--proved", contents], check=True)
 
 
 class Place:
@@ -73,6 +76,7 @@ class Place:
 def wanted_files(top):
     wanted = {place: files_in(f"{top}/{os.path.dirname(name)}")[os.path.basename(name)] for name, place in PLACES.items()}
     wanted["lib/bdevrun/bdevrun"] = files_in(f"{top}/crates/bdevrun/out")["bdevrun"]
+    wanted["bin/bdevtrace"] = files_in(f"{top}/crates/bdevtrace/out")["bdevtrace"]
     wanted.update({f"lib/bdevrun/checking/{name}": text for name, text in files_in(f"{top}/tools/checking").items()})
     examples = files_in(f"{top}/examples")
     wanted.update({f"share/doc/bdevrun/examples/{name}": text for name, text in examples.items() if not name.endswith(".img")})
@@ -87,6 +91,9 @@ def check_place(checks, room):
     place = Place(checks, top, away)
     place.act("install", 1, "there is no proved program of these sources: ./build", "without a program")
     checks.equal(os.listdir(away), [], "an install without a program leaves nothing")
+    build(top, names=("bdevrun",))
+    place.act("install", 1, "there is no proved program of these sources: ./build", "without bdevtrace")
+    checks.equal(os.listdir(away), [], "an install without bdevtrace leaves nothing")
     build(top)
     place.act("install", 0, f"are in {place.root}", "install")
     files = files_in(place.root)
@@ -95,6 +102,7 @@ def check_place(checks, room):
     checks.equal(files, wanted, "what is installed")
     checks.equal(run("sha256sum", "-c", "--quiet", "--strict", given="".join(it + "\n" for it in listed.splitlines() if not it.startswith("folder")), folder=place.root), (0, "", ""), "the list, by sha256sum")
     checks.equal(run(f"{place.root}/bin/bdevrun", "--version"), (0, "one\n", ""), "the installed program")
+    checks.equal(run(f"{place.root}/bin/bdevtrace", "--version"), (0, "one\n", ""), "the installed bdevtrace")
     os.symlink(f"{place.root}/bin/bdevrun", f"{room}/called")
     status, out, err = run(f"{room}/called", "run", "absent.json", "/dev/null", folder=room)
     first, _, reason = err.partition("\n")
