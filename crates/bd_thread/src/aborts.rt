@@ -12,9 +12,10 @@ use bd_rule_faults::aborted;
 use bd_steps::{abortable, drop_unsent, stop_waiting};
 
 impl<'a> Thread<'a> {
-    /// Aborts a request that is here, where the rules let it for this cause (it has a range, is neither
-    /// aborted nor to fail, and isn't cut, or a piece of it waits here unsent, or it is held): true, and
-    /// its pieces that wait unsent are no longer to be put, nor to be sent again, and nothing holds it any more. Else the answer is false, and nothing changed.
+    /// Aborts a request that is here, where the rules let it for this cause (it has a range, is neither aborted nor to
+    /// fail, and isn't cut, or a piece of it waits here unsent, or it is held): true, and its pieces that wait unsent
+    /// are no longer to be put, nor to be sent again, and nothing holds it any more. Else the answer is false, and
+    /// nothing changed.
     pub(crate) fn abort(
         &mut self,
         links: &mut Links,

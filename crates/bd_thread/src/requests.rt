@@ -210,12 +210,12 @@ impl<'a> Thread<'a> {
         Ok(n)
     }
 
-    /// Completes a request that is here, where the rules let it: on its own thread, with none of its pieces
-    /// out, with no walk of its reset under way and no delay left. It fails where a piece has a fault or a
-    /// failure was injected, is aborted where an abort reached it, and succeeds where every piece was served.
-    /// Its pieces that wait unsent, where it doesn't succeed, are no longer to be put, nor to be sent again. A read that succeeds
-    /// shows the first 8 bytes and the digest of its data, and completes only where there are as many; of data that isn't told, what its disk gave. Its
-    /// ticket is spent. Else the answer is false, and nothing changed.
+    /// Completes a request that is here, where the rules let it: on its own thread, with none of its pieces out, with
+    /// no walk of its reset under way and no delay left. It fails where a piece has a fault or a failure was injected,
+    /// is aborted where an abort reached it, and succeeds where every piece was served. Its pieces that wait unsent,
+    /// where it doesn't succeed, are no longer to be put, nor to be sent again. A read that succeeds shows the first 8
+    /// bytes and the digest of its data, and completes only where there are as many; of data that isn't told, what its
+    /// disk gave. Its ticket is spent. Else the answer is false, and nothing changed.
     pub fn complete(&mut self, links: &mut Links, req: ReqId) -> Result<bool, OutOfMemory>
         requires me { number_of self.old < vec_len links.old.queues }
         ensures acted { OnOk result (Acted self.old links.old self.new links.new) }

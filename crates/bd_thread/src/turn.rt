@@ -379,14 +379,14 @@ impl<'a> Thread<'a> {
         }
     }
 
-    /// A turn: at most 8 messages, at most 8 pieces of each base device that are sent again, the pending
-    /// actions, at most 8 pieces of each base device whose home it is and that is no aio device, the releases
-    /// of held requests that are due, at most 8 lines of the script, the decisions of error devices that requests wait
-    /// for, the closes of handles whose device is being removed (after Shutdown of all) and the
-    /// destructs that are due, and what is still to be put, until the queue that it goes to is full; where
-    /// it did none of this, it cuts, holds or completes the first open request that can be or takes a decision on it, or
-    /// sends back a piece that is one too many at a device. `Quiet` only where nothing could be done. It answers out of memory also where a number runs out: after 2^62 requests
-    /// of the thread, or where a count of messages, handles, pieces or lines would pass its type.
+    /// A turn: at most 8 messages, at most 8 pieces of each base device that are sent again, the pending actions, at
+    /// most 8 pieces of each base device whose home it is and that is no aio device, the releases of held requests that
+    /// are due, at most 8 lines of the script, the decisions of error devices that requests wait for, the closes of
+    /// handles whose device is being removed (after Shutdown of all) and the destructs that are due, and what is still
+    /// to be put, until the queue that it goes to is full; where it did none of this, it cuts, holds or completes the
+    /// first open request that can be or takes a decision on it, or sends back a piece that is one too many at a
+    /// device. `Quiet` only where nothing could be done. It answers out of memory also where a number runs out: after
+    /// 2^62 requests of the thread, or where a count of messages, handles, pieces or lines would pass its type.
     pub fn turn(&mut self, links: &mut Links) -> Result<Turned, OutOfMemory>
         requires me { number_of self.old < vec_len links.old.queues }
         requires rows { links.old.registry.setup ≡ rows_of (setup_of self.old) }

@@ -49,12 +49,13 @@ impl<'a> Thread<'a> {
         Ok(())
     }
 
-    /// A turn that asks the registry for nothing, and leaves it as it is: at most 8 messages, at most 8
-    /// pieces of each base device that are sent again, at most 8 pieces of each store, the releases of held requests that are due, at most 8 lines of the script as far as they submit or only end, the
-    /// destructs that are due, and what is still to be put, until the queue that it goes to is full;
-    /// where it did none of this, it cuts, holds or completes the first open request that can be. `Quiet` only
-    /// where nothing could be done; a request that waits for a decision is then noted for a turn that has the registry,
-    /// so that the thread wants that. It answers out of memory where `turn` does.
+    /// A turn that asks the registry for nothing, and leaves it as it is: at most 8 messages, at most 8 pieces of each
+    /// base device that are sent again, at most 8 pieces of each store, the releases of held requests that are due, at
+    /// most 8 lines of the script as far as they submit or only end, the destructs that are due, and what is still to
+    /// be put, until the queue that it goes to is full; where it did none of this, it cuts, holds or completes the
+    /// first open request that can be. `Quiet` only where nothing could be done; a request that waits for a decision is
+    /// then noted for a turn that has the registry, so that the thread wants that. It answers out of memory where
+    /// `turn` does.
     pub fn work(&mut self, links: &mut Links) -> Result<Turned, OutOfMemory>
         requires { number_of self.old < vec_len links.old.queues }
         ensures acted { OnOk result (Acted self.old links.old self.new links.new) }
@@ -95,10 +96,10 @@ impl<'a> Thread<'a> {
         false
     }
 
-    /// Whether a turn could use the registry, by what the thread sees of it: something has to follow
-    /// there, the thread owes something that an event does, a request is noted for a decision, its next line opens, closes, claims or
-    /// removes, a handle whose remove event it took may be closed, or, after Shutdown on thread 0, a
-    /// device is left to remove. It takes no memory.
+    /// Whether a turn could use the registry, by what the thread sees of it: something has to follow there, the thread
+    /// owes something that an event does, a request is noted for a decision, its next line opens, closes, claims or
+    /// removes, a handle whose remove event it took may be closed, or, after Shutdown on thread 0, a device is left to
+    /// remove. It takes no memory.
     pub fn wants_registry(&self, links: &Links) -> bool
         ensures { result ≡ wants_registry self.now links.now }
     {
