@@ -7,15 +7,15 @@ use Rattle.bd_moment.specs.declared.time.Time.{Time}
 
 -- before any turn
 abbrev pub before_any : Time
-before_any = record { moment = 0; met = 0; given = false }
+before_any = record { moment = 0; met = 0; start = 0; given = false }
 
 -- the moment of a turn that begins while the clock tells this one: never one before the last turn's
 abbrev pub moment_at : Time → ℕ → ℕ
 moment_at t now = max t.moment now
 
--- a turn began; in the first one the first line is met
+-- a turn began; in the first one the first line is met, and from its moment on timeslices are counted
 abbrev pub begun : Time → ℕ → Time
-begun t now = record { moment = moment_at t now; met = cond t.given t.met (moment_at t now); given = true }
+begun t now = record { moment = moment_at t now; met = cond t.given t.met (moment_at t now); start = cond t.given t.start (moment_at t now); given = true }
 
 -- a line ended: the next one is met in this turn
 abbrev pub with_line_ended : Time → Time

@@ -12,6 +12,8 @@ pub struct Time {
     moment: u64,
     // the moment at which the next line of its script was first met
     met: u64,
+    // the moment of its first turn, from which timeslices are counted
+    start: u64,
     // whether it had a turn
     given: bool,
 }
@@ -24,18 +26,21 @@ impl Time {
         Time {
             moment: 0,
             met: 0,
+            start: 0,
             given: false,
         }
     }
 
     /// A turn begins. Its moment is this one (microseconds), or that of the turn before where that was later: a
-    /// clock that goes back stands still here. The first line of a script is met in the first turn.
+    /// clock that goes back stands still here. The first line of a script is met in the first turn, from which on
+    /// timeslices are counted.
     pub fn begin(&mut self, now: u64)
         ensures { self.new ≡ begun self.old now }
     {
         self.moment = self.moment.max(now);
         if !self.given {
             self.met = self.moment;
+            self.start = self.moment;
             self.given = true;
         }
     }
@@ -45,6 +50,13 @@ impl Time {
         ensures { result ≡ self.now.moment }
     {
         self.moment
+    }
+
+    /// The moment of the first turn (microseconds), 0 before it.
+    pub fn start(&self) -> u64
+        ensures { result ≡ self.now.start }
+    {
+        self.start
     }
 
     /// A line ended in this turn: the next one is met at the turn's moment.

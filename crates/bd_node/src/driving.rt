@@ -54,9 +54,9 @@ fn are_all_done<'a, D>(seats: &[Seat<'a, D>]) -> bool
     seats.iter().all(|seat| seat.worker.thread.is_done())
 }
 
-// Whether nothing goes on by itself on any thread but holds and scripts.
-fn all_rest_but_for_holds<'a, D>(seats: &[Seat<'a, D>]) -> bool {
-    seats.iter().all(|seat| { seat.worker.thread.rests_but_for_holds(&seat.worker.links) })
+// Whether nothing goes on by itself on any thread but holds, lines of limited devices, and scripts.
+fn all_rest_but_for_time<'a, D>(seats: &[Seat<'a, D>]) -> bool {
+    seats.iter().all(|seat| { seat.worker.thread.rests_but_for_time(&seat.worker.links) })
 }
 
 fn are_all_blocked<'a, D>(seats: &[Seat<'a, D>]) -> bool
@@ -366,18 +366,21 @@ impl<'a, D> Node<'a, D> {
     }
 
     /// For how many microseconds all that is left waits for time alone, from about this moment on: nothing is under way
-    /// but requests that are held, or kept without an answer, no thread is shut down, and each thread whose script
-    /// isn't blocked sleeps: the least time until a hold or a sleep ends. None where something else may go on. It is a
-    /// hint for who waits between rounds, and asks no clock.
+    /// but requests that are held, kept without an answer, or wait in the line of a limited device, no thread is shut
+    /// down, and each thread whose script isn't blocked sleeps: the least time until a hold, a timeslice or a sleep
+    /// ends. None where something else may go on. It is a hint for who waits between rounds, and asks no clock.
     pub(crate) fn waits_for(&self) -> Option<u64> {
         let seats = self.seats.as_slice();
-        if self.shut || !all_rest_but_for_holds(seats) || !are_all_taken(seats) {
+        if self.shut || !all_rest_but_for_time(seats) || !are_all_taken(seats) {
             return None;
         }
         let mut least = None;
         for seat in seats {
             let worker = &seat.worker;
             if let Some(micros) = worker.thread.held_for() {
+                least = Some(lesser(least, micros));
+            }
+            if let Some(micros) = worker.thread.limited_for() {
                 least = Some(lesser(least, micros));
             }
             if !worker.thread.is_blocked(&worker.links) {

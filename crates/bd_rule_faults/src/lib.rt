@@ -12,5 +12,6 @@ pub use bd_delay::counted;
 pub use delays::{held, refused_hold, refused_release, released};
 pub use injections::{asked_once_more, injected, pended, refused_inject, refused_pend};
 pub use limits::{
-    charge, depart, passed, refused_let, refused_tick, seen_at, tick, waiting_for, waits_at,
+    charge, depart, limited_here, passed, refused_let, refused_tick, seen_at, tick, waiting_for,
+    waits_at,
 };

@@ -28,7 +28,8 @@ fn find_limited(rows: &[Limited], dev: DevId) -> Option<&Limited>
     rows.iter().find(|l| l.dev.0 == dev.0)
 }
 
-fn limited_here(part: &Part, dev: DevId) -> Option<&Limited>
+/// The row of a limited device whose home this is.
+pub fn limited_here(part: &Part, dev: DevId) -> Option<&Limited>
     ensures { option_copied result ≡ limited_here part.now dev }
 {
     find_limited(part.limited.as_slice(), dev)

@@ -1,5 +1,5 @@
 -- Which piece a home sends back since its device's queue is full, and how it is kept then.
-use Rattle.std.specs.Prelude.{◌≡◌, ℕ, cond, List, Option, Some, None}
+use Rattle.std.specs.Prelude.{ℕ, cond, Option, Some, None}
 use Rattle.bd_base.specs.declared.id.DevId.{DevId}
 use Rattle.bd_base.specs.declared.id.ReqId.{ReqId}
 use Rattle.bd_base.specs.declared.setup.Setup.{Setup}
@@ -7,8 +7,6 @@ use Rattle.bd_home.specs.Serving.{last_at}
 use Rattle.bd_machine.specs.declared.state.Id.{Id}
 use Rattle.bd_machine.specs.declared.state.Id.TheVariants as ids
 use Rattle.bd_machine.specs.declared.state.Kept.{Kept}
-use Rattle.bd_machine.specs.declared.state.Kept.TheVariants as keeps
-use Rattle.bd_machine.specs.declared.state.OpenPiece.{OpenPiece}
 use Rattle.bd_machine.specs.Alone.{held_after}
 use Rattle.bd_machine.specs.Homes.{base_here, piece_edited, refused}
 use Rattle.bd_machine.specs.Kept.{as_piece}

@@ -1,12 +1,13 @@
--- What threads take, put and ask so far: all but what limits and resets need.
+-- What threads take, put and ask so far: all but what resets need.
 use Rattle.std.specs.Prelude.{Bool, true, false}
 use Rattle.bd_base.specs.declared.act.Token.{Token}
 use Rattle.bd_base.specs.declared.act.Token.TheVariants as tokens
 use Rattle.bd_base.specs.declared.event.RegEvent.{RegEvent}
 use Rattle.bd_base.specs.declared.event.RegEvent.TheVariants as events
 
--- any but a request that goes to a limited device's home, and the news that a reset may begin
+-- any but the news that a reset may begin
 abbrev pub is_served_token : Token → Bool
+is_served_token (tokens.Request req) = true
 is_served_token (tokens.Piece req k) = true
 is_served_token (tokens.Mark mark) = true
 is_served_token (tokens.Channel dev) = true

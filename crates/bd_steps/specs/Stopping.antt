@@ -1,5 +1,5 @@
 -- Which request may be aborted, what an abort stops, and what a completion leaves of it: pieces of the request that are still to be put.
-use Rattle.std.specs.Prelude.{ℕ, ◌-◌, Bool, false, cond, not, ◌&&◌, List, filter, length, Option, Some, None, is_none}
+use Rattle.std.specs.Prelude.{ℕ, ◌-◌, Bool, false, cond, not, ◌&&◌, List, [], ◌∷◌, ◌++◌, filter, length, map, Option, Some, None, is_none}
 use Rattle.bd_base.specs.declared.act.Token.{Token}
 use Rattle.bd_base.specs.declared.act.Token.TheVariants as tokens
 use Rattle.bd_base.specs.declared.id.DevId.{DevId}
@@ -11,6 +11,11 @@ use Rattle.bd_machine.specs.declared.state.Id.{Id}
 use Rattle.bd_machine.specs.declared.state.Id.TheVariants as ids
 use Rattle.bd_machine.specs.declared.state.Kept.{Kept}
 use Rattle.bd_machine.specs.declared.state.OpenRequest.{OpenRequest}
+use Rattle.bd_machine.specs.declared.state.Limited.{Limited}
+use Rattle.bd_machine.specs.declared.state.Open.{Open}
+use Rattle.bd_machine.specs.declared.state.Part.{Part}
+use Rattle.bd_machine.specs.declared.state.Trip.{Trip}
+use Rattle.bd_machine.specs.declared.state.Trip.TheVariants as trips
 use Rattle.bd_machine.specs.Aborts.{guards_abort}
 use Rattle.bd_machine.specs.BlockMap.{base_of}
 use Rattle.bd_machine.specs.Completion.{is_success, waits_unsent}
@@ -37,6 +42,17 @@ is_unsent req here _ = false
 abbrev pub without_unsent : ReqId → (Id → Option Kept) → List (ℕ × Token) → List (ℕ × Token)
 without_unsent req here outbox = filter (λ x. not (is_unsent req here x.1)) outbox
 
+-- it is this request itself
+abbrev pub is_request : ReqId → Token → Bool
+is_request req (tokens.Request of) = same_request of req
+is_request req _ = false
+
+-- what is still to be put once the request is aborted: from its own thread it no longer goes to a limited device's home, and from where it waits there it goes back, after all else
+abbrev pub turned_back : ReqId → Trip → List (ℕ × Token) → List (ℕ × Token)
+turned_back req trips.Own outbox = filter (λ x. not (is_request req x.1)) outbox
+turned_back req trips.Out outbox = outbox ++ (req.thread, tokens.Request req) ∷ []
+turned_back req trips.Passed outbox = outbox
+
 -- what is still to be put once the request completed with this status: where it succeeded none of its pieces waited, else those that did are no longer to be put
 abbrev pub left_by : ReqId → Status → (Id → Option Kept) → List (ℕ × Token) → List (ℕ × Token)
 left_by req status here outbox = cond (is_success status) outbox (without_unsent req here outbox)
@@ -60,3 +76,14 @@ channels_without setup req here outbox channels = channels_at (base_under setup 
 -- the same once the request completed with this status, but for success
 abbrev pub channels_left : Setup → ReqId → Status → (Id → Option Kept) → List (ℕ × Token) → List Channel → List Channel
 channels_left setup req status here outbox channels = cond (is_success status) channels (channels_without setup req here outbox channels)
+
+-- ---- what a mark may stop here
+
+-- the requests that wait in these lines, one line after another
+abbrev pub in_lines : List Limited → List ReqId
+in_lines [] = []
+in_lines (l ∷ ls) = l.waiting ++ in_lines ls
+
+-- the thread's own open requests, in order of acceptance, and then those that wait at its limited devices
+abbrev pub stoppable : Part → List ReqId
+stoppable part = map (λ (o : Open). o.id) part.requests ++ in_lines part.limited

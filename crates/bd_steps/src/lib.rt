@@ -32,6 +32,6 @@ pub use returning::piece_back;
 pub use sending::{begin_walk, copy_of, first_due, leave, may_take, send_off, send_on};
 pub use served::is_served_token;
 pub use serving::{Next, next_due, next_on_disk};
-pub use stopping::{abortable, drop_left, drop_unsent, stop_waiting};
+pub use stopping::{abortable, drop_left, drop_unsent, stop_waiting, stoppable, turn_back};
 pub use tickets::{next_ticket, spend};
 pub use visiting::visitor;

@@ -1,21 +1,22 @@
 //! Which request may be aborted, and what an abort stops: the request waits at no limited device, and its pieces
 //! that wait unsent are no longer to be put; nor are they where a request completes without success.
-ghost use Rattle.std.specs.Prelude.{◌≡◌, option_copied, Some};
+ghost use Rattle.std.specs.Prelude.{◌≡◌, ◌++◌, map, option_copied, filter, not, IfOk, OnOk, Some};
 ghost use Rattle.bd_machine.specs.Aborts.{stopped};
 ghost use Rattle.bd_machine.specs.Completion.{waits_unsent};
 ghost use Rattle.bd_machine.specs.declared.state.Id.TheVariants as ids;
 ghost use Rattle.bd_machine.specs.Kept.{as_piece, as_request};
 ghost use Rattle.bd_tokens.specs.Tokens.{here_in};
-ghost use Rattle.bd_steps.specs.Stopping.{abortable, base_under, channels_left, channels_without, is_unsent, left_by, without_unsent};
+ghost use Rattle.bd_steps.specs.Stopping.{abortable, base_under, channels_left, channels_without, in_lines, is_request, is_unsent, left_by, stoppable, turned_back, without_unsent};
 
-use bd_base::{AbortCause, DevId, ReqId, Setup, Status, Token};
+use bd_base::{AbortCause, DevId, OutOfMemory, ReqId, Rows, Setup, Status, Token};
 use bd_blocks::base_of;
-use bd_machine::{Id, Kept, OpenRequest, Part, Progress};
+use bd_machine::{Id, Kept, Limited, Open, OpenRequest, Part, Progress, Trip};
 use bd_retries::Retries;
 use bd_rule_faults::{depart, refused_abort, waits_at};
 use bd_rule_requests::request_here;
 use bd_rule_view::{Sees, same_request};
 use bd_tokens::Tokens;
+use std::alloc::Global;
 use std::collections::VecDeque;
 
 /// The request, where it is here and the rules let it be aborted for this cause.
@@ -120,4 +121,92 @@ pub fn stop_waiting(part: &mut Part, setup: &Setup, req: ReqId, r: OpenRequest)
         Some(dev) => depart(&mut part.limited, req, dev),
         None => {}
     }
+}
+
+// Whether it is this request itself.
+fn is_request(req: ReqId, what: &Token) -> bool
+    ensures { result ≡ is_request req what.now }
+{
+    match what {
+        Token::Request(of) => same_request(*of, req),
+        _ => false,
+    }
+}
+
+// The request no longer goes out from its own thread.
+fn keep_here(outbox: &mut VecDeque<(u32, Token)>, req: ReqId)
+    ensures { outbox.new.items ≡ filter (λ x. not (is_request req x.1)) outbox.old.items }
+{
+    outbox.retain(|x| !is_request(req, &x.1));
+}
+
+/// A request that is aborted no longer goes from its own thread to the home of a limited device; from where it waits
+/// there it is to be put back to its thread, after all else.
+pub fn turn_back(
+    outbox: &mut VecDeque<(u32, Token)>,
+    req: ReqId,
+    trip: Trip,
+) -> Result<(), OutOfMemory>
+    ensures { OnOk result (outbox.new.items ≡ turned_back req trip outbox.old.items) }
+{
+    match trip {
+        Trip::Own => {
+            keep_here(outbox, req);
+            Ok(())
+        }
+        Trip::Out => {
+            outbox.push_back((req.thread, Token::Request(req)))?;
+            Ok(())
+        }
+        Trip::Passed => Ok(()),
+    }
+}
+
+// Adds the ids of open requests.
+fn add_open(ids: &mut Rows<ReqId>, requests: &[Open]) -> Result<(), OutOfMemory>
+    ensures { OnOk result (ids.new ≡ ids.old ++ map (λ o. o.id) requests.now) }
+{
+    for open in requests {
+        ids.push(open.id)?;
+    }
+    Ok(())
+}
+
+// Adds the ids of requests.
+fn add_all(ids: &mut Rows<ReqId>, more: &[ReqId]) -> Result<(), OutOfMemory>
+    ensures { OnOk result (ids.new ≡ ids.old ++ more.now) }
+{
+    for req in more {
+        ids.push(*req)?;
+    }
+    Ok(())
+}
+
+// Adds the requests that wait in this line.
+fn add_line(ids: &mut Rows<ReqId>, line: &Limited) -> Result<(), OutOfMemory>
+    ensures { OnOk result (ids.new ≡ ids.old ++ line.now.waiting) }
+{
+    add_all(ids, line.waiting.as_slice())?;
+    Ok(())
+}
+
+// Adds the requests that wait in these lines.
+fn add_lines(ids: &mut Rows<ReqId>, limited: &[Limited]) -> Result<(), OutOfMemory>
+    ensures { OnOk result (ids.new ≡ ids.old ++ in_lines limited.now) }
+{
+    for line in limited {
+        add_line(ids, line)?;
+    }
+    Ok(())
+}
+
+/// The requests that a mark may stop here: the thread's own open ones, in order of acceptance, and then those that wait
+/// at its limited devices, in order of arrival at each.
+pub fn stoppable(alloc: Global, part: &Part) -> Result<Rows<ReqId>, OutOfMemory>
+    ensures { IfOk result (λ ids. ids ≡ stoppable part.now) }
+{
+    let mut ids = Rows::new(alloc);
+    add_open(&mut ids, part.requests.as_slice())?;
+    add_lines(&mut ids, part.limited.as_slice())?;
+    Ok(ids)
 }

@@ -21,7 +21,6 @@ use Rattle.bd_base.specs.declared.request.WalkKind.TheVariants as kinds
 use Rattle.bd_blocks.specs.Digests.{digest_due}
 use Rattle.bd_machine.specs.declared.state.Id.{Id}
 use Rattle.bd_machine.specs.declared.state.Id.TheVariants as ids
-use Rattle.bd_machine.specs.declared.state.Open.{Open}
 use Rattle.bd_machine.specs.declared.state.OpenPiece.{OpenPiece}
 use Rattle.bd_machine.specs.declared.state.OpenRequest.{OpenRequest}
 use Rattle.bd_machine.specs.declared.state.OpenWalk.{OpenWalk}
@@ -42,6 +41,7 @@ use Rattle.bd_links.specs.Entries.{entry_at, longer}
 use Rattle.bd_links.specs.Queues.{queues_of}
 use Rattle.bd_thread.specs.declared.links.Links.{Links}
 use Rattle.bd_thread.specs.declared.thread.Thread.{Thread}
+use Rattle.bd_steps.specs.Stopping.{stoppable}
 use Rattle.bd_thread.specs.Aborts.{abort_due, Stops, StopsBy, StopsEach}
 use Rattle.bd_thread.specs.Acted.{ActedBy}
 use Rattle.bd_thread.specs.Completions.{CompletesBy, MayComplete}
@@ -153,12 +153,12 @@ stops_alone req cause o a n c h = go (abort_due o a req cause) h
     go None k = alone_same a c k.1
     go (Some r) k = alone_then a k.shared c (alone_by o.me a k.shared (acts.Abort req cause) refl k.first.links) (completes_alone req k.middle k.shared n c k.second)
 
-each_alone : (os : List Open) (cause : AbortCause) (o : Thread) (a : Links) (n : Thread) (c : Links) → StopsEach os cause o a n c → AsksNothing a c
+each_alone : (reqs : List ReqId) (cause : AbortCause) (o : Thread) (a : Links) (n : Thread) (c : Links) → StopsEach reqs cause o a n c → AsksNothing a c
 each_alone [] cause o a n c h = alone_same a c h.1
-each_alone (x ∷ xs) cause o a n c h = alone_then a h.shared c (stops_alone x.id cause o a h.middle h.shared h.first) (each_alone xs cause h.middle h.shared n c h.second)
+each_alone (x ∷ xs) cause o a n c h = alone_then a h.shared c (stops_alone x cause o a h.middle h.shared h.first) (each_alone xs cause h.middle h.shared n c h.second)
 
 for_alone : (kind : WalkKind) (dev : DevId) (o : Thread) (a : Links) (n : Thread) (c : Links) → StopsFor kind dev o a n c → AsksNothing a c
-for_alone kinds.Removal dev o a n c h = each_alone o.part.requests (Removed dev) o a n c h
+for_alone kinds.Removal dev o a n c h = each_alone (stoppable o.part) (Removed dev) o a n c h
 for_alone kinds.Freeze dev o a n c h = alone_same a c h.1
 for_alone kinds.Drain dev o a n c h = alone_same a c h.1
 for_alone kinds.Thaw dev o a n c h = alone_same a c h.1
@@ -203,7 +203,7 @@ came_alone req k o a n c (Some p) h = by_progress p.progress h
 pub comes_alone : (id : Id) (o : Thread) (a : Links) (n : Thread) (c : Links) → Comes id o a n c → AsksNothing a c
 comes_alone (ids.Piece req k) o a n c h = came_alone req k o a n c (as_piece (here_in o.held.items (ids.Piece req k))) h
 comes_alone (ids.Walk walk) o a n c h = visits_alone walk o a n c h.made h.visits
-comes_alone (ids.Request req) o a n c h = alone_same a c h.1
+comes_alone (ids.Request req) o a n c h = h
 comes_alone (ids.Notice sender receiver number) o a n c h = alone_same a c h.1
 
 pub accepted_alone : (req : ReqId) (handle : HandleId) (asked : Submission) (o : Thread) (a : Links) (n : Thread) (c : Links) → IsAccepted req handle asked o a n c → AsksNothing a c

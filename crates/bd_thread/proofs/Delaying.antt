@@ -1,10 +1,12 @@
 -- Hold and Release, by the local rules; and what a request does whose pieces are back.
-use Rattle.std.proofs.Common.{◌≡◌, ℕ, ◌+◌, ◌<◌, ◌≤◌, Bool, true, false, cond, ◌&&◌, List, [], ◌∷◌, length, is_none, is_some, min, nat_le, Option, Some, None, refl, sym, ◌∙◌, ap, ap₂, subst, leb-true, arith}
+use Rattle.std.proofs.Common.{◌≡◌, ℕ, ◌+◌, ◌<◌, ◌≤◌, Bool, true, false, cond, not, ◌&&◌, List, [], ◌∷◌, length, find, is_none, is_some, min, nat_le, unwrap_or, Option, Some, None, refl, sym, ◌∙◌, ap, ap₂, subst, leb-true, arith}
 use Rattle.std.proofs.lemmas.Option.{same_Some}
 use Rattle.std.specs.List.{list_all}
 use Rattle.bd_base.specs.declared.act.Act.TheVariants as acts
 use Rattle.bd_base.specs.declared.id.ReqId.{ReqId}
+use Rattle.bd_base.specs.declared.request.Status.TheVariants.{Success, Failed, Aborted}
 use Rattle.bd_base.specs.declared.setup.Setup.{Setup}
+use Rattle.bd_flight.specs.Due.{end_due}
 use Rattle.bd_held.specs.declared.held.HeldRequest.{HeldRequest}
 use Rattle.bd_held.specs.Holds.{first_hold, HoldKey}
 use Rattle.bd_machine.specs.declared.state.Id.{Id}
@@ -15,31 +17,35 @@ use Rattle.bd_machine.specs.declared.state.OpenRequest.{OpenRequest}
 use Rattle.bd_machine.specs.declared.state.Part.{Part}
 use Rattle.bd_machine.specs.declared.state.Registry.{Registry}
 use Rattle.bd_machine.specs.Alone.{held_after}
-use Rattle.bd_machine.specs.declared.guard.TheConstants.{MAY_HOLD}
+use Rattle.bd_machine.specs.declared.guard.TheConstants.{HOLD_OVER, MAY_HOLD}
 use Rattle.bd_machine.specs.Completion.{is_back, pieces_of}
-use Rattle.bd_machine.specs.Delays.{counted, counted_if_any, guards_hold, guards_release, held, is_before, is_delayed, is_served, last_moment, latency, may_hold, released}
+use Rattle.bd_machine.specs.Delays.{counted, counted_if_any, guards_hold, guards_release, held, is_before, is_delayed, is_hold_over, is_served, last_moment, latency, may_hold, may_release, released}
 use Rattle.bd_machine.specs.Kept.{as_request, edited, is_at_own, request_here}
 use Rattle.bd_machine.specs.Limits.{seen, way_of}
+use Rattle.bd_machine.specs.Marks.{times_marked}
+use Rattle.bd_machine.specs.Requests.{is_status_due, is_walking}
 use Rattle.bd_machine.specs.Same.{same_id}
 use Rattle.bd_machine.specs.Step.{first_failing}
 use Rattle.bd_machine.specs.View.{View}
+use Rattle.bd_machine.specs.Walks.{reset_of}
 use Rattle.bd_turns.specs.declared.queue.Message.{Message}
 use Rattle.bd_turns.specs.Local.{Local}
 use Rattle.bd_links.specs.Queues.{queues_of}
-use Rattle.bd_steps.specs.Completions.{ending_of}
+use Rattle.bd_steps.specs.Completions.{ending_in, ending_of, ends_as}
 use Rattle.bd_tokens.specs.Tokens.{here_in}
 use Rattle.bd_thread.specs.declared.links.Links.{Links}
 use Rattle.bd_thread.specs.declared.thread.Thread.{Thread}
 use Rattle.bd_thread.specs.Acted.{Acted}
 use Rattle.bd_thread.specs.Completions.{MayComplete}
-use Rattle.bd_thread.specs.Delays.{hold_due, hold_due_of, is_release_due, may_hold_until, may_release_now, release_due, until_of, EndsHold, EndsHoldBy, Holds, HoldsBy, HoldsOrCompletes, HoldsOrCompletesBy, IsHeld, IsReleased, NoFirstRelease, Releases, ReleasesBy}
+use Rattle.bd_thread.specs.Delays.{hold_due, hold_due_of, is_release_due, may_hold_until, may_release_now, release_due, until_of, EndsHold, EndsHoldBy, Holds, HoldsBy, HoldsOrCompletes, HoldsOrCompletesBy, IsHeld, IsReleased, NoFirstRelease, Releases, ReleasesBy, StandsStill}
 use Rattle.bd_thread.specs.Requests.{KeepsTickets}
+use Rattle.bd_thread.specs.Resting.{is_own}
 use Rattle.bd_thread.specs.Seen.{local_at, untaken, view_of}
-use Rattle.bd_thread.specs.Waits.{Idles, IsIdle, NoPiece}
+use Rattle.bd_thread.specs.Waits.{Idles, IsIdle}
 use Rattle.bd_thread.specs.Work.{AsksNothing}
 use Rattle.bd_thread.proofs.Alone.{alone_by, alone_same, alone_then, completes_alone}
 use Rattle.bd_thread.proofs.Going.{Steps, steps, still_shut}
-use Rattle.bd_thread.proofs.Idle.{completion_idle, idle_then, may_grow, more}
+use Rattle.bd_thread.proofs.Idle.{completion_idle, may_grow, more}
 use Rattle.bd_thread.proofs.Submissions.{acted_into}
 use Rattle.bd_thread.proofs.Tickets.{same_tickets}
 use Rattle.bd_thread.proofs.Walking.{hold_all, none_is}
@@ -332,11 +338,46 @@ not_there t links h later = ap (λ b. b && is_some (release_due t links h.req)) 
     go true e = absurd (omega (arith, later, leb-true h.until t.time.moment e))
     go false e = e
 
--- after the pieces of its stores a thread releases what it holds
-pub then_released : (o : Thread) (a : Links) (m : Thread) (b : Links) (n : Thread) (c : Links)
-    → Acted o a m b
-    → Acted m b n c
-    → Idles NoPiece o a m b
-    → Idles NoFirstRelease m b n c
-    → Idles NoPiece o a n c
-then_released o a m b n c g h piece first = idle_then {P = NoPiece} {Q = NoFirstRelease} {R = NoPiece} o a m b n c g h (λ none none_first. none) piece first
+-- ---- a request that isn't here on its own thread
+
+first_of : (guard : ℕ) (b : Bool) → b ≡ false → is_none (first_failing ((guard, b) ∷ [])) ≡ false
+first_of guard b e = ap (λ x. is_none (first_failing ((guard, x) ∷ []))) e
+
+-- it can't be released, held or completed
+pub not_own : (req : ReqId) (t : Thread) (links : Links) → is_own t req (as_request (here_in t.held.items (ids.Request req))) ≡ false → StandsStill req t links
+not_own req t links away = go (request_here (view_of t links) req) refl away
+  where
+    v : View
+    v = view_of t links
+
+    setup : Setup
+    setup = t.setup.now
+
+    none_of : {X : Type 0} (b : Bool) (x : Option X) → b ≡ false → cond b x None ≡ None
+    none_of b x e = ap (λ (a : Bool). cond a x None) e
+
+    neither : (b : Bool) → cond b (let o : Option OpenRequest = None in o) None ≡ None
+    neither true = refl
+    neither false = refl
+
+    release_not : (r : OpenRequest) → is_at_own t.me req r ≡ false → may_release setup t.me v req t.time.moment (Some r) ≡ false
+    release_not r e = ap (λ b. b && is_none r.aborted && nat_le v.part.moments.last t.time.moment && is_hold_over t.time.moment (times_marked setup v.part r.dev) r.hold) e
+
+    hold_not : (r : OpenRequest) (until : ℕ) → is_at_own t.me req r ≡ false → may_hold setup t.me v req until (Some r) ≡ false
+    hold_not r until e = ap (λ b. b && is_delayed setup r && is_some r.pieces && is_none r.aborted && is_before r.hold && list_all is_back (pieces_of v req r) && is_served (pieces_of v req r)
+        && nat_le (min (v.part.moments.last + latency setup v.part r.dev (way_of r.op)) last_moment) until) e
+
+    ends_not : (r : OpenRequest) → is_at_own t.me req r ≡ false → end_due setup t.me v req r ≡ None
+    ends_not r e = ap (λ b. find (λ status. (b && list_all is_back (pieces_of v req r) && not (is_walking (reset_of v.part req))) && is_status_due setup v req status (Some r)) (Failed ∷ Aborted ∷ Success ∷ [])) e
+
+    go : (o : Option OpenRequest) → request_here v req ≡ o → is_own t req o ≡ false → StandsStill req t links
+    go None is no_own = record {
+      release = ap (λ (o : Option OpenRequest). cond (may_release_now t links req) o None) is ∙ neither (may_release_now t links req);
+      hold = ap (hold_due_of t links req) is;
+      completion = ap (ending_in setup t.me v req) is;
+    }
+    go (Some r) is no_own = record {
+      release = none_of (may_release_now t links req) (request_here v req) (first_of HOLD_OVER (may_release setup t.me v req t.time.moment (request_here v req)) (ap (may_release setup t.me v req t.time.moment) is ∙ release_not r no_own));
+      hold = ap (hold_due_of t links req) is ∙ none_of (may_hold_until t links req (until_of t r)) (Some (r, until_of t r)) (first_of MAY_HOLD (may_hold setup t.me v req (until_of t r) (request_here v req)) (ap (may_hold setup t.me v req (until_of t r)) is ∙ hold_not r (until_of t r) no_own));
+      completion = ap (ending_in setup t.me v req) is ∙ ap (ends_as v req r (unwrap_or r.pieces 0)) (ends_not r no_own);
+    }

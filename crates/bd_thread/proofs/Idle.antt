@@ -17,7 +17,6 @@ use Rattle.bd_base.specs.declared.request.WalkKind.TheVariants as kinds
 use Rattle.bd_machine.specs.declared.state.Between.{Between}
 use Rattle.bd_machine.specs.declared.state.Handle.{Handle}
 use Rattle.bd_machine.specs.declared.state.Id.{Id}
-use Rattle.bd_machine.specs.declared.state.Open.{Open}
 use Rattle.bd_machine.specs.declared.state.OpenRequest.{OpenRequest}
 use Rattle.bd_machine.specs.BlockMap.{is_malloc}
 use Rattle.bd_machine.specs.Homes.{is_base}
@@ -30,6 +29,7 @@ use Rattle.bd_links.specs.Queues.{queues_of}
 use Rattle.bd_steps.specs.declared.completion.Ending.{Ending}
 use Rattle.bd_thread.specs.declared.links.Links.{Links}
 use Rattle.bd_thread.specs.declared.thread.Thread.{Thread}
+use Rattle.bd_steps.specs.Stopping.{stoppable}
 use Rattle.bd_thread.specs.Aborts.{abort_due, Stops, StopsBy, StopsEach}
 use Rattle.bd_thread.specs.Acted.{Acted, ActedBy}
 use Rattle.bd_steps.specs.Completions.{ending_of}
@@ -176,12 +176,12 @@ stops_more req cause old before new after due h few = go (abort_due old before r
     go None d k = cc
     go (Some r) d k = more old.me before k.shared (acts.Abort req cause) (ap (λ (l : Links). l.entries) k.first.links) (omega (arith, few, may_grow req k.middle k.shared new after k.second))
 
-each_grows : (os : List Open) (cause : AbortCause) (old : Thread) (before : Links) (new : Thread) (after : Links) → StopsEach os cause old before new after → length before.entries ≤ length after.entries
+each_grows : (reqs : List ReqId) (cause : AbortCause) (old : Thread) (before : Links) (new : Thread) (after : Links) → StopsEach reqs cause old before new after → length before.entries ≤ length after.entries
 each_grows [] cause old before new after h = same_grows before after h.1
-each_grows (o ∷ os) cause old before new after h = omega (arith, stop_grows o.id cause old before h.middle h.shared h.first, each_grows os cause h.middle h.shared new after h.second)
+each_grows (req ∷ reqs) cause old before new after h = omega (arith, stop_grows req cause old before h.middle h.shared h.first, each_grows reqs cause h.middle h.shared new after h.second)
 
 for_grows : (kind : WalkKind) (dev : DevId) (old : Thread) (before : Links) (new : Thread) (after : Links) → StopsFor kind dev old before new after → length before.entries ≤ length after.entries
-for_grows kinds.Removal dev old before new after h = each_grows old.part.requests (Removed dev) old before new after h
+for_grows kinds.Removal dev old before new after h = each_grows (stoppable old.part) (Removed dev) old before new after h
 for_grows kinds.Freeze dev old before new after h = same_grows before after h.1
 for_grows kinds.Drain dev old before new after h = same_grows before after h.1
 for_grows kinds.Thaw dev old before new after h = same_grows before after h.1

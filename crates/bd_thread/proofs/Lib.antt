@@ -1,6 +1,7 @@
 pub mod Completing
 pub mod Delaying
 pub mod Injecting
+pub mod Limiting
 pub mod Cutting
 pub mod Submissions
 pub mod Tickets

@@ -58,7 +58,7 @@ use Rattle.bd_thread.specs.Moves.{turned_of}
 use Rattle.bd_thread.specs.Requests.{KeepsTickets}
 use Rattle.bd_thread.specs.Sent.{may_put, may_send}
 use Rattle.bd_thread.specs.Seen.{local, view_of}
-use Rattle.bd_thread.specs.Waits.{asks_unbuilt, is_line_waiting, is_submission, is_unbuilt, may_post, Idles, IsWaiting, NoDestructBelow, NoDestructOn, NoHandleBelow, NoHandleOn, NoLine, NoMessage, NoPiece, NoPieceBelow, NoPieceOn, NoRefusal, NoRetry, NothingLeft, NothingToPost, NothingToSend, Quiets, StandsBut, IsIdle, IsStill}
+use Rattle.bd_thread.specs.Waits.{asks_unbuilt, is_line_waiting, is_submission, is_unbuilt, may_post, Idles, IsWaiting, NoDestructBelow, NoDestructOn, NoHandleBelow, NoHandleOn, NoLine, NoMessage, NoPieceBelow, NoPieceOn, NoRefusal, NoRetry, NothingLeft, NothingToPost, NothingToSend, NothingToServe, Quiets, StandsBut, IsIdle, IsStill}
 use Rattle.bd_thread.proofs.Going.{acted_then}
 use Rattle.bd_thread.proofs.Injecting.{stands_undecided}
 use Rattle.bd_thread.proofs.Idle.{idle_last, idle_then}
@@ -418,7 +418,7 @@ pub turn_idle : (found : Option ReqId) (o : Thread) (a : Links) (p1 : Thread) (l
     → Idles NoMessage o a p1 l1
     → Idles NoRetry p1 l1 p2 l2
     → Idles NoDuty p2 l2 p3 l3
-    → Idles NoPiece p3 l3 p4 l4
+    → Idles NothingToServe p3 l3 p4 l4
     → Idles NoLine p4 l4 p5 l5
     → (length a.entries ≡ length l5.entries → Idles (StandsAsked None) p5 l5 p6 l6)
     → Idles NothingLeft p6 l6 p7 l7
@@ -435,31 +435,31 @@ turn_idle found o a p1 l1 p2 l2 p3 l3 p4 l4 p5 l5 p6 l6 p7 l7 p8 l8 p9 l9 p10 l1
     let so2 : Idles (λ t links. NoMessage t links × NoRetry t links × NoDuty t links) o a p3 l3 =
     idle_then o a p2 l2 p3 l3 both1 acted2 (λ so next. (so.0, so.1, next)) so1 duty in
     let both2 = acted_then o a p2 l2 p3 l3 both1 acted2 in
-    let so3 : Idles (λ t links. NoMessage t links × NoRetry t links × NoDuty t links × NoPiece t links) o a p4 l4 =
+    let so3 : Idles (λ t links. NoMessage t links × NoRetry t links × NoDuty t links × NothingToServe t links) o a p4 l4 =
     idle_then o a p3 l3 p4 l4 both2 acted3 (λ so next. (so.0, so.1, so.2, next)) so2 piece in
     let both3 = acted_then o a p3 l3 p4 l4 both2 acted3 in
-    let so4 : Idles (λ t links. NoMessage t links × NoRetry t links × NoDuty t links × NoPiece t links × NoLine t links) o a p5 l5 =
+    let so4 : Idles (λ t links. NoMessage t links × NoRetry t links × NoDuty t links × NothingToServe t links × NoLine t links) o a p5 l5 =
     idle_then o a p4 l4 p5 l5 both3 acted4 (λ so next. (so.0, so.1, so.2, so.3, next)) so3 line in
     let both4 = acted_then o a p4 l4 p5 l5 both3 acted4 in
-    let so5 : Idles (λ t links. NoMessage t links × NoRetry t links × NoDuty t links × NoPiece t links × NoLine t links) o a p6 l6 =
+    let so5 : Idles (λ t links. NoMessage t links × NoRetry t links × NoDuty t links × NothingToServe t links × NoLine t links) o a p6 l6 =
     idle_last o a p5 l5 p6 l6 both4 acted5 (λ so next. so) so4 called in
     let both5 = acted_then o a p5 l5 p6 l6 both4 acted5 in
-    let so6 : Idles (λ t links. NoMessage t links × NoRetry t links × NoDuty t links × NoPiece t links × NoLine t links × NothingLeft t links) o a p7 l7 =
+    let so6 : Idles (λ t links. NoMessage t links × NoRetry t links × NoDuty t links × NothingToServe t links × NoLine t links × NothingLeft t links) o a p7 l7 =
     idle_then o a p6 l6 p7 l7 both5 acted6 (λ so next. (so.0, so.1, so.2, so.3, so.4, next)) so5 left in
     let both6 = acted_then o a p6 l6 p7 l7 both5 acted6 in
-    let so7 : Idles (λ t links. NoMessage t links × NoRetry t links × NoDuty t links × NoPiece t links × NoLine t links × NothingLeft t links × NothingToSend t links) o a p8 l8 =
+    let so7 : Idles (λ t links. NoMessage t links × NoRetry t links × NoDuty t links × NothingToServe t links × NoLine t links × NothingLeft t links × NothingToSend t links) o a p8 l8 =
     idle_then o a p7 l7 p8 l8 both6 acted7 (λ so next. (so.0, so.1, so.2, so.3, so.4, so.5, next)) so6 outbox in
     let both7 = acted_then o a p7 l7 p8 l8 both6 acted7 in
-    let so8 : Idles (λ t links. NoMessage t links × NoRetry t links × NoDuty t links × NoPiece t links × NoLine t links × NothingLeft t links × NothingToSend t links × NothingToPost t links) o a p9 l9 =
+    let so8 : Idles (λ t links. NoMessage t links × NoRetry t links × NoDuty t links × NothingToServe t links × NoLine t links × NothingLeft t links × NothingToSend t links × NothingToPost t links) o a p9 l9 =
     idle_then o a p8 l8 p9 l9 both7 acted8 (λ so next. (so.0, so.1, so.2, so.3, so.4, so.5, so.6, next)) so7 due in
     let both8 = acted_then o a p8 l8 p9 l9 both7 acted8 in
-    let so9 : Idles (λ t links. NoMessage t links × NoRetry t links × NoDuty t links × NoPiece t links × NoLine t links × NothingLeft t links × NothingToSend t links × NothingToPost t links × StandsBut found t links) o a p10 l10 =
+    let so9 : Idles (λ t links. NoMessage t links × NoRetry t links × NoDuty t links × NothingToServe t links × NoLine t links × NothingLeft t links × NothingToSend t links × NothingToPost t links × StandsBut found t links) o a p10 l10 =
     idle_last o a p9 l9 p10 l10 both8 acted9 (λ so next. (so.0, so.1, so.2, so.3, so.4, so.5, so.6, so.7, next)) so8 request in
     let both9 = acted_then o a p9 l9 p10 l10 both8 acted9 in
-    let so10 : Idles (λ t links. NoMessage t links × NoRetry t links × NoDuty t links × NoPiece t links × NoLine t links × NothingLeft t links × NothingToSend t links × NothingToPost t links × StandsBut found t links × StandsAsked found t links) o a p11 l11 =
+    let so10 : Idles (λ t links. NoMessage t links × NoRetry t links × NoDuty t links × NothingToServe t links × NoLine t links × NothingLeft t links × NothingToSend t links × NothingToPost t links × StandsBut found t links × StandsAsked found t links) o a p11 l11 =
     idle_last o a p10 l10 p11 l11 both9 acted10 (λ so next. (so.0, so.1, so.2, so.3, so.4, so.5, so.6, so.7, so.8, next)) so9 asked in
     idle_last o a p11 l11 n c (acted_then o a p10 l10 p11 l11 both9 acted10) acted11
-    (λ so next. record { message = so.0; retry = so.1; duty = so.2; piece = so.3; line = line_waits o a so.4; left = so.5; outbox = so.6; due = so.7; request = so.8.none; decision = stands_undecided found o a so.8.finds so.9; refusal = next }) so10 refusal
+    (λ so next. record { message = so.0; retry = so.1; duty = so.2; piece = so.3.piece; limit = so.3.limit; line = line_waits o a so.4; left = so.5; outbox = so.6; due = so.7; request = so.8.none; decision = stands_undecided found o a so.8.finds so.9; refusal = next }) so10 refusal
 
 -- what is noted to be asked is nothing that a thread waits for, sees or keeps
 pub waits_noted : (t : Thread) (links : Links) (u : Thread) → IsWaiting t links → IsWaiting (record t { calls = u.calls }) links
@@ -469,11 +469,12 @@ waits_noted t links u w = record {
   retry = w.retry;
   duty = w.duty;
   piece = w.piece;
+  limit = λ i l at. record { head = (w.limit i l at).head; tick = (w.limit i l at).tick; pass = (w.limit i l at).pass };
   line = w.line;
   left = record { removal = w.left.removal; own = record { handle = w.left.own.handle; device = w.left.own.device } };
   outbox = w.outbox;
   due = w.due;
-  request = λ i o at. record { step = (w.request i o at).step; still = record { release = (w.request i o at).still.release; hold = (w.request i o at).still.hold; completion = (w.request i o at).still.completion } };
+  request = λ i o at. record { step = (w.request i o at).step; still = record { release = (w.request i o at).still.release; hold = (w.request i o at).still.hold; completion = (w.request i o at).still.completion }; out = (w.request i o at).out };
   decision = w.decision;
 }
 

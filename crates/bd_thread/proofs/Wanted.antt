@@ -159,6 +159,7 @@ nothing_else_waits t links alone unwanted =
         retry = alone.retry;
         duty = no_duty t links three.1;
         piece = alone.piece;
+        limit = alone.limit;
         line = line_waits t links line;
         left = record { removal = no_removal t links four.1; own = record { handle = no_handle t links four.0; device = alone.device } };
         outbox = alone.outbox;

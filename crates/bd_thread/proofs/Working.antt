@@ -7,8 +7,9 @@ use Rattle.bd_thread.specs.declared.turn.Turned.{Turned}
 use Rattle.bd_thread.specs.declared.turn.Turned.TheVariants.{Moved, Quiet}
 use Rattle.bd_thread.specs.Acted.{Acted}
 use Rattle.bd_thread.specs.Injections.{Finds, NoneAsks}
+use Rattle.bd_thread.specs.Limits.{NoLimit}
 use Rattle.bd_thread.specs.Moves.{turned_of}
-use Rattle.bd_thread.specs.Waits.{Idles, IsIdle, IsStill, NoDestruct, NoMessage, NoPiece, NoRefusal, NoRetry, NoStep, NothingToPost, NothingToSend, StandsBut}
+use Rattle.bd_thread.specs.Waits.{Idles, IsIdle, IsStill, NoDestruct, NoMessage, NoPiece, NoRefusal, NoRetry, NoStep, NothingToPost, NothingToSend, NothingToServe, StandsBut}
 use Rattle.bd_thread.specs.Work.{calls_with, IsWaitingAlone, NoLineAlone, QuietsAlone}
 use Rattle.bd_thread.proofs.Going.{acted_then}
 use Rattle.bd_thread.proofs.Idle.{idle_last, idle_then}
@@ -19,6 +20,7 @@ pub record WaitsBut (found : Option ReqId) (t : Thread) (links : Links) : Type 0
   pub refusal : NoRefusal t links
   pub retry : NoRetry t links
   pub piece : NoPiece t links
+  pub limit : NoLimit t links
   pub line : NoLineAlone t links
   pub device : NoDestruct t links
   pub outbox : NothingToSend t links
@@ -39,7 +41,7 @@ pub work_idle : (found : Option ReqId) (o : Thread) (a : Links) (p1 : Thread) (l
     → Acted p8 l8 n c
     → Idles NoMessage o a p1 l1
     → Idles NoRetry p1 l1 p2 l2
-    → Idles NoPiece p2 l2 p3 l3
+    → Idles NothingToServe p2 l2 p3 l3
     → Idles NoLineAlone p3 l3 p4 l4
     → Idles NoDestruct p4 l4 p5 l5
     → Idles NothingToSend p5 l5 p6 l6
@@ -51,25 +53,25 @@ work_idle found o a p1 l1 p2 l2 p3 l3 p4 l4 p5 l5 p6 l6 p7 l7 p8 l8 n c acted0 a
     let so1 : Idles (λ t links. NoMessage t links × NoRetry t links) o a p2 l2 =
     idle_then o a p1 l1 p2 l2 acted0 acted1 (λ first next. (first, next)) message retry in
     let both1 = acted_then o a p1 l1 p2 l2 acted0 acted1 in
-    let so2 : Idles (λ t links. NoMessage t links × NoRetry t links × NoPiece t links) o a p3 l3 =
+    let so2 : Idles (λ t links. NoMessage t links × NoRetry t links × NothingToServe t links) o a p3 l3 =
     idle_then o a p2 l2 p3 l3 both1 acted2 (λ so next. (so.0, so.1, next)) so1 piece in
     let both2 = acted_then o a p2 l2 p3 l3 both1 acted2 in
-    let so3 : Idles (λ t links. NoMessage t links × NoRetry t links × NoPiece t links × NoLineAlone t links) o a p4 l4 =
+    let so3 : Idles (λ t links. NoMessage t links × NoRetry t links × NothingToServe t links × NoLineAlone t links) o a p4 l4 =
     idle_then o a p3 l3 p4 l4 both2 acted3 (λ so next. (so.0, so.1, so.2, next)) so2 line in
     let both3 = acted_then o a p3 l3 p4 l4 both2 acted3 in
-    let so4 : Idles (λ t links. NoMessage t links × NoRetry t links × NoPiece t links × NoLineAlone t links × NoDestruct t links) o a p5 l5 =
+    let so4 : Idles (λ t links. NoMessage t links × NoRetry t links × NothingToServe t links × NoLineAlone t links × NoDestruct t links) o a p5 l5 =
     idle_then o a p4 l4 p5 l5 both3 acted4 (λ so next. (so.0, so.1, so.2, so.3, next)) so3 device in
     let both4 = acted_then o a p4 l4 p5 l5 both3 acted4 in
-    let so5 : Idles (λ t links. NoMessage t links × NoRetry t links × NoPiece t links × NoLineAlone t links × NoDestruct t links × NothingToSend t links) o a p6 l6 =
+    let so5 : Idles (λ t links. NoMessage t links × NoRetry t links × NothingToServe t links × NoLineAlone t links × NoDestruct t links × NothingToSend t links) o a p6 l6 =
     idle_then o a p5 l5 p6 l6 both4 acted5 (λ so next. (so.0, so.1, so.2, so.3, so.4, next)) so4 outbox in
     let both5 = acted_then o a p5 l5 p6 l6 both4 acted5 in
-    let so6 : Idles (λ t links. NoMessage t links × NoRetry t links × NoPiece t links × NoLineAlone t links × NoDestruct t links × NothingToSend t links × NothingToPost t links) o a p7 l7 =
+    let so6 : Idles (λ t links. NoMessage t links × NoRetry t links × NothingToServe t links × NoLineAlone t links × NoDestruct t links × NothingToSend t links × NothingToPost t links) o a p7 l7 =
     idle_then o a p6 l6 p7 l7 both5 acted6 (λ so next. (so.0, so.1, so.2, so.3, so.4, so.5, next)) so5 due in
     let both6 = acted_then o a p6 l6 p7 l7 both5 acted6 in
-    let so7 : Idles (λ t links. NoMessage t links × NoRetry t links × NoPiece t links × NoLineAlone t links × NoDestruct t links × NothingToSend t links × NothingToPost t links × StandsBut found t links) o a p8 l8 =
+    let so7 : Idles (λ t links. NoMessage t links × NoRetry t links × NothingToServe t links × NoLineAlone t links × NoDestruct t links × NothingToSend t links × NothingToPost t links × StandsBut found t links) o a p8 l8 =
     idle_last o a p7 l7 p8 l8 both6 acted7 (λ so next. (so.0, so.1, so.2, so.3, so.4, so.5, so.6, next)) so6 request in
     idle_last o a p8 l8 n c (acted_then o a p7 l7 p8 l8 both6 acted7) acted8
-    (λ so next. record { message = so.0; retry = so.1; piece = so.2; line = so.3; device = so.4; outbox = so.5; due = so.6; request = so.7.none; finds = so.7.finds; refusal = next }) so7 refusal
+    (λ so next. record { message = so.0; retry = so.1; piece = so.2.piece; limit = so.2.limit; line = so.3; device = so.4; outbox = so.5; due = so.6; request = so.7.none; finds = so.7.finds; refusal = next }) so7 refusal
 
 -- where that is noted, or something was before, it waits for all but what is noted
 waits_alone : (found : Option ReqId) (t : Thread) (links : Links) (u : Thread) → u.calls.items ≡ calls_with found t.calls.items → WaitsBut found t links → IsWaitingAlone (record t { calls = u.calls }) links
@@ -78,11 +80,12 @@ waits_alone found t links u noted w = record {
   refusal = w.refusal;
   retry = w.retry;
   piece = w.piece;
+  limit = λ i l at. record { head = (w.limit i l at).head; tick = (w.limit i l at).tick; pass = (w.limit i l at).pass };
   line = record { submission = w.line.submission; outcome = w.line.outcome };
   device = w.device;
   outbox = w.outbox;
   due = w.due;
-  request = λ i o at. record { step = (w.request i o at).step; still = record { release = (w.request i o at).still.release; hold = (w.request i o at).still.hold; completion = (w.request i o at).still.completion } };
+  request = λ i o at. record { step = (w.request i o at).step; still = record { release = (w.request i o at).still.release; hold = (w.request i o at).still.hold; completion = (w.request i o at).still.completion }; out = (w.request i o at).out };
   decision = λ none. by found t.calls.items w.finds (subst (λ (xs : List ReqId). nat_lt 0 (length xs) ≡ false) noted none);
 }
   where

@@ -6,10 +6,9 @@ use Rattle.bd_base.specs.declared.request.AbortCause.{AbortCause}
 use Rattle.bd_held.specs.Holds.{without_hold}
 use Rattle.bd_machine.specs.declared.state.Id.TheVariants as ids
 use Rattle.bd_machine.specs.declared.state.Kept.TheVariants as keeps
-use Rattle.bd_machine.specs.declared.state.Open.{Open}
 use Rattle.bd_machine.specs.declared.state.OpenRequest.{OpenRequest}
 use Rattle.bd_machine.specs.Aborts.{aborted, stopped}
-use Rattle.bd_steps.specs.Stopping.{abortable, channels_without, may_stop, without_unsent}
+use Rattle.bd_steps.specs.Stopping.{abortable, channels_without, may_stop, stoppable, turned_back, without_unsent}
 use Rattle.bd_links.specs.Entries.{longer}
 use Rattle.bd_tokens.specs.Tokens.{here_in, Sets}
 use Rattle.bd_thread.specs.declared.links.Links.{Links}
@@ -27,11 +26,11 @@ may_abort t links req cause = may_stop t.setup.now t.me (view_of t links) req ca
 abbrev pub abort_due : Thread → Links → ReqId → AbortCause → Option OpenRequest
 abort_due t links req cause = abortable t.setup.now t.me (view_of t links) req cause
 
--- one Abort: the request is aborted, waits at no limited device and is held no longer, and its pieces that wait unsent are no longer to be put, in flight or to be sent again
+-- one Abort: the request is aborted, waits at no limited device and is held no longer, and its pieces that wait unsent are no longer to be put, in flight or to be sent again; from its own thread it no longer goes to a limited device's home, and from where it waits there it is to be put back
 pub record IsAborted (req : ReqId) (cause : AbortCause) (r : OpenRequest) (old : Thread) (before : Links) (new : Thread) (after : Links) : Type 0 where
   pub thread : new ≡ record old { part = untaken (stopped old.setup.now old.part req (Some r)); held = new.held; outbox = new.outbox; retries = new.retries; holds = without_hold old.holds req r.hold }
   pub held : Sets old.held.items new.held.items (ids.Request req) (Some (keeps.Request (aborted cause r)))
-  pub outbox : new.outbox.items ≡ without_unsent req (here_in old.held.items) old.outbox.items
+  pub outbox : new.outbox.items ≡ turned_back req r.trip (without_unsent req (here_in old.held.items) old.outbox.items)
   pub retries : new.retries ≡ channels_without old.setup.now req (here_in old.held.items) old.outbox.items old.retries
   pub links : after ≡ record before { entries = longer old.me before.entries (acts.Abort req cause) }
 
@@ -52,7 +51,7 @@ pub record Then (First Second : Thread → Links → Type 0) : Type 0 where
   pub first : First middle shared
   pub second : Second middle shared
 
--- it is aborted, and completes where no piece of it is out
+-- it is aborted, and completes where it is on its own thread and no piece of it is out
 abbrev pub StopsBy : ReqId → AbortCause → Thread → Links → Thread → Links → Option OpenRequest → Type 0
 StopsBy req cause old before new after None = (new ≡ old) × (after ≡ before)
 StopsBy req cause old before new after (Some r) = Then (λ t links. IsAborted req cause r old before t links) (λ t links. MayComplete req t links new after)
@@ -62,10 +61,10 @@ abbrev pub Stops : ReqId → AbortCause → Thread → Links → Thread → Link
 Stops req cause old before new after = StopsBy req cause old before new after (abort_due old before req cause)
 
 -- each of these requests is stopped, one after another
-abbrev pub StopsEach : List Open → AbortCause → Thread → Links → Thread → Links → Type 0
+abbrev pub StopsEach : List ReqId → AbortCause → Thread → Links → Thread → Links → Type 0
 StopsEach [] cause old before new after = (new ≡ old) × (after ≡ before)
-StopsEach (o ∷ os) cause old before new after = Then (λ t links. Stops o.id cause old before t links) (λ t links. StopsEach os cause t links new after)
+StopsEach (req ∷ reqs) cause old before new after = Then (λ t links. Stops req cause old before t links) (λ t links. StopsEach reqs cause t links new after)
 
--- each open request of the thread is stopped, in order of acceptance
+-- each open request of the thread is stopped, in order of acceptance, and then each that waits here at a limited device
 abbrev pub StopsAll : AbortCause → Thread → Links → Thread → Links → Type 0
-StopsAll cause old before new after = StopsEach old.part.requests cause old before new after
+StopsAll cause old before new after = StopsEach (stoppable old.part) cause old before new after

@@ -12,6 +12,7 @@ pub mod Served
 pub mod Requests
 pub mod Delays
 pub mod Injections
+pub mod Limits
 pub mod Destructs
 pub mod Refusals
 pub mod Retries

@@ -25,6 +25,7 @@ use Rattle.bd_thread.specs.Retries.{IsBack}
 use Rattle.bd_thread.specs.Sent.{may_send, Takes}
 use Rattle.bd_thread.specs.Served.{next_due}
 use Rattle.bd_thread.specs.Walking.{Visits}
+use Rattle.bd_thread.specs.Work.{AsksNothing}
 
 abbrev pub turned_of : ℕ → ℕ → Turned
 turned_of before after = cond (before == after) Quiet (Moved (after - before))
@@ -76,8 +77,9 @@ abbrev pub ComesPiece : Option OpenPiece → ReqId → ℕ → Thread → Links 
 ComesPiece None req k old before new after = (new ≡ old) × (after ≡ before)
 ComesPiece (Some p) req k old before new after = ComesAs p.progress p.base req k old before new after
 
--- what a token that came brings about: of a piece that it goes back or is back, a walk's visit, and else nothing
+-- what a token that came brings about: of a request that it waits here, or goes on, which its next steps say; of a piece that it goes back or is back; a walk's visit; and else nothing
 abbrev pub Comes : Id → Thread → Links → Thread → Links → Type 0
+Comes (ids.Request req) old before new after = AsksNothing before after
 Comes (ids.Piece req k) old before new after = ComesPiece (as_piece (here_in old.held.items (ids.Piece req k))) req k old before new after
 Comes (ids.Walk walk) old before new after = MayVisit walk old before new after
 Comes _ old before new after = (new ≡ old) × (after ≡ before)

@@ -1,9 +1,14 @@
 -- When a thread has nothing under way.
-use Rattle.std.specs.Prelude.{Bool, true, ◌&&◌, ◌==◌, ◌^◌, nat_lt, not, count_by, List, length, is_none}
+use Rattle.std.specs.Prelude.{ℕ, ◌-◌, ◌%◌, Bool, true, false, cond, ◌&&◌, ◌==◌, ◌^◌, nat_lt, not, count_by, List, length, Option, Some, None, is_none}
 use Rattle.std.specs.List.{list_all, range_with_len}
 use Rattle.bd_base.specs.declared.act.Act.TheVariants as acts
 use Rattle.bd_base.specs.declared.id.HandleId.{HandleId}
+use Rattle.bd_base.specs.declared.id.ReqId.{ReqId}
+use Rattle.bd_machine.specs.declared.state.Id.TheVariants as ids
+use Rattle.bd_machine.specs.declared.state.Limited.{Limited}
 use Rattle.bd_machine.specs.declared.state.Open.{Open}
+use Rattle.bd_machine.specs.declared.state.OpenRequest.{OpenRequest}
+use Rattle.bd_machine.specs.Kept.{as_request, is_at_own}
 use Rattle.bd_machine.specs.Asked.{is_script_blocked}
 use Rattle.bd_turns.specs.declared.queue.Message.{Message}
 use Rattle.bd_steps.specs.Resting.{is_done_with}
@@ -28,14 +33,27 @@ rests t links =
 abbrev pub is_done : Thread → Bool
 is_done t = (length t.held.items == 0) && (length t.part.due == 0) && (length t.part.owed == 0) && is_none t.part.injection
 
--- the open request isn't here, or isn't pended
-abbrev pub is_unpended : Thread → Open → Bool
-is_unpended t open_request = not (is_pended_at t.setup.now t.part (here_in t.held.items) open_request.id)
+abbrev pub is_own : Thread → ReqId → Option OpenRequest → Bool
+is_own t req None = false
+is_own t req (Some r) = is_at_own t.me req r
 
--- each of its open requests is held or pended, and nothing is still to be put or done
-abbrev pub rests_but_for_holds : Thread → Links → Bool
-rests_but_for_holds t links =
-    (length t.outbox.items == 0) && (length t.part.due == 0) && (length t.part.owed == 0) && is_none t.part.injection && (count_by (is_unpended t) t.part.requests == length t.holds) && list_all (is_settled t links) t.part.gone
+-- the open request is here on its own thread, and isn't pended
+abbrev pub is_moving : Thread → ReqId → Bool
+is_moving t req = is_own t req (as_request (here_in t.held.items (ids.Request req))) && not (is_pended_at t.setup.now t.part (here_in t.held.items) req)
+
+-- each of its open requests is held, pended, or away at the home of a limited device, and nothing is still to be put or done
+abbrev pub rests_but_for_time : Thread → Links → Bool
+rests_but_for_time t links =
+    (length t.outbox.items == 0) && (length t.part.due == 0) && (length t.part.owed == 0) && is_none t.part.injection && (count_by (λ (o : Open). is_moving t o.id) t.part.requests == length t.holds) && list_all (is_settled t links) t.part.gone
+
+-- ---- the lines of limited devices
+
+abbrev pub is_line_empty : Limited → Bool
+is_line_empty l = length l.waiting == 0
+
+-- how long the timeslice lasts from the turn's moment on, where a request waits in a line here
+abbrev pub limited_for : Thread → Option ℕ
+limited_for t = cond (list_all is_line_empty t.part.limited) None (Some (1000 - (t.time.moment - t.time.start) % 1000))
 
 -- its script is at its end, or the next line waits
 abbrev pub is_blocked : Thread → Links → Bool

@@ -31,6 +31,7 @@ use Rattle.bd_thread.specs.Destructs.{may_device_go}
 use Rattle.bd_thread.specs.Duties.{NoDuty}
 use Rattle.bd_thread.specs.Endings.{left_on, removal_due}
 use Rattle.bd_thread.specs.Injections.{asks_decision, Finds, FindsBelow, NoDecision}
+use Rattle.bd_thread.specs.Limits.{NoLimit, NoWayOut}
 use Rattle.bd_thread.specs.Lines.{claim_asked, close_asked, job_now, open_asked, outcome_now, remove_asked}
 use Rattle.bd_thread.specs.Refusals.{refusal_now}
 use Rattle.bd_thread.specs.Retries.{may_retry}
@@ -55,6 +56,11 @@ NoPieceBelow n t links = (dev : DevId) → dev.0 < n → NoPieceOn dev t links
 -- nor on any; their numbers have 32 bits
 abbrev pub NoPiece : Thread → Links → Type 0
 NoPiece = NoPieceBelow (2 ^ 32)
+
+-- nor can anything be done for a line of a limited device
+pub record NothingToServe (t : Thread) (links : Links) : Type 0 where
+  pub piece : NoPiece t links
+  pub limit : NoLimit t links
 
 -- ---- pieces that are refused, and those that wait to be sent again
 
@@ -91,10 +97,11 @@ is_taken_alone steps.Cut = true
 is_taken_alone steps.Pend = true
 is_taken_alone _ = false
 
--- the next step of the request is no abort by a mark, not the cut, and not that it is kept without an answer; and it can't be released at the turn's moment, held or completed
+-- the next step of the request is no abort by a mark, not the cut, and not that it is kept without an answer; it can't be released at the turn's moment, held or completed; and where it is to go to the home of a limited device, something else is to be put before, or there is no room there
 pub record NoStepOf (req : ReqId) (t : Thread) (links : Links) : Type 0 where
   pub step : is_taken_alone (next_step t.setup.now t.me (view_of t links) req) ≡ false
   pub still : StandsStill req t links
+  pub out : NoWayOut req (next_step t.setup.now t.me (view_of t links) req) t links
 
 -- nor can any of the first n open requests
 abbrev pub NoStepBelow : ℕ → Thread → Links → Type 0
@@ -229,17 +236,23 @@ pub record IsIdle (Waits : Thread → Links → Type 0) (old : Thread) (before :
   pub links : after ≡ before
   pub waits : Waits old before
 
+-- it added an entry; or nothing changed, and the thread waits for this
+abbrev pub Progresses : (Thread → Links → Type 0) → Thread → Links → Thread → Links → Bool → Type 0
+Progresses Waits old before new after true = length before.entries < length after.entries
+Progresses Waits old before new after false = IsIdle Waits old before new after
+
 -- what adds no entry changes nothing, and then the thread waits for this
 abbrev pub Idles : (Thread → Links → Type 0) → Thread → Links → Thread → Links → Type 0
 Idles Waits old before new after = length after.entries ≤ length before.entries → IsIdle Waits old before new after
 
--- all that a thread waits for: a message that it can take, a piece that it can send back or send again, a pending action that it can do, a piece that it can serve on a device whose home it is, an open request that it can abort by a mark, cut, keep without an answer, release at the turn's moment, hold or complete, or that asks for a decision that it can take, a line that can go on, after Shutdown on thread 0 a device that it can remove, a handle that it can close by itself or a device that it can destruct, and room for the first of its outbox, if that may go there, and for the first message that is due
+-- all that a thread waits for: a message that it can take, a piece that it can send back or send again, a pending action that it can do, a piece that it can serve on a device whose home it is, a request in a line that a mark aborts or that may pass at the turn's moment, timeslices that passed where one waits, an open request that it can abort by a mark, cut, keep without an answer, release at the turn's moment, hold, complete or put on its way to a limited device's home, or that asks for a decision that it can take, a line that can go on, after Shutdown on thread 0 a device that it can remove, a handle that it can close by itself or a device that it can destruct, and room for the first of its outbox, if that may go there, and for the first message that is due
 pub record IsWaiting (t : Thread) (links : Links) : Type 0 where
   pub message : NoMessage t links
   pub refusal : NoRefusal t links
   pub retry : NoRetry t links
   pub duty : NoDuty t links
   pub piece : NoPiece t links
+  pub limit : NoLimit t links
   pub line : is_line_waiting t links ≡ true
   pub left : NothingLeft t links
   pub outbox : NothingToSend t links

@@ -17,6 +17,7 @@ use Rattle.bd_thread.specs.declared.turn.Turned.TheVariants.{Moved, Quiet}
 use Rattle.bd_thread.specs.Acted.{is_own, ActedBy}
 use Rattle.bd_thread.specs.Endings.{left_on}
 use Rattle.bd_thread.specs.Injections.{NoneAsks}
+use Rattle.bd_thread.specs.Limits.{NoLimit}
 use Rattle.bd_thread.specs.Lines.{job_now, outcome_now}
 use Rattle.bd_thread.specs.Waits.{IsStill, IsWaiting, NoDestruct, NoLine, NoMessage, NoPiece, NoRefusal, NoRetry, NoStep, NoSubmission, NothingToPost, NothingToSend}
 
@@ -61,6 +62,7 @@ pub record IsWaitingAlone (t : Thread) (links : Links) : Type 0 where
   pub refusal : NoRefusal t links
   pub retry : NoRetry t links
   pub piece : NoPiece t links
+  pub limit : NoLimit t links
   pub line : NoLineAlone t links
   pub device : NoDestruct t links
   pub outbox : NothingToSend t links

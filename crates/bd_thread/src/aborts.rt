@@ -9,12 +9,13 @@ use crate::thread::Thread;
 use bd_base::{AbortCause, Act, OutOfMemory, ReqId};
 use bd_machine::{Id, Kept};
 use bd_rule_faults::aborted;
-use bd_steps::{abortable, drop_unsent, stop_waiting};
+use bd_steps::{abortable, drop_unsent, stop_waiting, stoppable, turn_back};
 
 impl<'a> Thread<'a> {
     /// Aborts a request that is here, where the rules let it for this cause (it has a range, is neither aborted nor to
     /// fail, and isn't cut, or a piece of it waits here unsent, or it is held): true, and its pieces that wait unsent
-    /// are no longer to be put, nor to be sent again, and nothing holds it any more. Else the answer is false, and
+    /// are no longer to be put, nor to be sent again, and nothing holds it any more; from its own thread it no longer
+    /// goes to a limited device's home, and from a line here it is to be put back. Else the answer is false, and
     /// nothing changed.
     pub(crate) fn abort(
         &mut self,
@@ -36,6 +37,7 @@ impl<'a> Thread<'a> {
             self.setup,
             req,
         );
+        turn_back(&mut self.outbox, req, r.trip)?;
         stop_waiting(&mut self.part, self.setup, req, r);
         self.holds.remove(req, r.hold);
         let kept = Kept::Request(aborted(cause, r));
@@ -44,7 +46,8 @@ impl<'a> Thread<'a> {
         Ok(true)
     }
 
-    /// Aborts a request where the rules let it, and completes it where none of its pieces is out.
+    /// Aborts a request where the rules let it, and completes it where it is on its own thread and none of its pieces
+    /// is out.
     pub(crate) fn stop(
         &mut self,
         links: &mut Links,
@@ -64,7 +67,8 @@ impl<'a> Thread<'a> {
         Ok(())
     }
 
-    /// Stops each open request of the thread, in order of acceptance, that may be aborted for this cause.
+    /// Stops each open request of the thread, in order of acceptance, that may be aborted for this cause, and then each
+    /// that waits here at a limited device.
     pub(crate) fn stop_all(
         &mut self,
         links: &mut Links,
@@ -75,9 +79,9 @@ impl<'a> Thread<'a> {
         ensures tickets { OnOk result (KeepsTickets self.old → KeepsTickets self.new) }
         ensures stops { OnOk result (StopsAll cause self.old links.old self.new links.new) }
     {
-        let open = self.part.requests.copy()?;
-        for request in open.as_slice() {
-            self.stop(links, request.id, cause)?;
+        let reqs = stoppable(self.alloc, &self.part)?;
+        for req in reqs.as_slice() {
+            self.stop(links, *req, cause)?;
         }
         Ok(())
     }

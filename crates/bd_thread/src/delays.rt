@@ -138,6 +138,9 @@ impl<'a> Thread<'a> {
         ensures quiet { OnOk result (Idles (StandsStill req) self.old links.old self.new links.new) }
         ensures alone { OnOk result (AsksNothing links.old links.new) }
     {
+        if !self.is_own(req) {
+            return Ok(());
+        }
         let ended = self.end_hold(links, req)?;
         if ended {
             return Ok(());

@@ -9,6 +9,7 @@ mod ending;
 mod homes;
 mod injections;
 pub mod law;
+mod limits;
 mod lines;
 mod links;
 mod messages;

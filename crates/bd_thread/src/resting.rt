@@ -1,11 +1,32 @@
 //! When a thread has nothing under way.
 ghost use Rattle.std.specs.Prelude.{◌≡◌, count_by};
-ghost use Rattle.bd_thread.specs.Resting.{has_destructed_all, is_blocked, is_done, is_unpended, rests, rests_but_for_holds};
+ghost use Rattle.std.specs.List.{list_all};
+ghost use Rattle.bd_machine.specs.declared.state.Id.TheVariants as ids;
+ghost use Rattle.bd_machine.specs.Kept.{as_request};
+ghost use Rattle.bd_tokens.specs.Tokens.{here_in};
+ghost use Rattle.bd_thread.specs.Resting.{has_destructed_all, is_blocked, is_done, is_line_empty, is_moving, is_own, limited_for, rests, rests_but_for_time};
 
 use crate::links::Links;
 use crate::thread::Thread;
+use bd_base::ReqId;
+use bd_machine::{Id, Kept, Limited};
+use bd_rule_requests::is_at_own;
 use bd_rule_script::is_script_blocked;
 use bd_steps::{are_done_with, are_settled};
+
+// Whether no request waits in the line.
+fn is_line_empty(l: &Limited) -> bool
+    ensures { result ≡ is_line_empty l.now }
+{
+    l.waiting.len() == 0
+}
+
+// Whether no request waits in any of these lines.
+fn are_lines_empty(limited: &[Limited]) -> bool
+    ensures { result ≡ list_all is_line_empty limited.now }
+{
+    limited.iter().all(|l| is_line_empty(l))
+}
 
 impl<'a> Thread<'a> {
     /// Whether nothing goes on by itself here, but by its script: of tokens there are only its own requests that are
@@ -33,30 +54,58 @@ impl<'a> Thread<'a> {
             && self.part.injection.is_none()
     }
 
-    // How many of its open requests may get their answer without a removal: all but those that are here, kept without
-    // an answer, and that nothing stops.
-    fn count_unpended(&self) -> usize
-        ensures { result ≡ count_by (is_unpended self.now) self.now.part.requests }
+    /// Whether the request is here on its own thread, and in no line of a limited device.
+    pub(crate) fn is_own(&self, req: ReqId) -> bool
+        ensures { result ≡ is_own self.now req (as_request (here_in self.now.held.items (ids.Request req))) }
+    {
+        match self.held.get(Id::Request(req)) {
+            Some(Kept::Request(r)) => is_at_own(self.me, req, *r),
+            _ => false,
+        }
+    }
+
+    // Whether the request is here on its own thread, and isn't kept without an answer.
+    fn is_moving(&self, req: ReqId) -> bool
+        ensures { result ≡ is_moving self.now req }
+    {
+        self.is_own(req) && !self.held.is_pended(self.setup, &self.part, req)
+    }
+
+    // How many of its open requests are here and may get their answer without a removal.
+    fn count_moving(&self) -> usize
+        ensures { result ≡ count_by (λ o. is_moving self.now o.id) self.now.part.requests }
     {
         self.part
             .requests
             .as_slice()
             .iter()
-            .filter(|open| !self.held.is_pended(self.setup, &self.part, open.id))
+            .filter(|open| self.is_moving(open.id))
             .count()
     }
 
-    /// Whether each of its open requests is held, or kept without an answer, and nothing is still to be put or done:
-    /// nothing goes on by itself here but its holds and its script.
-    pub fn rests_but_for_holds(&self, links: &Links) -> bool
-        ensures { result ≡ rests_but_for_holds self.now links.now }
+    /// Whether each of its open requests is held, kept without an answer, or away at the home of a limited device, and
+    /// nothing is still to be put or done: nothing goes on by itself here but its holds, its lines and its script.
+    pub fn rests_but_for_time(&self, links: &Links) -> bool
+        ensures { result ≡ rests_but_for_time self.now links.now }
     {
         self.outbox.len() == 0
             && self.part.due.len() == 0
             && self.part.owed.len() == 0
             && self.part.injection.is_none()
-            && self.count_unpended() == self.holds.len()
+            && self.count_moving() == self.holds.len()
             && are_settled(&self.seen(links), self.setup)
+    }
+
+    /// For how many microseconds from the moment of its turn on the timeslice lasts, at whose end those that wait here
+    /// in the lines of limited devices get further quotas; none where no request waits in one.
+    pub fn limited_for(&self) -> Option<u64>
+        ensures { result ≡ limited_for self.now }
+    {
+        if are_lines_empty(self.part.limited.as_slice()) {
+            return None;
+        }
+        let passed = self.time.moment().saturating_sub(self.time.start());
+        Some(1000 - passed % 1000)
     }
 
     /// Whether its script is at its end, or the next line waits for a mark, for a remove event, for its

@@ -1,5 +1,7 @@
 //! The next step of open requests: where a turn did nothing else, each that can take one takes it.
-ghost use Rattle.std.specs.Prelude.{◌≡◌, ◌<◌, length, vec_len, IfOk, OnOk};
+ghost use Rattle.std.specs.Prelude.{◌≡◌, ◌==◌, ◌<◌, ◌||◌, is_some, length, vec_len, IfOk, OnOk};
+ghost use Rattle.bd_machine.specs.declared.state.Id.TheVariants as ids;
+ghost use Rattle.bd_tokens.specs.Tokens.{here_in};
 ghost use Rattle.bd_thread.specs.Acted.{Acted};
 ghost use Rattle.bd_thread.specs.Requests.{KeepsTickets};
 ghost use Rattle.bd_thread.specs.Injections.{is_inject, next_found};
@@ -10,6 +12,7 @@ use crate::links::Links;
 use crate::thread::Thread;
 use bd_base::{OutOfMemory, ReqId};
 use bd_flight::{Step, next_step};
+use bd_machine::Id;
 
 // Whether it is a decision of an error device.
 fn is_inject(step: Step) -> bool
@@ -29,9 +32,23 @@ fn next_found(asks: bool, req: ReqId, found: Option<ReqId>) -> Option<ReqId>
 }
 
 impl<'a> Thread<'a> {
+    // Whether no request is open, or no token is on this thread.
+    fn is_bare(&self) -> bool
+        ensures { result ≡ (length self.now.part.requests == 0) || (length self.now.held.items == 0) }
+    {
+        self.part.requests.len() == 0 || self.held.len() == 0
+    }
+
+    // Whether the request is on this thread, and not at the home of a limited device or on its way.
+    fn is_here(&self, req: ReqId) -> bool
+        ensures { result ≡ is_some (here_in self.now.held.items (ids.Request req)) }
+    {
+        self.held.get(Id::Request(req)).is_some()
+    }
+
     /// Takes the next step of the request, where that is one that threads take as yet and that asks the registry for
-    /// nothing: it is aborted by a mark, cut, kept without an answer, released, held, or completed. Whether its next
-    /// step is a decision of an error device.
+    /// nothing: it is aborted by a mark, cut, kept without an answer, released, held, completed, or put on its way to
+    /// the home of a limited device. Whether its next step is a decision of an error device.
     pub(crate) fn carry(&mut self, links: &mut Links, req: ReqId) -> Result<bool, OutOfMemory>
         requires { self.old.me < vec_len links.old.queues }
         ensures acted { OnOk result (Acted self.old links.old self.new links.new) }
@@ -39,6 +56,9 @@ impl<'a> Thread<'a> {
         ensures quiet { IfOk result (λ asks. Idles (StandsOf asks req) self.old links.old self.new links.new) }
         ensures alone { OnOk result (AsksNothing links.old links.new) }
     {
+        if !self.is_here(req) {
+            return Ok(false);
+        }
         let step = next_step(&self.seen(links), self.setup, self.me, req);
         match step {
             Step::Abort(cause) => {
@@ -55,16 +75,16 @@ impl<'a> Thread<'a> {
             }
             _ => {
                 self.go_on(links, req)?;
+                self.go_out(links, req, step)?;
                 Ok(is_inject(step))
             }
         }
     }
 
-    /// Carries the open requests on, in order of acceptance, up to the first that can take a step, and only
-    /// where there are still as many entries as there were: in a turn that did nothing else. A request is
-    /// cut as it is accepted, aborted as the mark comes, held or completed as its last piece comes back, and
-    /// released in the turn whose moment it is held until, so there is hardly ever one. The first of them that waits for
-    /// a decision of an error device.
+    /// Carries the open requests on, in order of acceptance, up to the first that can take a step, and only where there
+    /// are still as many entries as there were: in a turn that did nothing else. A request is cut as it is accepted,
+    /// aborted as the mark comes, held or completed as its last piece comes back, and released in the turn whose moment
+    /// it is held until, so there is hardly ever one. The first of them that waits for a decision of an error device.
     pub(crate) fn carry_all(
         &mut self,
         links: &mut Links,
@@ -76,6 +96,12 @@ impl<'a> Thread<'a> {
         ensures quiet { IfOk result (λ found. entries ≡ length links.old.entries → Idles (StandsBut found) self.old links.old self.new links.new) }
         ensures alone { OnOk result (AsksNothing links.old links.new) }
     {
+        if entries != links.entries.len() {
+            return Ok(None);
+        }
+        if self.is_bare() {
+            return Ok(None);
+        }
         let mut found = None;
         for place in 0..self.part.requests.len() {
             if entries != links.entries.len() {

@@ -50,7 +50,8 @@ pub(crate) fn tell(before: usize, after: usize) -> Turned
 }
 
 impl<'a> Thread<'a> {
-    // Cuts a request that was accepted, or notes it, where it can't be cut yet.
+    // Cuts a request that was accepted; where it can't be cut yet, it is to be put to the home of the device whose
+    // limits count it, or noted.
     fn cut_or_note(&mut self, links: &mut Links, req: ReqId) -> Result<(), OutOfMemory>
         requires { self.old.me < vec_len links.old.queues }
         ensures acted { OnOk result (Acted self.old links.old self.new links.new) }
@@ -59,7 +60,7 @@ impl<'a> Thread<'a> {
     {
         let pieces = self.cut(links, req)?;
         if pieces == 0 {
-            self.note_call(req)?;
+            self.set_out(links, req)?;
         }
         Ok(())
     }
@@ -159,9 +160,9 @@ impl<'a> Thread<'a> {
         }
     }
 
-    // What a token that came brings about: a piece goes back from a full home, or is back and completes its
-    // request where it was the last of its pieces; and a walk visits this thread, where the mark of a
-    // removal stops what waits.
+    // What a token that came brings about: a request waits in a device's line, or is back and goes on; a piece goes
+    // back from a full home, or is back and completes its request where it was the last of its pieces; and a walk
+    // visits this thread, where the mark of a removal stops what waits.
     fn came(&mut self, links: &mut Links, id: Id) -> Result<(), OutOfMemory>
         requires { self.old.me < vec_len links.old.queues }
         ensures acted { OnOk result (Acted self.old links.old self.new links.new) }
@@ -169,6 +170,7 @@ impl<'a> Thread<'a> {
         ensures came { OnOk result (Comes id self.old links.old self.new links.new) }
     {
         match id {
+            Id::Request(req) => self.request_came(links, req),
             Id::Piece(req, k) => self.piece_came(links, req, k),
             Id::Walk(walk) => {
                 self.visit(links, walk)?;
@@ -380,13 +382,14 @@ impl<'a> Thread<'a> {
     }
 
     /// A turn: at most 8 messages, at most 8 pieces of each base device that are sent again, the pending actions, at
-    /// most 8 pieces of each base device whose home it is and that is no aio device, the releases of held requests that
-    /// are due, at most 8 lines of the script, the decisions of error devices that requests wait for, the closes of
-    /// handles whose device is being removed (after Shutdown of all) and the destructs that are due, and what is still
-    /// to be put, until the queue that it goes to is full; where it did none of this, it cuts, holds or completes the
-    /// first open request that can be or takes a decision on it, or sends back a piece that is one too many at a
-    /// device. `Quiet` only where nothing could be done. It answers out of memory also where a number runs out: after
-    /// 2^62 requests of the thread, or where a count of messages, handles, pieces or lines would pass its type.
+    /// most 8 pieces of each base device whose home it is and that is no aio device, at most 64 steps for the line of
+    /// each limited device whose home it is, the releases of held requests that are due, at most 8 lines of the script,
+    /// the decisions of error devices that requests wait for, the closes of handles whose device is being removed
+    /// (after Shutdown of all) and the destructs that are due, and what is still to be put, until the queue that it
+    /// goes to is full; where it did none of this, it cuts, holds or completes the first open request that can be or
+    /// takes a decision on it, or sends back a piece that is one too many at a device. `Quiet` only where nothing could
+    /// be done. It answers out of memory also where a number runs out: after 2^62 requests of the thread, or where a
+    /// count of messages, handles, pieces or lines would pass its type.
     pub fn turn(&mut self, links: &mut Links) -> Result<Turned, OutOfMemory>
         requires me { number_of self.old < vec_len links.old.queues }
         requires rows { links.old.registry.setup ≡ rows_of (setup_of self.old) }
@@ -400,6 +403,7 @@ impl<'a> Thread<'a> {
         self.retry_all(links)?;
         self.discharge_all(links)?;
         self.serve_all(links)?;
+        self.limit_all(links)?;
         self.release_all(links)?;
         self.command_all(links)?;
         self.call_noted(links, before)?;

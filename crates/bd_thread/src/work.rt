@@ -50,12 +50,12 @@ impl<'a> Thread<'a> {
     }
 
     /// A turn that asks the registry for nothing, and leaves it as it is: at most 8 messages, at most 8 pieces of each
-    /// base device that are sent again, at most 8 pieces of each store, the releases of held requests that are due, at
-    /// most 8 lines of the script as far as they submit or only end, the destructs that are due, and what is still to
-    /// be put, until the queue that it goes to is full; where it did none of this, it cuts, holds or completes the
-    /// first open request that can be. `Quiet` only where nothing could be done; a request that waits for a decision is
-    /// then noted for a turn that has the registry, so that the thread wants that. It answers out of memory where
-    /// `turn` does.
+    /// base device that are sent again, at most 8 pieces of each store, at most 64 steps for the line of each limited
+    /// device, the releases of held requests that are due, at most 8 lines of the script as far as they submit or only
+    /// end, the destructs that are due, and what is still to be put, until the queue that it goes to is full; where it
+    /// did none of this, it cuts, holds or completes the first open request that can be. `Quiet` only where nothing
+    /// could be done; a request that waits for a decision is then noted for a turn that has the registry, so that the
+    /// thread wants that. It answers out of memory where `turn` does.
     pub fn work(&mut self, links: &mut Links) -> Result<Turned, OutOfMemory>
         requires { number_of self.old < vec_len links.old.queues }
         ensures acted { OnOk result (Acted self.old links.old self.new links.new) }
@@ -68,6 +68,7 @@ impl<'a> Thread<'a> {
         self.receive_all(links)?;
         self.retry_all(links)?;
         self.serve_all(links)?;
+        self.limit_all(links)?;
         self.release_all(links)?;
         self.submit_all(links)?;
         self.destruct_all(links)?;

@@ -7,7 +7,7 @@ use Rattle.bd_machine.specs.declared.state.OpenRequest.{OpenRequest}
 use Rattle.bd_machine.specs.declared.state.Part.{Part}
 use Rattle.bd_machine.specs.Aborts.{stopped}
 use Rattle.bd_machine.specs.View.{View}
-use Rattle.bd_steps.specs.Stopping.{abortable}
+use Rattle.bd_steps.specs.Stopping.{abortable, turned_back}
 use Rattle.bd_links.specs.Entries.{longer}
 use Rattle.bd_tokens.specs.Tokens.{Sets}
 use Rattle.bd_thread.specs.declared.links.Links.{Links}
@@ -34,14 +34,14 @@ returns c =
     let due : abort_due old before c.args.req c.args.cause ≡ Some r =
     sym (c.abortable.ensures ∙ ap (λ (v : View). abortable old.setup.now old.me v c.args.req c.args.cause) c.seen.ensures) ∙ c.in-Some.is in
     let part = untaken (stopped old.setup.now old.part c.args.req (Some r)) in
-    let new : Thread = record old { part = part; held = c.hold.new.self; outbox = c.drop_unsent.new.outbox; retries = c.drop_unsent.new.retries; holds = without_hold old.holds c.args.req r.hold } in
+    let new : Thread = record old { part = part; held = c.hold.new.self; outbox = c.turn_back.new.outbox; retries = c.drop_unsent.new.retries; holds = without_hold old.holds c.args.req r.hold } in
     let after : Links = record before { entries = longer old.me before.entries (acts.Abort c.args.req c.args.cause) } in
     let left : Part → List HoldKey → Thread = λ p holds. record new { part = untaken p; holds = holds } in
     let thread = c.in_ok-note.ensures.thread ∙ ap₂ left c.stop_waiting.ensures c.remove.ensures in
     let is : IsAborted c.args.req c.args.cause r old before new after = record {
       thread = refl;
       held = subst (λ (x : OpenRequest). Sets old.held.items c.hold.new.self.items (ids.Request c.args.req) (Some (keeps.Request x))) c.aborted.ensures c.in_ok-hold.ensures.ok;
-      outbox = c.drop_unsent.ensures.outbox;
+      outbox = c.in_ok-turn_back.ensures ∙ ap (turned_back c.args.req r.trip) c.drop_unsent.ensures.outbox;
       retries = c.drop_unsent.ensures.retries;
       links = refl;
     } in

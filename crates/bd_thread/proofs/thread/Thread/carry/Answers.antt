@@ -1,16 +1,28 @@
-use Rattle.std.proofs.Common.{◌≡◌, ◌&&◌, Bool, true, false, refl, sym, ◌∙◌, ap}
+use Rattle.std.proofs.Common.{◌≡◌, ◌&&◌, Bool, true, false, refl, sym, ◌∙◌, ap, subst}
 use Rattle.bd_flight.specs.declared.next.Step.{Step}
 use Rattle.bd_flight.specs.declared.next.Step.TheVariants as steps
 use Rattle.bd_flight.specs.Next.{may_take, next_step}
 use Rattle.bd_machine.specs.View.{View}
 use Rattle.bd_thread.specs.Injections.{asks_decision, is_inject}
 use Rattle.bd_thread.specs.Seen.{view_of}
-use Rattle.bd_thread.specs.Waits.{is_taken_alone}
-use Rattle.bd_thread.proofs.Alone.{cuts_alone, stops_alone}
+use Rattle.bd_thread.specs.Delays.{StandsStill}
+use Rattle.bd_thread.specs.Limits.{NoWayOut}
+use Rattle.bd_thread.specs.Waits.{is_taken_alone, Idles}
+use Rattle.bd_thread.proofs.Alone.{alone_none, alone_then, cuts_alone, stops_alone}
 use Rattle.bd_thread.proofs.Carried.{abort_is_due, cut_is_due, other_step}
-use Rattle.bd_thread.proofs.Idle.{cuts_more, stops_more}
+use Rattle.bd_thread.proofs.Going.{acted_none, acted_then}
+use Rattle.bd_thread.proofs.Idle.{cuts_more, idle_here, idle_then, stops_more}
+use Rattle.bd_thread.proofs.Limiting.{not_here}
 use Rattle.bd_thread.proofs.Injecting.{pend_is_due, pends_alone, pends_more}
 use Rattle.bd_thread.proofs.thread.Thread.carry.Goals as goal
+
+pub returns-then-not-is_here : goal.returns-then-not-is_here
+returns-then-not-is_here c = record {
+  acted = acted_none _ _;
+  tickets = λ keeps. keeps;
+  quiet = idle_here _ _ (not_here c.args.req c.args.self.now c.args.links.now (sym c.is_here.ensures ∙ c.if-not-is_here.true));
+  alone = alone_none _;
+}
 
 pub returns-in_ok-stop-in-Abort : goal.returns-in_ok-stop-in-Abort
 returns-in_ok-stop-in-Abort c =
@@ -63,20 +75,27 @@ asks_as step may h = go (is_inject step) may h
     go true false e = sym e
     go false b e = refl
 
-pub returns-in_ok-go_on-in_default : goal.returns-in_ok-go_on-in_default
-returns-in_ok-go_on-in_default c =
+pub returns-in_ok-go_out-in_default : goal.returns-in_ok-go_out-in_default
+returns-in_ok-go_out-in_default c =
     let t = c.args.self.now in
     let links = c.args.links.now in
     let req = c.args.req in
+    let step = c.next_step-step.result in
     let gone = c.in_ok-go_on-in_default.ensures in
+    let out = c.in_ok-go_out-in_default.ensures in
     let step-is = c.next_step-step.ensures.step ∙ ap (λ (v : View). next_step t.setup.now t.me v req) c.seen.ensures in
-    let stays : is_taken_alone (next_step t.setup.now t.me (view_of t links) req) ≡ false = sym (ap is_taken_alone step-is) ∙ other_step c.next_step-step.result c.in_default.not-Cut c.in_default.not-Pend c.in_default.not-Abort in
+    let stays : is_taken_alone (next_step t.setup.now t.me (view_of t links) req) ≡ false = sym (ap is_taken_alone step-is) ∙ other_step step c.in_default.not-Cut c.in_default.not-Pend c.in_default.not-Abort in
     let may : may_take t.setup.now t.me (view_of t links) req (next_step t.setup.now t.me (view_of t links) req) ≡ true =
-    sym (ap (may_take t.setup.now t.me (view_of t links) req) step-is) ∙ ap (λ (v : View). may_take t.setup.now t.me v req c.next_step-step.result) (sym c.seen.ensures) ∙ c.next_step-step.ensures.allowed in
-    let asks : is_inject c.next_step-step.result ≡ asks_decision t links req = ap is_inject step-is ∙ asks_as (next_step t.setup.now t.me (view_of t links) req) (may_take t.setup.now t.me (view_of t links) req (next_step t.setup.now t.me (view_of t links) req)) may in
+    sym (ap (may_take t.setup.now t.me (view_of t links) req) step-is) ∙ ap (λ (v : View). may_take t.setup.now t.me v req step) (sym c.seen.ensures) ∙ c.next_step-step.ensures.allowed in
+    let asks : is_inject step ≡ asks_decision t links req = ap is_inject step-is ∙ asks_as (next_step t.setup.now t.me (view_of t links) req) (may_take t.setup.now t.me (view_of t links) req (next_step t.setup.now t.me (view_of t links) req)) may in
+    let both : Idles (λ t links. StandsStill req t links × NoWayOut req step t links) t links c.go_out.new.self c.go_out.new.links =
+    idle_then {P = StandsStill req} {Q = NoWayOut req step} t links c.go_on.new.self c.go_on.new.links c.go_out.new.self c.go_out.new.links gone.acted out.acted (λ still no_way. (still, no_way)) gone.quiet out.quiet in
     record {
-      acted = gone.acted;
-      tickets = gone.tickets;
-      quiet = λ few. let i = gone.quiet few in record { thread = i.thread; links = i.links; waits = record { none = record { step = stays; still = i.waits }; asks_is = c.is_inject.ensures ∙ asks } };
-      alone = gone.alone;
+      acted = acted_then _ _ _ _ _ _ gone.acted out.acted;
+      tickets = λ keeps. out.tickets (gone.tickets keeps);
+      quiet = λ few.
+          let i = both few in
+          let no_way : NoWayOut req (next_step t.setup.now t.me (view_of t links) req) t links = subst (λ (s : Step). NoWayOut req s t links) step-is i.waits.1 in
+          record { thread = i.thread; links = i.links; waits = record { none = record { step = stays; still = i.waits.0; out = no_way }; asks_is = c.is_inject.ensures ∙ asks } };
+      alone = alone_then _ _ _ gone.alone out.alone;
     }

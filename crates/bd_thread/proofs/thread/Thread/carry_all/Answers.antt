@@ -3,9 +3,13 @@ use Rattle.std.proofs.lemmas.Option.{slice_get_read}
 use Rattle.bd_machine.specs.declared.state.Open.{Open}
 use Rattle.bd_thread.proofs.Alone.{alone_none, alone_then}
 use Rattle.bd_thread.proofs.Going.{acted_none, acted_then}
+use Rattle.bd_thread.proofs.Limiting.{bare_stands}
 use Rattle.bd_thread.proofs.Idle.{idle_here}
 use Rattle.bd_thread.proofs.Carried.{stands_all, stands_below}
 use Rattle.bd_thread.proofs.thread.Thread.carry_all.Goals as goal
+
+pub returns-then-is_bare-clause-quiet : goal.returns-then-is_bare-clause-quiet
+returns-then-is_bare-clause-quiet c = λ same. idle_here _ _ (bare_stands c.args.self.now c.args.links.now (sym c.is_bare.ensures ∙ c.if-is_bare.true))
 
 pub loop-place-init : goal.loop-place-init
 loop-place-init c = record {

@@ -1,12 +1,20 @@
-use Rattle.std.proofs.Common.{◌≡◌, true, None, subst}
+use Rattle.std.proofs.Common.{◌≡◌, true, None, sym, ◌∙◌, subst}
 use Rattle.bd_steps.specs.Completions.{ending_of}
 use Rattle.bd_thread.specs.Delays.{hold_due, release_due, EndsHold, StandsStill}
 use Rattle.bd_thread.specs.Seen.{view_of}
-use Rattle.bd_thread.proofs.Alone.{alone_then, carried_alone}
-use Rattle.bd_thread.proofs.Delaying.{carried_idle, ends_hold_alone, ends_idle, ends_more}
-use Rattle.bd_thread.proofs.Going.{acted_then}
-use Rattle.bd_thread.proofs.Idle.{idle_then}
+use Rattle.bd_thread.proofs.Alone.{alone_none, alone_then, carried_alone}
+use Rattle.bd_thread.proofs.Delaying.{carried_idle, ends_hold_alone, ends_idle, ends_more, not_own}
+use Rattle.bd_thread.proofs.Going.{acted_none, acted_then}
+use Rattle.bd_thread.proofs.Idle.{idle_here, idle_then}
 use Rattle.bd_thread.proofs.thread.Thread.go_on.Goals as goal
+
+pub returns-then-not-is_own : goal.returns-then-not-is_own
+returns-then-not-is_own c = record {
+  acted = acted_none _ _;
+  tickets = λ keeps. keeps;
+  quiet = idle_here _ _ (not_own c.args.req c.args.self.now c.args.links.now (sym c.is_own.ensures ∙ c.if-not-is_own.true));
+  alone = alone_none _;
+}
 
 pub returns-then-ended : goal.returns-then-ended
 returns-then-ended c =

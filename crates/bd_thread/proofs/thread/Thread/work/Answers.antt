@@ -1,8 +1,8 @@
 use Rattle.std.proofs.Common.{length, ◌∙◌, ap}
 use Rattle.bd_thread.specs.Moves.{turned_of}
 use Rattle.bd_thread.proofs.Alone.{acted_alone, alone_then}
-use Rattle.bd_thread.proofs.Delaying.{then_released}
 use Rattle.bd_thread.proofs.Going.{acted_then}
+use Rattle.bd_thread.proofs.Limiting.{then_served}
 use Rattle.bd_thread.proofs.Waiting.{acted_noted, tickets_noted}
 use Rattle.bd_thread.proofs.Working.{quiet_alone_by, work_idle}
 use Rattle.bd_thread.proofs.thread.Thread.work.Goals as goal
@@ -11,7 +11,8 @@ pub returns : goal.returns
 returns c =
     let retried = acted_then _ _ _ _ _ _ c.in_ok-receive_all.ensures.acted c.in_ok-retry_all.ensures.acted in
     let served = acted_then _ _ _ _ _ _ retried c.in_ok-serve_all.ensures.acted in
-    let released = acted_then _ _ _ _ _ _ served c.in_ok-release_all.ensures.acted in
+    let limited = acted_then _ _ _ _ _ _ served c.in_ok-limit_all.ensures.acted in
+    let released = acted_then _ _ _ _ _ _ limited c.in_ok-release_all.ensures.acted in
     let submitted = acted_then _ _ _ _ _ _ released c.in_ok-submit_all.ensures.acted in
     let destructed = acted_then _ _ _ _ _ _ submitted c.in_ok-destruct_all.ensures.acted in
     let sent = acted_then _ _ _ _ _ _ destructed c.in_ok-put_outbox.ensures.acted in
@@ -20,7 +21,8 @@ returns c =
     let acted = acted_noted _ _ c.refuse_all.new.self _ c.note_found.new.self c.in_ok-note_found.ensures.thread (acted_then _ _ _ _ _ _ carried c.in_ok-refuse_all.ensures.acted) in
     let alone-retried = alone_then _ _ _ c.in_ok-receive_all.ensures.alone c.in_ok-retry_all.ensures.alone in
     let alone-served = alone_then _ _ _ alone-retried c.in_ok-serve_all.ensures.alone in
-    let alone-released = alone_then _ _ _ alone-served c.in_ok-release_all.ensures.alone in
+    let alone-limited = alone_then _ _ _ alone-served c.in_ok-limit_all.ensures.alone in
+    let alone-released = alone_then _ _ _ alone-limited c.in_ok-release_all.ensures.alone in
     let alone-submitted = alone_then _ _ _ alone-released c.in_ok-submit_all.ensures.alone in
     let alone-destructed = alone_then _ _ _ alone-submitted c.in_ok-destruct_all.ensures.alone in
     let alone-sent = alone_then _ _ _ alone-destructed c.in_ok-put_outbox.ensures.alone in
@@ -28,14 +30,14 @@ returns c =
     let alone-carried = alone_then _ _ _ alone-posted c.in_ok-found.ensures.alone in
     let alone = alone_then _ _ _ alone-carried c.in_ok-refuse_all.ensures.alone in
     let before = c.args.links.now in
-    let piece-acted = acted_then _ _ _ _ _ _ c.in_ok-serve_all.ensures.acted c.in_ok-release_all.ensures.acted in
-    let piece = then_released _ _ _ _ _ _ c.in_ok-serve_all.ensures.acted c.in_ok-release_all.ensures.acted c.in_ok-serve_all.ensures.quiet c.in_ok-release_all.ensures.quiet in
+    let piece-acted = acted_then _ _ _ _ _ _ (acted_then _ _ _ _ _ _ c.in_ok-serve_all.ensures.acted c.in_ok-limit_all.ensures.acted) c.in_ok-release_all.ensures.acted in
+    let piece = then_served _ _ _ _ _ _ _ _ c.in_ok-serve_all.ensures.acted c.in_ok-limit_all.ensures.acted c.in_ok-release_all.ensures.acted c.in_ok-serve_all.ensures.quiet c.in_ok-limit_all.ensures.quiet c.in_ok-release_all.ensures.quiet in
     let answer = c.tell-turned.ensures ∙ ap (λ n. turned_of n c.len.result) c.len-before.ensures ∙ ap (λ n. turned_of (length before.entries) n) c.len.ensures in
     record {
       acted = acted;
       tickets = λ keeps.
           let received = c.in_ok-retry_all.ensures.tickets (c.in_ok-receive_all.ensures.tickets keeps) in
-          let done = c.in_ok-destruct_all.ensures.tickets (c.in_ok-submit_all.ensures.tickets (c.in_ok-release_all.ensures.tickets (c.in_ok-serve_all.ensures.tickets received))) in
+          let done = c.in_ok-destruct_all.ensures.tickets (c.in_ok-submit_all.ensures.tickets (c.in_ok-release_all.ensures.tickets (c.in_ok-limit_all.ensures.tickets (c.in_ok-serve_all.ensures.tickets received)))) in
           let put = c.in_ok-put_all_due.ensures.tickets (c.in_ok-put_outbox.ensures.tickets done) in
           tickets_noted c.refuse_all.new.self c.note_found.new.self c.in_ok-note_found.ensures.thread (c.in_ok-refuse_all.ensures.tickets (c.in_ok-found.ensures.tickets put));
       turned = answer;
