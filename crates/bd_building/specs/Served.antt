@@ -3,7 +3,7 @@ use Rattle.std.specs.Prelude.{ℕ, Bool, true, false, not, List, position, Optio
 use Rattle.bd_config.specs.declared.command.Command.{Command}
 use Rattle.bd_config.specs.declared.command.Command.TheVariants as commands
 
--- all devices, injected errors, and what is ignored: limits are served once threads keep them
+-- all that a configuration may ask for
 abbrev pub is_served : Command → Bool
 is_served (commands.Malloc name blocks size boundary depth) = true
 is_served (commands.Null name blocks size boundary depth) = true
@@ -13,8 +13,8 @@ is_served (commands.Split base count megabytes) = true
 is_served (commands.Delay base name average_read p99_read average_write p99_write) = true
 is_served (commands.Error base) = true
 is_served (commands.InjectError name types kind count) = true
+is_served (commands.SetLimits name rates) = true
 is_served commands.PassedOver = true
-is_served _ = false
 
 -- the index of the first command that isn't served
 abbrev pub first_unserved : List Command → Option ℕ

@@ -4,8 +4,8 @@ ghost use Rattle.bd_building.specs.Served.{first_unserved, is_served};
 
 use bd_config::Command;
 
-/// Whether the program serves what a command asks for as yet: a device of any kind, an injected
-/// error, or what is ignored.
+/// Whether the program serves what a command asks for: a device of any kind, an injected error, a
+/// device's limits, or what is ignored.
 pub fn is_served(command: &Command) -> bool
     ensures { result ≡ is_served command.now }
 {
@@ -18,8 +18,8 @@ pub fn is_served(command: &Command) -> bool
         | Command::Delay { .. }
         | Command::Error { .. }
         | Command::InjectError { .. }
+        | Command::SetLimits { .. }
         | Command::PassedOver => true,
-        _ => false,
     }
 }
 

@@ -21,12 +21,14 @@ fn named(alloc: Global, word: &str) -> Result<Name, OutOfMemory> {
     Name::from_slice(alloc, word.as_bytes())
 }
 
-fn rates(requests: &str) -> RateSet {
+// One limit: of requests, or of the megabytes of both ways, of reads or of writes; the others are absent.
+fn rates(which: &str, limit: &str) -> RateSet {
+    let limit = number(limit);
     RateSet {
-        rw_ios_per_sec: Some(number(requests)),
-        rw_mbytes_per_sec: None,
-        r_mbytes_per_sec: None,
-        w_mbytes_per_sec: None,
+        rw_ios_per_sec: (which == "requests").then_some(limit),
+        rw_mbytes_per_sec: (which == "both").then_some(limit),
+        r_mbytes_per_sec: (which == "reads").then_some(limit),
+        w_mbytes_per_sec: (which == "writes").then_some(limit),
     }
 }
 
@@ -79,9 +81,9 @@ fn command(alloc: Global, words: &[&str]) -> Result<Command, OutOfMemory> {
             kind: ErrKind::Failure,
             count: small(count),
         },
-        ["limit", name, requests] => Command::SetLimits {
+        ["limit", name, which, limit] => Command::SetLimits {
             name: named(alloc, name)?,
-            rates: rates(requests),
+            rates: rates(which, limit),
         },
         _ => Command::PassedOver,
     })
@@ -176,8 +178,15 @@ fn device_told(text: &mut String, row: &DevRow) -> Result<(), OutOfMemory> {
 }
 
 fn rates_told(text: &mut String, rates: &Rates) -> Result<(), OutOfMemory> {
-    if rates.rw_ios_per_sec > 0 {
-        write!(text, " limit {}", rates.rw_ios_per_sec)?;
+    rate_told(text, "requests", rates.rw_ios_per_sec)?;
+    rate_told(text, "both", rates.rw_mbytes_per_sec)?;
+    rate_told(text, "reads", rates.r_mbytes_per_sec)?;
+    rate_told(text, "writes", rates.w_mbytes_per_sec)
+}
+
+fn rate_told(text: &mut String, which: &str, limit: u64) -> Result<(), OutOfMemory> {
+    if limit > 0 {
+        write!(text, " limit {which} {limit}")?;
     }
     Ok(())
 }
