@@ -3,4 +3,3 @@ pub mod Disks
 pub mod Made
 pub mod Progress
 pub mod Rows
-pub mod Served

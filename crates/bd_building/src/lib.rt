@@ -8,8 +8,6 @@ mod causes;
 mod made;
 mod parts;
 mod rows;
-mod served;
 mod waiter;
 
 pub use building::{BuildError, Building};
-pub use served::{first_unserved, is_served};

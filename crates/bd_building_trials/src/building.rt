@@ -5,7 +5,7 @@ use bd_base::{
     DevRow, ErrKind, Injections, IoSet, Kind, Name, OutOfMemory, RateSet, Rates, Rows, Setup,
     Waiting,
 };
-use bd_building::{BuildError, Building, first_unserved};
+use bd_building::{BuildError, Building};
 use bd_config::Command;
 use std::alloc::Global;
 
@@ -109,24 +109,15 @@ fn made(alloc: Global, disk: u64, commands: Vec<Command>) -> Result<Building, Bu
     Ok(building)
 }
 
-/// The answer of a case: commands where no file has blocks (`all`), or each has so many (`disk`), or the
-/// first that isn't served as yet (`served`).
+/// The answer of a case: commands where no file has blocks (`all`), or each has so many (`disk`).
 pub(crate) fn answer(alloc: Global, case: &str) -> Result<String, OutOfMemory> {
     let (form, rest) = crate::words::first_word(case);
     match form {
-        "served" => served(alloc, commands(alloc, rest)?.as_slice()),
         "disk" => {
             let (disk, steps) = crate::words::first_word(rest);
             told(alloc, made(alloc, number(disk), commands(alloc, steps)?))
         }
         _ => told(alloc, made(alloc, 0, commands(alloc, rest)?)),
-    }
-}
-
-fn served(alloc: Global, commands: &[Command]) -> Result<String, OutOfMemory> {
-    match first_unserved(commands) {
-        Some(index) => Ok(format!(in alloc; "not {index}")?),
-        None => Ok(String::from_str(alloc, "all")?),
     }
 }
 

@@ -6,7 +6,6 @@ use Rattle.serde_json.specs.Read.{read}
 use Rattle.serde_json.proofs.OnLiterals.{serde_json_on_literals}
 use Rattle.bd_base.specs.declared.request.Errno.{Errno}
 use Rattle.bd_building.specs.Progress.{Progress, configured, nothing_yet}
-use Rattle.bd_building.specs.Served.{first_unserved}
 use Rattle.bd_config.specs.Config.{IsConfig, HasShape, AsksFor}
 use Rattle.bd_config.proofs.Exact.{config_once}
 use Rattle.bd_config.specs.Shape.{subsystems_of}
@@ -18,11 +17,11 @@ use Rattle.bd_top.specs.declared.configure.ConfigureError.{ConfigureError}
 use Rattle.bd_top.specs.declared.configure.ConfigureError.TheVariants.{OutOfMemory, Text, Shape, Method}
 use Rattle.bd_top.specs.declared.fault.Fault.{Fault}
 use Rattle.bd_top.specs.declared.fault.Fault.TheVariants as faults
-use Rattle.bd_top.specs.Configure.{CauseBy, Configures, IsRefused, NotRefused}
+use Rattle.bd_top.specs.Configure.{CommandsCause, Configures, IsRefused}
 use Rattle.bd_top.specs.Disks.{AreDisksOf, Opens}
 use Rattle.bd_top.specs.Opening.{AreDone, DoingCause}
 use Rattle.bd_top.specs.Exercise.{built_in}
-use Rattle.bd_top.proofs.ConfigureLemmas.{nothing_wrong}
+use Rattle.bd_top.proofs.ConfigureLemmas.{cause_by, nothing_wrong}
 use Rattle.bd_top.proofs.NoDisks.{kinds_fine, AreNoneAio}
 use Rattle.bd_top.proofs.InForm.{text_is_no_memory, shape_is_no_memory, method_is_no_memory}
 
@@ -70,20 +69,24 @@ devices threads = devices_or (nothing_yet threads) (configured threads commands 
 made : (threads : ℕ) → configured threads commands [] ≡ Ok (devices threads)
 made threads = refl
 
+-- no command is refused: none is done yet
+abbrev NotRefused : List Command → ℕ → ℤ → Type 0
+NotRefused commands index code = ⊥
+
 never : (index : ℕ) (code : ℤ) → NotRefused commands index code → ⊥
 never index code refused = refused
 
 -- nothing but want of memory keeps it from being read as its commands
-pub nothing_wrong_with_it : (why : ConfigureError) → CauseBy NotRefused built_in why → why ≡ OutOfMemory
-nothing_wrong_with_it why cause = nothing_wrong NotRefused built_in commands is_config refl never why cause
+pub nothing_wrong_with_it : (why : ConfigureError) → CommandsCause built_in why → why ≡ OutOfMemory
+nothing_wrong_with_it why cause = nothing_wrong NotRefused built_in commands is_config never why (cause_by NotRefused built_in why cause)
 
-pub is_text : CauseBy NotRefused built_in Text → ⊥
+pub is_text : CommandsCause built_in Text → ⊥
 is_text cause = text_is_no_memory (nothing_wrong_with_it Text cause)
 
-pub has_shape : (place : ℕ) → CauseBy NotRefused built_in (Shape place) → ⊥
+pub has_shape : (place : ℕ) → CommandsCause built_in (Shape place) → ⊥
 has_shape place cause = shape_is_no_memory place (nothing_wrong_with_it (Shape place) cause)
 
-pub has_commands : (index : ℕ) (code : ℤ) → CauseBy NotRefused built_in (Method index code) → ⊥
+pub has_commands : (index : ℕ) (code : ℤ) → CommandsCause built_in (Method index code) → ⊥
 has_commands index code cause = method_is_no_memory index code (nothing_wrong_with_it (Method index code) cause)
 
 -- ---- its commands
@@ -92,14 +95,13 @@ no_disks : (told : List ℕ → Told) (disks : List ℕ) → AreDisksOf told com
 no_disks told disks are = are.1.1
 
 -- its commands open no file, and make the devices
-pub makes : (told : List ℕ → Told) (threads : ℕ) (read : List Command) (devices : Progress) → IsConfig built_in read → first_unserved read ≡ None → AreDone told threads read devices → Configures threads built_in [] devices
-makes told threads read devices asks served done =
+pub makes : (told : List ℕ → Told) (threads : ℕ) (read : List Command) (devices : Progress) → IsConfig built_in read → AreDone told threads read devices → Configures threads built_in [] devices
+makes told threads read devices asks done =
     let same : read ≡ commands = config_once built_in read commands asks is_config in
     let are : AreDisksOf told commands done.disks = subst (λ (cs : List Command). AreDisksOf told cs done.disks) same done.may in
     record {
       commands = read;
       asks = asks;
-      served = served;
       made = ap (configured threads read) (sym (no_disks told done.disks are)) ∙ done.is;
     }
 

@@ -22,7 +22,7 @@ use Rattle.bd_top.specs.declared.files.ReadError.{ReadError}
 use Rattle.bd_top.specs.declared.files.ReadError.TheVariants as errors
 use Rattle.bd_top.specs.declared.inputs.ScriptError.{ScriptError}
 use Rattle.bd_top.specs.declared.inputs.ScriptError.TheVariants as script_nos
-use Rattle.bd_top.specs.Configure.{CauseBy, IsRefused, NotRefused}
+use Rattle.bd_top.specs.Configure.{CauseBy, CommandsCause, IsRefused}
 use Rattle.bd_top.specs.Disks.{AreDisksOf, BeginsWith, IsNamed, MayHave, MayGive, Opens}
 use Rattle.bd_top.specs.Fault.{IsFaultOf, IsScriptFault, config_fault}
 use Rattle.bd_top.specs.Files.{IsRead, IsTooLong, ReadCause}
@@ -136,8 +136,8 @@ module _ (old mid end new : HostState) (name config jobs : List ℕ) (threads : 
 pub of_bytes : (old new : HostState) (config jobs : List ℕ) (threads : ℕ) (why : ReadError) (fault : Fault) → ReadCause old new config why → IsFaultOf config why fault → FileCause old new config jobs threads fault
 of_bytes old new config jobs threads why fault cause is = of_read old old new new config config jobs threads (inl refl) (later_same old) (kept_same new) why fault cause is
 
--- the fault of a configuration whose bytes ask for no commands that are served
-pub of_config : (old new : HostState) (config jobs : List ℕ) (threads : ℕ) (bytes : List ℕ) (why : ConfigureError) → IsRead (old.told config) bytes → CauseBy NotRefused bytes why
+-- the fault of a configuration whose bytes ask for no commands
+pub of_config : (old new : HostState) (config jobs : List ℕ) (threads : ℕ) (bytes : List ℕ) (why : ConfigureError) → IsRead (old.told config) bytes → CommandsCause bytes why
     → FileCause old new config jobs threads (config_fault why)
 of_config old new config jobs threads bytes why read cause = go why (cause_by (IsRefused threads old.told) bytes why cause)
   where
@@ -225,7 +225,7 @@ module _ (old mid new : HostState) (config jobs : List ℕ) (threads : ℕ) (com
       record {
         bytes = are.bytes;
         read = are.read;
-        outside = inr (record { commands = commands; asks = are.asks; why = inr (are.served, refused_at threads mid.told old.told commands index code later.told cause) });
+        outside = inr (record { commands = commands; asks = are.asks; why = refused_at threads mid.told old.told commands index code later.told cause });
       }
   of_doing (faults.JobText line) cause = absurd cause
   of_doing faults.WriteFault cause = absurd cause
@@ -238,6 +238,6 @@ devices_of old mid config threads commands devices are later done = record {
   bytes = are.bytes;
   read = are.read;
   disks = done.disks;
-  means = record { commands = commands; asks = are.asks; served = are.served; made = done.is };
+  means = record { commands = commands; asks = are.asks; made = done.is };
   opened = disks_at mid.told old.told commands done.disks later.told done.may;
 }

@@ -35,7 +35,7 @@ read_told t file bytes e read =
 config_inside : (threads : ℕ) (told : List ℕ → Told) (t : Told) (file : List ℕ) (why : ConfigureError) → t ≡ Content file → ConfiguresAnyhow threads told file → IsOutside threads told t why → why ≡ config_nos.OutOfMemory
 config_inside threads told t file why e means out =
     let P : List ℕ → Type 0 = λ bytes. ConfigureCause threads told bytes why in
-    nothing_wrong (IsRefused threads told) file means.commands means.asks means.served (λ index code. not_refused threads told means.commands index code means.made) why
+    nothing_wrong (IsRefused threads told) file means.commands means.asks (λ index code. not_refused threads told means.commands index code means.made) why
     (subst P (read_told t file out.bytes e out.read) out.outside)
 
 -- a fault of a configuration's bytes isn't out of memory

@@ -10,11 +10,10 @@ use Rattle.bd_config.specs.Config.{IsJson, IsShapeError, IsMethodError, HasShape
 use Rattle.bd_config.specs.Shape.{subsystems_of, is_subsystem}
 use Rattle.bd_config.proofs.Exact.{config_once, config_has_shape, config_has_commands}
 use Rattle.bd_config.specs.declared.command.Command.{Command}
-use Rattle.bd_building.specs.Served.{first_unserved}
 use Rattle.bd_outside.specs.File.{Told}
 use Rattle.bd_top.specs.declared.configure.ConfigureError.{ConfigureError}
 use Rattle.bd_top.specs.declared.configure.ConfigureError.TheVariants.{OutOfMemory, Text, Shape, Method}
-use Rattle.bd_top.specs.Configure.{CauseBy, IsUnserved, IsRefused, IsRefusedAnyhow, IsUndone}
+use Rattle.bd_top.specs.Configure.{CauseBy, IsRefused, IsRefusedAnyhow, IsUndone}
 
 -- the same index and the same code
 abbrev Same : ℕ → ℤ → ℕ → ℤ → Type 0
@@ -91,20 +90,10 @@ refused_once threads told commands i j c d p q =
     cc
 
 module _ (P Q : List Command → ℕ → ℤ → Type 0) (once : (commands : List Command) (i j : ℕ) (c d : ℤ) → P commands i c → Q commands j d → Same i c j d) where
-  undone_here : (commands : List Command) (i j : ℕ) (c d : ℤ) → IsUnserved commands i c ⊎ ((first_unserved commands ≡ None) × P commands i c)
-      → IsUnserved commands j d ⊎ ((first_unserved commands ≡ None) × Q commands j d) → Same i c j d
-  undone_here commands i j c d (inl p) (inl q) =
-      let same : i ≡ j = one_of _ i j p.first q.first in
-      let code : c ≡ d = p.is ∙ sym q.is in
-      cc
-  undone_here commands i j c d (inl p) (inr q) = absurd (none_is_some _ i q.0 p.first)
-  undone_here commands i j c d (inr p) (inl q) = absurd (none_is_some _ j p.0 q.first)
-  undone_here commands i j c d (inr p) (inr q) = once commands i j c d p.1 q.1
-
   undone_once : (bytes : List ℕ) (i j : ℕ) (c d : ℤ) → IsUndone P bytes i c → IsUndone Q bytes j d → Same i c j d
   undone_once bytes i j c d p q =
-      let R : List Command → Type 0 = λ commands. IsUnserved commands j d ⊎ ((first_unserved commands ≡ None) × Q commands j d) in
-      undone_here p.commands i j c d p.why (subst R (config_once bytes q.commands p.commands q.asks p.asks) q.why)
+      let R : List Command → Type 0 = λ commands. Q commands j d in
+      once p.commands i j c d p.why (subst R (config_once bytes q.commands p.commands q.asks p.asks) q.why)
 
   -- ---- one cause
 

@@ -139,13 +139,13 @@ module _ (words : List (List ℕ)) (host : HostState) (fault : Fault) (wrong : I
   no_devices devices bad is =
       let P : List ℕ → Type 0 = λ bytes. IsConfig bytes is.means.commands in
       bad.known
-      (nothing_wrong (IsRefusedAnyhow threads host.told) wrong.config is.means.commands (subst P (read_told config_told wrong.config is.bytes wrong.told is.read) is.means.asks) is.means.served
+      (nothing_wrong (IsRefusedAnyhow threads host.told) wrong.config is.means.commands (subst P (read_told config_told wrong.config is.bytes wrong.told is.read) is.means.asks)
       (λ index code. not_refused_anyhow threads host.told is.means.commands index code is.disks devices is.opened is.means.made) bad.why bad.cause)
 
   -- of a configuration that makes devices the bytes have no cause
   no_cause : (why : ConfigureError) → IsScriptWrong threads host.told wrong.config jobs_told fault → IsOutside threads host.told config_told why → why ≡ config_nos.OutOfMemory
   no_cause why bad out =
-      nothing_wrong (IsRefused threads host.told) wrong.config bad.means.commands bad.means.asks bad.means.served
+      nothing_wrong (IsRefused threads host.told) wrong.config bad.means.commands bad.means.asks
       (λ index code. not_refused threads host.told bad.means.commands index code bad.means.made) why (outside_bytes threads host.told config_told wrong.config why wrong.told out)
 
   of_config : (given : ConfigureError) → (given ≡ config_nos.OutOfMemory → ⊥) → IsOutside threads host.told config_told given → config_fault given ≡ fault

@@ -1,31 +1,27 @@
 -- The devices that the bytes of a configuration make, or the first thing that is wrong with them.
-use Rattle.std.specs.Prelude.{◌≡◌, ℕ, ℤ, ◌⊎◌, List, None, Some, Ok, Err}
+use Rattle.std.specs.Prelude.{◌≡◌, ℕ, ℤ, ◌⊎◌, List, Ok, Err}
 use Rattle.serde_json.specs.Data.{Data}
 use Rattle.bd_base.specs.Errno.{number_of}
 use Rattle.bd_base.specs.declared.request.Errno.{Errno}
-use Rattle.bd_config.specs.Commands.{minus, not_supported}
+use Rattle.bd_config.specs.Commands.{minus}
 use Rattle.bd_config.specs.Config.{IsJson, IsConfig, IsShapeError, IsMethodError}
 use Rattle.bd_config.specs.declared.command.Command.{Command}
 use Rattle.bd_building.specs.Progress.{Progress, configured}
-use Rattle.bd_building.specs.Served.{first_unserved}
 use Rattle.bd_outside.specs.File.{Told}
 use Rattle.bd_top.specs.declared.configure.ConfigureError.{ConfigureError}
 use Rattle.bd_top.specs.declared.configure.ConfigureError.TheVariants.{OutOfMemory, Text, Shape, Method}
 use Rattle.bd_top.specs.Disks.{AreDisksOf}
 
--- the bytes are a configuration whose commands are all served, and come to these devices
--- where the disks that they open have these blocks, in order
+-- the bytes are a configuration whose commands come to these devices where the disks that they open have these blocks, in order
 pub record Configures (threads : ℕ) (bytes : List ℕ) (disks : List ℕ) (devices : Progress) : Type 0 where
   pub commands : List Command
   pub asks : IsConfig bytes commands
-  pub served : first_unserved commands ≡ None
   pub made : configured threads commands disks ≡ Ok devices
 
 -- the same, whatever blocks the disks may have by what the host tells of their files; the devices may differ by them
 pub record ConfiguresAnyhow (threads : ℕ) (told : List ℕ → Told) (bytes : List ℕ) : Type 0 where
   pub commands : List Command
   pub asks : IsConfig bytes commands
-  pub served : first_unserved commands ≡ None
   pub made : (disks : List ℕ) → AreDisksOf told commands disks → (devices : Progress) × (configured threads commands disks ≡ Ok devices)
 
 -- the bytes are the text of no JSON value
@@ -33,11 +29,6 @@ abbrev pub IsNoJson : List ℕ → Type 0
 IsNoJson bytes = (value : Data) → ¬ IsJson bytes value
 
 -- ---- refused commands
-
--- of these commands the one of this index is the first that isn't served as yet, which is answered as not supported
-pub record IsUnserved (commands : List Command) (index : ℕ) (code : ℤ) : Type 0 where
-  pub first : first_unserved commands ≡ Some index
-  pub is : code ≡ not_supported
 
 -- of these commands the one of this index is the first that is refused as they are done, with the number of this errno below zero,
 -- where their disks have blocks that they may have
@@ -54,15 +45,11 @@ pub record IsRefusedAnyhow (threads : ℕ) (told : List ℕ → Told) (commands 
   pub first : (disks : List ℕ) → AreDisksOf told commands disks → configured threads commands disks ≡ Err (index, errno)
   pub is : code ≡ minus (number_of errno)
 
--- no command is refused: none is done yet
-abbrev pub NotRefused : List Command → ℕ → ℤ → Type 0
-NotRefused commands index code = ⊥
-
--- the bytes are a configuration, and this command is the first that isn't served; or all are, and it is refused so
+-- the bytes are a configuration, of whose commands this one is refused so
 pub record IsUndone (Refused : List Command → ℕ → ℤ → Type 0) (bytes : List ℕ) (index : ℕ) (code : ℤ) : Type 0 where
   pub commands : List Command
   pub asks : IsConfig bytes commands
-  pub why : IsUnserved commands index code ⊎ ((first_unserved commands ≡ None) × Refused commands index code)
+  pub why : Refused commands index code
 
 -- ---- causes
 
@@ -73,15 +60,7 @@ CommandsCause bytes Text = IsNoJson bytes
 CommandsCause bytes (Shape place) = IsShapeError bytes place
 CommandsCause bytes (Method index code) = IsMethodError bytes index code
 
--- why commands of which one isn't served aren't done
-abbrev pub UnservedCause : List Command → ConfigureError → Type 0
-UnservedCause commands OutOfMemory = Unit {0}
-UnservedCause commands Text = ⊥
-UnservedCause commands (Shape place) = ⊥
-UnservedCause commands (Method index code) = IsUnserved commands index code
-
--- why bytes configure no devices: no text; a wrong shape; the first command that can't be read; else the first that can't be done,
--- which is one that isn't served or is refused so
+-- why bytes configure no devices: no text; a wrong shape; the first command that can't be read; else the first that is refused so
 abbrev pub CauseBy : (List Command → ℕ → ℤ → Type 0) → List ℕ → ConfigureError → Type 0
 CauseBy Refused bytes OutOfMemory = Unit {0}
 CauseBy Refused bytes Text = IsNoJson bytes

@@ -15,7 +15,6 @@ use Rattle.bd_machine.specs.Lines.{GoesAsFar}
 use Rattle.bd_machine.specs.Run.{IsCompleteRun}
 use Rattle.bd_machine.specs.Users.{dev_of}
 use Rattle.bd_building.specs.Progress.{Progress}
-use Rattle.bd_building.specs.Served.{first_unserved}
 use Rattle.bd_config.specs.Config.{IsConfig}
 use Rattle.bd_config.specs.declared.command.Command.{Command}
 use Rattle.bd_jobs.specs.Generated.{generated}
@@ -170,12 +169,11 @@ pub record IsOutside (threads : ℕ) (told : List ℕ → Told) (config : Told) 
   pub read : IsRead config bytes
   pub outside : ConfigureCause threads told bytes why
 
--- the bytes of the configuration ask for these commands, which are all served, as far as the host tells its file
+-- the bytes of the configuration ask for these commands, as far as the host tells its file
 pub record AreCommands (config : Told) (commands : List Command) : Type 0 where
   pub bytes : List ℕ
   pub read : IsRead config bytes
   pub asks : IsConfig bytes commands
-  pub served : first_unserved commands ≡ None
 
 -- the bytes of the configuration ask for a disk over the file of this name
 abbrev pub AsksForDisk : Told → List ℕ → Type 0

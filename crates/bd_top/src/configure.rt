@@ -1,14 +1,11 @@
 //! The commands of a configuration, or the first thing that is wrong with it.
-ghost use Rattle.std.specs.Prelude.{◌≡◌, List, None, Some, IfOk, IfErr, All};
+ghost use Rattle.std.specs.Prelude.{◌≡◌, IfOk, IfErr, All};
 ghost use Rattle.bd_base.specs.Errno.{number_of};
 ghost use Rattle.bd_config.specs.Commands.{IsOpenable, minus};
 ghost use Rattle.bd_config.specs.Config.{IsConfig};
-ghost use Rattle.bd_config.specs.declared.command.Command.{Command as Asked};
-ghost use Rattle.bd_building.specs.Served.{first_unserved};
-ghost use Rattle.bd_top.specs.Configure.{CauseBy, CommandsCause, NotRefused, UnservedCause};
+ghost use Rattle.bd_top.specs.Configure.{CommandsCause};
 
 use bd_base::Errno;
-use bd_building::first_unserved;
 use bd_config::{Command, ConfigError, read_config};
 use std::alloc::Global;
 
@@ -39,8 +36,9 @@ pub(crate) fn code_of(errno: Errno) -> i32
     }
 }
 
-// The commands that bytes ask for.
-fn commands(alloc: Global, bytes: &[u8]) -> Result<Vec<Command>, ConfigureError>
+/// The commands of a configuration. What is wrong is looked for in this order: its text; its shape;
+/// commands that can't be read.
+pub(crate) fn commands_of(alloc: Global, bytes: &[u8]) -> Result<Vec<Command>, ConfigureError>
     ensures ok { IfOk result (λ commands. IsConfig bytes.now commands.items) }
     ensures openable { IfOk result (λ commands. All IsOpenable commands.items) }
     ensures cause { IfErr result (CommandsCause bytes.now) }
@@ -51,35 +49,5 @@ fn commands(alloc: Global, bytes: &[u8]) -> Result<Vec<Command>, ConfigureError>
         Err(ConfigError::Text) => Err(ConfigureError::Text),
         Err(ConfigError::Shape(place)) => Err(ConfigureError::Shape(place)),
         Err(ConfigError::Method { index, code }) => Err(ConfigureError::Method { index, code }),
-    }
-}
-
-// Why commands aren't done, where the one at this place is the first that isn't served. A place without
-// a number of 32 bits answers out of memory.
-fn unserved(place: usize) -> ConfigureError
-    ensures { (commands : List Asked) → first_unserved commands ≡ Some place → UnservedCause commands result }
-{
-    match u32::try_from(place) {
-        Ok(index) => ConfigureError::Method {
-            index,
-            code: code_of(Errno::NotSup),
-        },
-        Err(_) => ConfigureError::OutOfMemory,
-    }
-}
-
-/// The commands of a configuration, which are all served. What is wrong is looked for in this order:
-/// its text; its shape; commands that can't be read; commands that aren't served as yet.
-#[tactic(auto, using(crate::proofs::ConfigureLemmas::read_cause, crate::proofs::ConfigureLemmas::unserved_cause))]
-pub(crate) fn commands_of(alloc: Global, bytes: &[u8]) -> Result<Vec<Command>, ConfigureError>
-    ensures ok { IfOk result (λ commands. IsConfig bytes.now commands.items) }
-    ensures openable { IfOk result (λ commands. All IsOpenable commands.items) }
-    ensures served { IfOk result (λ commands. first_unserved commands.items ≡ None) }
-    ensures cause { IfErr result (CauseBy NotRefused bytes.now) }
-{
-    let commands = commands(alloc, bytes)?;
-    match first_unserved(commands.as_slice()) {
-        None => Ok(commands),
-        Some(place) => Err(unserved(place)),
     }
 }

@@ -1,7 +1,6 @@
 //! The built-in configuration, and the setup of an exercise.
-ghost use Rattle.std.specs.Prelude.{◌≡◌, ◌<◌, ◌≤◌, [], length, None, Some, IfOk, All};
+ghost use Rattle.std.specs.Prelude.{◌≡◌, ◌<◌, ◌≤◌, [], length, Some, IfOk, All};
 ghost use Rattle.bd_building.specs.AioDevices.{AreBasesAlone};
-ghost use Rattle.bd_building.specs.Served.{first_unserved};
 ghost use Rattle.bd_config.specs.Commands.{IsOpenable};
 ghost use Rattle.bd_config.specs.Config.{IsConfig};
 ghost use Rattle.bd_jobs.specs.Generated.{generated};
@@ -30,7 +29,6 @@ const BUILT_IN: &str =
 fn commands(alloc: Global) -> Result<Vec<Command>, OutOfMemory>
     ensures config { IfOk result (λ commands. IsConfig built_in commands.items) }
     ensures openable { IfOk result (λ commands. All IsOpenable commands.items) }
-    ensures served { IfOk result (λ commands. first_unserved commands.items ≡ None) }
 {
     match commands_of(alloc, BUILT_IN.as_bytes()) {
         Ok(commands) => Ok(commands),

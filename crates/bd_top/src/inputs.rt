@@ -22,7 +22,7 @@ use bd_jobs::{JobError, read_jobs};
 use bd_outside::Host;
 use std::alloc::Global;
 
-// The fault of a configuration whose bytes ask for no commands that are served.
+// The fault of a configuration whose bytes ask for no commands.
 fn config_fault(error: ConfigureError) -> Fault
     ensures { result ≡ config_fault error }
 {
