@@ -314,7 +314,7 @@ def inject(call):
 
 
 def limits(call):
-    call.name("name")
+    name = call.name("name")
     given = 0
     for key, most in (("rw_ios_per_sec", 10**9), ("rw_mbytes_per_sec", 10**6), ("r_mbytes_per_sec", 10**6), ("w_mbytes_per_sec", 10**6)):
         if key in call.params:
@@ -322,6 +322,7 @@ def limits(call):
             call.whole(key, 0, most)
     if not given:
         raise Wrong
+    return ("limits", name)
 
 
 BASES = {"bdev_malloc_create": base_device("malloc", 1 << 21), "bdev_null_create": base_device("null", 1 << 40), "bdev_aio_create": aio}
@@ -342,9 +343,9 @@ def read_call(call):
     try:
         if method in BASES:
             asked = BASES[method](given)
-            return (asked or ("unserved",)) if given.is_plain() else NOT_SUPPORTED
+            return asked if given.is_plain() else NOT_SUPPORTED
         if method in OTHERS:
-            return OTHERS[method](given) or ("unserved",)
+            return OTHERS[method](given)
     except Wrong:
         return INVALID
     return ("passed",) if method.endswith("_set_options") or method in PASSED else NOT_FOUND
@@ -370,9 +371,6 @@ def config_fault(config):
     for index, answer in enumerate(asked):
         if isinstance(answer, int):
             return "configuration command %d refused: %d" % (index, answer)
-    for index, answer in enumerate(asked):
-        if answer[0] == "unserved":
-            return "configuration command %d refused: %d" % (index, NOT_SUPPORTED)
     return devices_fault(asked)
 
 
@@ -395,6 +393,8 @@ def disk_blocks(filename, size):
 
 # The lengths of the files of this run.
 RUN_FILES = {}
+# Commands that set something of a device that is there.
+SETS = ("inject", "limits")
 
 
 class Devices:
@@ -404,7 +404,7 @@ class Devices:
         self.made, self.memory, self.errors = {}, 0, set()
 
     def base_of(self, command):
-        return None if command[0] in ("malloc", "null", "aio", "inject") else command[1]
+        return None if command[0] in ("malloc", "null", "aio", *SETS) else command[1]
 
     def rows(self, command):
         """What the command asks for: names, with blocks, size and layers."""
@@ -424,11 +424,11 @@ class Devices:
         return [("%sp%d" % (command[1], i), (each, size, layers + 1)) for i in range(count)]
 
     def do(self, command):
-        if command[0] == "inject":
+        if command[0] in SETS:
             # It makes nothing, and doesn't wait.
             if command[1] not in self.made:
                 raise Refused(NO_DEVICE)
-            if command[1] not in self.errors:
+            if command[0] == "inject" and command[1] not in self.errors:
                 raise Refused(TOO_MUCH)
             return
         rows, base = self.rows(command), self.base_of(command)

@@ -26,7 +26,7 @@ def method_of(dice):
     """A command with good parameters: its method, and its parameters' texts."""
     name, base = dice.of(NAMES) if dice.below(3) == 0 else "D%d" % dice.below(1000), dice.of(NAMES)
     blocks = dice.of(["1", "8", "64", "65", "2048", "8192"])
-    kind = dice.below(15)
+    kind = dice.below(16)
     if kind < 3:
         return "bdev_malloc_create", [("name", json.dumps(name)), ("num_blocks", blocks), ("block_size", dice.of(["512", "4096"]))]
     if kind < 5:
@@ -44,6 +44,9 @@ def method_of(dice):
     if kind == 14:
         types = [("io_type", json.dumps(dice.of(["read", "write", "write_zeroes", "unmap", "flush", "all"]))), ("error_type", json.dumps(dice.of(["failure", "pending", "corrupt_data"])))]
         return "bdev_error_inject_error", [("name", json.dumps(dice.of(["EE_M", "EE_" + base]))), *types, *([("num", dice.of(["0", "1", "3"]))] if dice.below(2) else [])]
+    if kind == 15:
+        keys = dice.of([["rw_ios_per_sec"], ["rw_mbytes_per_sec"], ["r_mbytes_per_sec", "w_mbytes_per_sec"]])
+        return "bdev_set_qos_limit", [("name", json.dumps(dice.of(["M", base, name]))), *((key, dice.of(["0", "1", "1000000"])) for key in keys)]
     if kind == 10:
         return dice.of(["bdev_set_options", "bdev_examine", "bdev_wait_for_examine", "iobuf_set_options"]), [("whatever", "1")]
     if dice.below(6):

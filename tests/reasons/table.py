@@ -70,6 +70,11 @@ def inject(name='"EE_M"', type='"read"', kind='"failure"', *more):
     return command("bdev_error_inject_error", '"name": ' + name, '"io_type": ' + type, '"error_type": ' + kind, *more)
 
 
+def limits(name='"M"', limit='"rw_ios_per_sec": 1000'):
+    """Three lines: the name in column 9."""
+    return command("bdev_set_qos_limit", '"name": ' + name, limit)
+
+
 def refused(index, code):
     return "configuration command %d refused: %d" % (index, code)
 
@@ -140,13 +145,13 @@ SHAPES = [
 ]
 
 NVME = command("bdev_nvme_attach_controller", '"name": "Nvme0"', '"trtype": "PCIe"', '"traddr": "0000:00:05.0"')
-QOS = command("bdev_set_qos_limit", '"name": "M"', '"rw_ios_per_sec": 1000')
+QOS = limits()
 ERROR = command("bdev_error_create", '"base_name": "M"')
 DELAY = command("bdev_delay_create", '"base_bdev_name": "M"', '"name": "D"', '"avg_read_latency": 5', '"p99_read_latency": 4', '"avg_write_latency": 5', '"p99_write_latency": 5')
 COMMANDS = [
     of_command("a method mistyped", 0, -32601, bdev(command("bdev_malloc_creat", '"name": "M"')), "config:2:12: ", "command 0, bdev_malloc_creat 'M'", "isn't served", "bdev_malloc_create is meant"),
     of_command("NVMe and more in a save", 1, -32601, bdev(command("bdev_set_options", '"bdev_auto_examine": true'), NVME, malloc(), QOS, command("bdev_raid_create", '"name": "R"')),
-               "config:4:12: command 1, bdev_nvme_attach_controller 'Nvme0'", "config:12:12: command 3, bdev_set_qos_limit 'M'", "config:15:12: command 4, bdev_raid_create 'R'", "served are bdev_malloc_create", "tools/check --served"),
+               "config:4:12: command 1, bdev_nvme_attach_controller 'Nvme0'", "config:15:12: command 4, bdev_raid_create 'R'", "served are bdev_malloc_create", "tools/check --served"),
     of_command("num_block for num_blocks", 0, -32602, bdev(command("bdev_malloc_create", '"name": "M"', '"num_block": 64', '"block_size": 512')), "config:4:14: ", "num_blocks is absent", BLOCKS, "'num_block', which is no parameter"),
     of_command("no name", 0, -32602, bdev(command("bdev_malloc_create", '"num_blocks": 64', '"block_size": 512')), "config:2:44: ", "name is absent", NAME),
     of_command("no parameters", 0, -32602, bdev('{"method": "bdev_null_create"}'), "config:2:12: ", "name is absent", "num_blocks is absent", "from 1 to 1099511627776", "block_size is absent", "512 or 4096"),
@@ -172,7 +177,12 @@ COMMANDS = [
     of_command("metadata of -0", 0, -95, bdev(malloc('"M"', "64", "512", '"md_size": -0')), "config:6:12: ", "md_size is -0", "only 0 is served"),
     of_command("protection", 0, -95, bdev(null('"N"', "64", "512", '"dif_type": 1')), "config:6:13: ", "dif_type is 1", "only 0 is served"),
     of_command("a disk for reading", 0, -95, bdev(aio('"A"', '"disk"', '"readonly": true')), "config:5:13: ", "readonly is true", "only false is served"),
-    of_command("a limit", 1, -95, bdev(malloc(), QOS), "config:6:12: command 1, bdev_set_qos_limit 'M'", "not served yet", "served are"),
+    of_command("a limit for a device that comes later", 0, -19, bdev(QOS, malloc()), "config:3:9: command 0, bdev_set_qos_limit 'M'", "name is 'M'", "command 1, which would make it, comes later"),
+    of_command("a limit for a device that waits", 1, -19, bdev(passthru(), limits('"P"'), malloc()), "config:6:9: command 1, bdev_set_qos_limit 'P'", "command 0, which would make it, waits itself"),
+    of_command("a limit for no device", 1, -19, bdev(malloc(), limits('"N"')), "config:7:9: command 1, bdev_set_qos_limit 'N'", "no command makes it"),
+    of_command("no limit", 1, -32602, bdev(malloc(), command("bdev_set_qos_limit", '"name": "M"')), "config:6:44: command 1, bdev_set_qos_limit 'M'", "no limit is given; one of rw_ios_per_sec, rw_mbytes_per_sec"),
+    of_command("too many requests a second", 1, -32602, bdev(malloc(), limits(limit='"rw_ios_per_sec": 1000000001')), "config:8:19: ", "rw_ios_per_sec is 1000000001", "a whole number from 0 to 1000000000"),
+    of_command("too many megabytes a second", 1, -32602, bdev(malloc(), limits(limit='"r_mbytes_per_sec": 1000001')), "config:8:21: ", "r_mbytes_per_sec is 1000001", "a whole number from 0 to 1000000"),
     of_command("a delay that is shorter for the hundredth", 1, -22, bdev(malloc(), DELAY), "config:10:21: command 1, bdev_delay_create 'D'", "p99_read_latency is 4", "avg_read_latency, which is 5, or more"),
     of_command("a delay without its latencies", 1, -32602, bdev(malloc(), command("bdev_delay_create", '"base_bdev_name": "M"', '"name": "D"')), "config:6:43: ", "avg_read_latency is absent", "p99_write_latency is absent"),
     of_command("an error for a device that comes later", 0, -19, bdev(inject(), malloc(), ERROR), "config:3:9: command 0, bdev_error_inject_error 'EE_M'", "name is 'EE_M'", "command 2, which would make it, comes later"),

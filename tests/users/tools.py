@@ -230,7 +230,6 @@ command 2, bdev_nvme_attach_controller 'Nvme1': Nvme1n1 becomes a null device of
 left out: command 3, bdev_nvme_attach_controller 'Nvme1': a further path to Nvme1 makes no device
 command 4, bdev_malloc_create 'Malloc0': without md_size, dif_type
 left out: command 7, bdev_lvol_set_external_parent: the method isn't served
-left out: command 10, bdev_set_qos_limit 'Top': the method is known, and not served yet
 """
 
 
@@ -256,6 +255,10 @@ def error(base):
 
 def inject(name, kind="failure", **more):
     return "bdev_error_inject_error", {"name": name, "io_type": "read", "error_type": kind, **more}
+
+
+def limit(name, **rates):
+    return "bdev_set_qos_limit", {"name": name, **(rates or {"rw_ios_per_sec": 1000})}
 
 
 def nvme(name):
@@ -291,6 +294,10 @@ CASES = [
     (bdev(malloc("A"), error("A"), inject("EE_A", num=0), passthru("EE_A", "P")), "", ["A malloc 64 512", "EE_A error 64 512", "P passthru 64 512"], ""),
     (bdev(error("A"), inject("EE_A"), malloc("A"), inject("A"), inject("EE_A")), "", ["A malloc 64 512", "EE_A error 64 512"], "left out: command 3, bdev_error_inject_error 'A': name is 'A': it is of kind malloc"),
     (bdev(malloc("A"), error("A"), inject("EE_A", num=-1), inject("EE_A", "nomem")), "", ["A malloc 64 512", "EE_A error 64 512"], "left out: command 3, bdev_error_inject_error 'EE_A': error_type is"),
+    (bdev(malloc("A"), limit("A", r_mbytes_per_sec=0), passthru("A", "P"), limit("P", rw_ios_per_sec=10**9, w_mbytes_per_sec=10**6)), "", ["A malloc 64 512", "P passthru 64 512"], ""),
+    (bdev(limit("A"), malloc("A"), limit("A")), "", ["A malloc 64 512"], "left out: command 0, bdev_set_qos_limit 'A': name is 'A': there is no such device when this is done: command 1"),
+    (bdev(malloc("A"), limit("A", w_mbytes_per_sec=-1), limit("A", r_mbytes_per_sec=10**6 + 1)), "", ["A malloc 64 512"], "command 1, bdev_set_qos_limit 'A'"),
+    (bdev(nvme("N"), limit("Nn2"), error("Nn2"), inject("EE_Nn2")), "--size Nn1=5 --size Nn2=6", ["Nn1 malloc 5 512", "Nn2 malloc 6 512", "EE_Nn2 error 6 512"], ""),
     (bdev(raid("R"), passthru("R", "P")), "", [], "left out: command 0, bdev_raid_create 'R': the method isn't served"),
     (bdev(raid("R"), passthru("R", "P")), "--size R=77", ["R malloc 77 512", "P passthru 77 512"], "R becomes a malloc device"),
     (bdev(("bdev_aio_create", {"name": "F", "filename": "/nowhere/f", "block_size": 512})), "--size F=7", ["F malloc 7 512"], ""),
@@ -320,6 +327,7 @@ def any_configuration(chance):
         lambda: ("bdev_delay_create", {"name": name(), "base_bdev_name": name()}),
         lambda: error(name()),
         lambda: inject(chance.choice(["EE_D0", "EE_D1", "D0", ""]), chance.choice(["failure", "pending", "nomem"])),
+        lambda: limit(name(), rw_mbytes_per_sec=chance.choice([0, 1, 10**6, 10**6 + 1, -1, None])),
         lambda: ("bdev_malloc_set_options", {}),
         lambda: ("bdev_null_create", {}),
     ]

@@ -3,7 +3,7 @@
 import re
 
 from . import rules
-from .mistakes import CONFIG_TEXT, READING, SERVING, SHAPE, Mistake
+from .mistakes import CONFIG_TEXT, READING, SHAPE, Mistake
 from .places import Text, listed, quoted, shown
 from .reader import read_on
 from .rules import INVALID, NOT_FOUND, NOT_SUPPORTED
@@ -203,8 +203,6 @@ class Configuration:
                 node = call.param(key)
                 if node is not None and not self.is_plain(key, node):
                     found.append(call.mistake(READING, code, "%s is %s; only %s is served" % (key, self.written(node), only), node))
-        if not found and call.method in rules.UNSERVED:
-            found.append(call.mistake(SERVING, NOT_SUPPORTED, "the method is known, and not served yet"))
         return found
 
     def is_plain(self, key, node):

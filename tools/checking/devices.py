@@ -5,7 +5,7 @@ import re
 from .files import Disks, Refused, sized
 from .mistakes import DEVICES, Mistake
 from .places import counted, quoted, shown
-from .rules import BASES, CLAIMED, EXISTS, LIMITS, MOST_BLOCKS, MOST_DEVICES, MOST_LAYERS, MOST_MEMORY, MOST_NAME, NO_DEVICE, TOO_MUCH, UNSERVED, Type, meant
+from .rules import BASES, CLAIMED, EXISTS, LIMITS, MOST_BLOCKS, MOST_DEVICES, MOST_LAYERS, MOST_MEMORY, MOST_NAME, NO_DEVICE, TOO_MUCH, Type, meant
 
 KINDS = {
     "bdev_malloc_create": "malloc",
@@ -25,6 +25,7 @@ BASE_KEYS = {
 # Devices that have all of their base's blocks.
 WHOLE = ("bdev_passthru_create", "bdev_delay_create", "bdev_error_create")
 INJECTS = "bdev_error_inject_error"
+SETS_LIMITS = "bdev_set_qos_limit"
 MEGABYTE = 1 << 20
 
 
@@ -40,6 +41,7 @@ class Device:
         self.layers = base.layers + 1 if base else 1
         self.over = []
         self.errors = {}  # of an error device: the kind and the number of each type's errors
+        self.limits = {}
 
 
 class Devices:
@@ -63,7 +65,8 @@ class Devices:
                 self.lost(call)
             elif call.method == INJECTS and call.is_good:
                 self.inject(call, calls)
-        self.limits = [call for call in calls if call.method == "bdev_set_qos_limit"]
+            elif call.method == SETS_LIMITS and call.is_good:
+                self.limit(call, calls)
         self.waits = [self.wait(call, calls) for call in self.waiting]
         self.notes += self.waits
 
@@ -109,21 +112,36 @@ class Devices:
 
     def inject(self, call, calls):
         """Sets errors of a device, in place of those of the same types."""
-        self.steps += 1
-        name, kind = call.value("name"), call.value("error_type")
-        device = self.made.get(name)
+        device, kind = self.named(call, calls), call.value("error_type")
         if device is None:
-            later = next((each for each in calls if each.index > call.index and each.method in KINDS and self.name_of(each) == name), None)
-            why = "command %d, which would make it, comes later" % later.index if later else self.why_absent(name, call, calls)
-            code, said = NO_DEVICE, "there is no such device when this is done: " + why
-        elif device.kind != "error":
+            return
+        if device.kind != "error":
             said = "it is of kind %s; errors are injected into an error device, as bdev_error_create makes one over it: EE_%s"
-            code, said = TOO_MUCH, said % (device.kind, shown(name, 200))
+            self.refuse(call, TOO_MUCH, said % (device.kind, shown(device.name, 200)))
         else:
             for each in Type.types(call.value("io_type"), kind):
                 device.errors[each] = (kind, call.value("num", 1))
-            return
-        mistake = call.mistake(DEVICES, code, "name is %s: %s" % (quoted(name, 200), said), call.param("name"))
+
+    def limit(self, call, calls):
+        """Sets limits of a device; those that are absent stay."""
+        device = self.named(call, calls)
+        if device is not None:
+            device.limits.update({key: call.value(key) for key in LIMITS if call.param(key)})
+
+    def named(self, call, calls):
+        """The device whose errors or limits a command sets; None where it doesn't stand by then, which is a mistake."""
+        self.steps += 1
+        name = call.value("name")
+        if name not in self.made:
+            after = calls[calls.index(call) :]
+            later = next((each for each in after if each.method in KINDS and self.name_of(each) == name), None)
+            why = "command %d, which would make it, comes later" % later.index if later else self.why_absent(name, call, calls)
+            self.refuse(call, NO_DEVICE, "there is no such device when this is done: " + why)
+        return self.made.get(name)
+
+    def refuse(self, call, code, said):
+        """Notes what is wrong with the device that a command names."""
+        mistake = call.mistake(DEVICES, code, "name is %s: %s" % (quoted(call.value("name"), 200), said), call.param("name"))
         mistake.order = (DEVICES, self.steps)
         self.mistakes.append(mistake)
 
@@ -243,7 +261,7 @@ class Devices:
         for each in calls:
             # The namespaces of an NVMe controller have its name, n and a number.
             name = each.value("name")
-            if not each.is_good and isinstance(name, str) and re.fullmatch(re.escape(name) + "(n[0-9]+)?", base):
+            if not each.is_good and each.method not in (INJECTS, SETS_LIMITS) and isinstance(name, str) and re.fullmatch(re.escape(name) + "(n[0-9]+)?", base):
                 return "it would be of command %d, %s, which isn't served" % (each.index, shown(each.method))
         close = meant(base, self.made)
         return "no command makes it" + ("; %s is meant, it seems" % quoted(close) if close else "")
@@ -285,8 +303,6 @@ class Devices:
             said += ", claimed by %s" % (device.over[0].name if len(device.over) == 1 else "its %d parts" % len(device.over))
         given = ["%s %s %d" % (each, *device.errors[each]) for each in Type.ONE if device.errors.get(each, (None, 0))[1]]
         said += ", injected errors %s" % ", ".join(given) if given else ""
-        for limit in self.limits:
-            if limit.value("name") == device.name:
-                given = ["%s %d" % (key, limit.value(key)) for key in LIMITS if limit.param(key) and limit.param(key).kind == "whole"]
-                said += ", limits %s%s" % (", ".join(given) or "none", " (not served yet)" if limit.method in UNSERVED else "")
+        given = ["%s %d" % (key, device.limits[key]) for key in LIMITS if device.limits.get(key)]
+        said += ", limits %s" % ", ".join(given) if given else ""
         return said

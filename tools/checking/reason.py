@@ -46,7 +46,7 @@ def refused_methods(mistakes):
 
 
 def is_of_method(mistake):
-    return mistake.fault.endswith(": %d" % NOT_FOUND) or mistake.text.endswith("not served yet")
+    return mistake.fault.endswith(": %d" % NOT_FOUND)
 
 
 def lines_for(mistakes, line):

@@ -1,6 +1,6 @@
 """What the program serves: its methods with their parameters, as docs/FORMATS.md has them.
 
-A method that becomes served moves from UNSERVED to SERVED here, and its devices are made in devices.py.
+A method that becomes served gets its parameters in SERVED here, and what it makes is made in devices.py.
 """
 
 import difflib
@@ -171,8 +171,6 @@ SERVED = {
         "error_type": (Choice("failure", "pending", "corrupt_data"), NEEDED),
         "num": (Whole(0, (1 << 32) - 1), False),
     },
-}
-UNSERVED = {
     "bdev_set_qos_limit": {
         "name": (NAME, NEEDED),
         "rw_ios_per_sec": (Whole(0, 10**9), False),
@@ -198,7 +196,7 @@ def is_ignored(method):
 
 def parameters_of(method):
     """The parameters of a method that is read, with their rules; None of any other."""
-    return SERVED.get(method) or UNSERVED.get(method)
+    return SERVED.get(method)
 
 
 def meant(word, words, least=0.75):
