@@ -1,10 +1,53 @@
 """judge: says what is wrong with a history beside its report and the script that it played.
 
-It works from the text alone, as tests/trace/reader.py reads it, and from the script's lines, and shares no code with
-the program. wrong_with() returns a list of what is wrong, which is empty where nothing is.
+It works from the text alone, as tests/trace/reader.py reads it, from the script's lines and the configuration's
+commands, and shares no code with the program. wrong_with() returns a list of what is wrong, which is empty where
+nothing is.
 """
 
+import re
 from collections import Counter, defaultdict
+
+LIMITS = ("rw_ios_per_sec", "rw_mbytes_per_sec", "r_mbytes_per_sec", "w_mbytes_per_sec")
+# Which limits count a request of a type.
+COUNTS = {"read": LIMITS[:3], "write": (*LIMITS[:2], LIMITS[3])}
+
+
+class Devices:
+    """The devices of a report, by their numbers: those below each, itself first, their homes, and how much each limit lets
+    through in a slice. Without a configuration each device stands alone, and has no limit."""
+
+    def __init__(self, report, config, threads):
+        rows = [line.split(" ") for line in report if line.startswith("device ")]
+        names, bases, rates = [row[1] for row in rows], {}, defaultdict(dict)
+        for call in config:
+            params = call.get("params", {})
+            if call["method"] == "bdev_split_create":
+                bases.update((name, params["base_bdev"]) for name in names if re.fullmatch(re.escape(params["base_bdev"]) + "p[0-9]+", name))
+            elif call["method"] == "bdev_error_create":
+                bases["EE_" + params["base_name"]] = params["base_name"]
+            elif call["method"] in ("bdev_passthru_create", "bdev_delay_create"):
+                bases[params["name"]] = params["base_bdev_name"]
+            elif call["method"] == "bdev_set_qos_limit":
+                rates[params["name"]].update((key, params[key]) for key in LIMITS if key in params)
+        self.size = [int(row[row.index("size") + 1]) for row in rows]
+        self.below, self.home, self.quotas = [], [], []
+        for name in names:
+            stack = [name]
+            while stack[-1] in bases:
+                stack.append(bases[stack[-1]])
+            self.below.append([names.index(each) for each in stack])
+            self.home.append(self.below[-1][-1] % threads)
+            of = rates[name]
+            self.quotas.append({key: (of[key] + 999) // 1000 if key == LIMITS[0] else of[key] * 1048576 // 1000 for key in of if of[key]})
+
+    def counted(self, device, kind):
+        """The limits of a device that count a request of a type."""
+        return [key for key in COUNTS.get(kind, ()) if key in self.quotas[device]]
+
+    def kept(self):
+        """The channels that homes have from the start."""
+        return Counter((self.home[device], str(device)) for device, quotas in enumerate(self.quotas) if quotas)
 
 
 def order(entries):
@@ -102,10 +145,80 @@ def decisions(entries):
                 yield f"{entry.line()!r} ends a request with the decision {last[name]}"
 
 
-def registry(entries):
+def limits(entries, devices):
+    """A request that limits count goes to the home of each device with one, from the top down, and passes there in the order of
+    arrival, while something is left of each limit that counts it; then it comes back, and so does one that is aborted there. A
+    tick is made where a request waits, of the slices that passed since some start. A request is cut, and ends, where it belongs."""
+    place, kinds, left_to_pass = {}, {}, {}
+    lines, slices, starts = defaultdict(list), Counter(), {}
+    left = [dict(quotas) for quotas in devices.quotas]
+    first, last = {}, {}
+    for entry in entries:
+        name, line = entry.get("request"), entry.line()
+        if entry.act == "accept":
+            kinds[name] = entry.get("type"), int(entry.get("count")) * devices.size[int(entry.get("device"))]
+            left_to_pass[name] = [device for device in devices.below[int(entry.get("device"))] if devices.counted(device, kinds[name][0])]
+            place[name] = "own"
+        elif entry.act == "took" and entry.get("message") == "request":
+            if place.get(name) == "back":
+                place[name] = "own"
+                if entry.thread != int(name.split(".")[0]):
+                    yield f"{line!r} isn't on the request's thread"
+            elif place.get(name) != "own" or not left_to_pass[name]:
+                yield f"{line!r} is on no way to a limited device"
+            else:
+                place[name] = device = left_to_pass[name][0]
+                lines[device].append(name)
+                if entry.thread != devices.home[device]:
+                    yield f"{line!r} isn't at the home of device {device}"
+        elif entry.act == "abort":
+            if isinstance(place.get(name), int):
+                lines[place[name]].remove(name)
+                place[name] = "back"
+            left_to_pass[name] = []
+        elif entry.act in ("cut", "complete") and name in place:
+            if place[name] != "own" or (entry.act == "cut" or entry.get("status") == "success") and left_to_pass[name]:
+                yield f"{line!r}, and it has {left_to_pass[name]} to pass, and is at {place[name]}"
+        elif entry.act in ("let", "tick"):
+            device = int(entry.get("device"))
+            if entry.thread != devices.home[device]:
+                yield f"{line!r} isn't at the home"
+        if entry.get("now") is not None:
+            now = int(entry.get("now"))
+            if now < last.get(entry.thread, 0):
+                yield f"{line!r} names a moment before {last[entry.thread]}"
+            first.setdefault(entry.thread, now)
+            last[entry.thread] = now
+        if entry.act == "let":
+            if lines[device][:1] != [name]:
+                yield f"{line!r}, and in line are {lines[device]}"
+                continue
+            kind, count = kinds[name]
+            for key in devices.counted(device, kind):
+                if left[device][key] <= 0:
+                    yield f"{line!r}, and of {key} are left {left[device][key]}"
+                left[device][key] -= 1 if key == LIMITS[0] else count
+            lines[device].pop(0)
+            left_to_pass[name].pop(0)
+            place[name] = "back"
+        elif entry.act == "tick":
+            more = int(entry.get("slices"))
+            slices[device] += more
+            early, late = starts.get(device, (0, first[entry.thread]))
+            starts[device] = max(early, now - 1000 * slices[device] - 999), min(late, now - 1000 * slices[device])
+            if not lines[device] or more < 1 or starts[device][0] > starts[device][1]:
+                yield f"{line!r}: in line are {lines[device]}, and the start is from {starts[device]}"
+            left[device] = {key: min(value, 0) + more * devices.quotas[device][key] for key, value in left[device].items()}
+    away = [name for name, at in place.items() if at != "own"]
+    if away:
+        yield f"requests don't come back: {away}"
+
+
+def registry(entries, kept):
     """Handles are numbered in turn and closed once; channels are given back as often as they are got, and dropped
-    where a message says so; a removal visits the threads with a channel; what ends is told."""
-    opened, closed, got, back = [], Counter(), Counter(), Counter()
+    where a message says so; a removal visits the threads with a channel; what ends is told. A channel that a home keeps
+    is given back once, by no close."""
+    opened, closed, got, back, put = [], Counter(), Counter(), Counter(), Counter()
     visits, wanted, drops, told, ended = Counter(), Counter(), Counter(), Counter(), Counter()
     for entry in entries:
         event, answer, device = entry.get("event"), entry.get("answer"), entry.get("device")
@@ -125,6 +238,8 @@ def registry(entries):
             got[entry.thread, device] += 1
         elif answer == "put-down":
             back[entry.thread, device] += 1
+            if entry.get("closing") == "no":
+                put[entry.thread, device] += 1
         elif answer == "removing":
             wanted.update((device, thread) for thread in entry.all("thread"))
         elif event == "drop-channel":
@@ -135,7 +250,7 @@ def registry(entries):
         yield f"handles are numbered {opened}"
     if any(closed[handle] != 1 for handle in range(opened[-1] + 1 if opened else 0)):
         yield f"handles are closed {dict(closed)} times"
-    for what, one, other in [("channels got and given back", got, back), ("visits", visits, wanted), ("devices that end", ended, told)]:
+    for what, one, other in [("channels got and given back", got + kept, back), ("channels kept", put, kept), ("visits", visits, wanted), ("devices that end", ended, told)]:
         if one != other:
             yield f"{what}: {dict(one)} and {dict(other)}"
     if any(drops.values()):
@@ -288,10 +403,11 @@ def done_again(entries):
     return [((entry.thread, int(entry.get("line"))), entry) for entry in entries if entry.act == "script"]
 
 
-def wrong_with(report, entries, script):
-    """Returns what is wrong with these, at most ten of each kind."""
-    found = []
-    for part in (order(entries), requests(entries), cuts(entries), decisions(entries), registry(entries), asked(entries, script), messages(entries), ends(report, entries), counts(report, entries),
-                 lines(report, entries, script)):
+def wrong_with(report, entries, script, config=(), threads=1):
+    """Returns what is wrong with these, at most ten of each kind. The configuration is its commands; they and the number of threads
+    need not be there where no device has a limit."""
+    found, devices = [], Devices(report, config, threads)
+    for part in (order(entries), requests(entries), cuts(entries), decisions(entries), limits(entries, devices), registry(entries, devices.kept()), asked(entries, script),
+                 messages(entries), ends(report, entries), counts(report, entries), lines(report, entries, script)):
         found += list(part)[:10]
     return found
