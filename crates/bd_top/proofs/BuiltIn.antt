@@ -71,7 +71,7 @@ made threads = refl
 
 -- no command is refused: none is done yet
 abbrev NotRefused : List Command → ℕ → ℤ → Type 0
-NotRefused commands index code = ⊥
+NotRefused _ _ _ = ⊥
 
 never : (index : ℕ) (code : ℤ) → NotRefused commands index code → ⊥
 never index code refused = refused
