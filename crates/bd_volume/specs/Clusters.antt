@@ -1,15 +1,17 @@
 -- The clusters of a volume, and its blocks, cluster after cluster.
-use Rattle.std.specs.Prelude.{◌≡◌, ℕ, zero, suc, ◌+◌, ◌/◌, ◌<◌, List, [], ◌++◌, Option, None, Some, length, replicate, take}
-use Rattle.std.specs.BTreeMap.{is_at}
+use Rattle.std.specs.Prelude.{◌≡◌, ℕ, zero, suc, ◌+◌, ◌/◌, ◌<◌, List, [], ◌++◌, Option, None, Some, length, nat_eq, replicate, take}
 use Rattle.std.specs.Map.{lookup}
-use Rattle.std.specs.Ordering.{nat_cmp}
-use Rattle.bd_pages.specs.Pages.{Paged}
+
+-- the bytes of a block, and the blocks of one cluster
+pub record Stored : Type 0 where
+  pub size : ℕ
+  pub blocks : List (List ℕ)
 
 -- how many blocks a cluster has, the bytes of a block, and the clusters that are there, by their places
 pub record Placed : Type 0 where
   pub cluster : ℕ
   pub size : ℕ
-  pub entries : List (ℕ × Paged)
+  pub entries : List (ℕ × Stored)
 
 -- how many blocks a cluster has, and all blocks of a volume
 pub record Clustered : Type 0 where
@@ -17,23 +19,23 @@ pub record Clustered : Type 0 where
   pub blocks : List (List ℕ)
 
 -- a cluster that isn't there is zeros
-abbrev pub cluster_or : ℕ → ℕ → Option Paged → List (List ℕ)
+abbrev pub cluster_or : ℕ → ℕ → Option Stored → List (List ℕ)
 cluster_or cluster size None = replicate cluster (replicate size 0)
 cluster_or cluster size (Some pages) = pages.blocks
 
 -- the cluster at a place, where it is there
-abbrev pub found : List (ℕ × Paged) → ℕ → Option Paged
-found entries place = lookup (is_at (nat_cmp place)) entries
+abbrev pub found : List (ℕ × Stored) → ℕ → Option Stored
+found entries place = lookup (nat_eq place) entries
 
 -- the blocks of the cluster at a place
 abbrev pub blocks_at : Placed → ℕ → List (List ℕ)
 blocks_at placed place = cluster_or placed.cluster placed.size (found placed.entries place)
 
 -- each cluster has that many blocks of that size
-pub record AreClusters (cluster size : ℕ) (entries : List (ℕ × Paged)) : Type 0 where
+pub record AreClusters (cluster size : ℕ) (entries : List (ℕ × Stored)) : Type 0 where
   pub some : 0 < cluster
-  pub long : (place : ℕ) (p : Paged) → found entries place ≡ Some p → length p.blocks ≡ cluster
-  pub sized : (place : ℕ) (p : Paged) → found entries place ≡ Some p → p.size ≡ size
+  pub long : (place : ℕ) (p : Stored) → found entries place ≡ Some p → length p.blocks ≡ cluster
+  pub sized : (place : ℕ) (p : Stored) → found entries place ≡ Some p → p.size ≡ size
 
 -- the clusters of n places from one on, one after another
 abbrev pub in_order : (ℕ → List (List ℕ)) → ℕ → ℕ → List (List ℕ)

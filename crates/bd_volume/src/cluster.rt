@@ -2,10 +2,10 @@
 ghost use Rattle.std.specs.Prelude.{◌≡◌, ◌+◌, ◌<◌, ◌≤◌, ◌^◌, ◌++◌, All, length, replicate, take, drop, IfOk, OnOk, OnErr};
 ghost use Rattle.std.specs.List.{concat};
 ghost use Rattle.bd_pages.specs.Fills.{filled};
-ghost use Rattle.bd_pages.specs.Pages.{Paged, zeroed};
+ghost use Rattle.bd_pages.specs.Pages.{zeroed};
 
+use crate::store::Store;
 use bd_base::{Bytes, Fill, OutOfMemory};
-use bd_pages::Pages;
 use std::alloc::{AllocError, Global};
 use std::marker::Model;
 use std::sync::Arc;
@@ -13,25 +13,25 @@ use std::sync::Arc;
 /// The blocks of a cluster. Those that share it see the same; the first that writes gets pages of its own.
 #[derive(Drop)]
 pub(crate) struct Cluster {
-    pages: Arc<Pages>,
+    store: Arc<Store>,
 }
 
 impl Model for Cluster {
     ghost use Rattle.std.specs.Arc.{arc_value};
-    ghost use Rattle.bd_pages.specs.Pages.{Paged};
+    ghost use Rattle.bd_volume.specs.Clusters.{Stored};
 
-    ghost Value = { Paged };
+    ghost Value = { Stored };
 
-    ghost view = { λ c. arc_value c.pages };
+    ghost view = { λ c. arc_value c.store };
 }
 
 impl Clone for Cluster {
     ghost is_clone = { λ c d. d ≡ c };
 
-    // It shares the pages.
+    // It shares the blocks.
     fn clone(&self) -> Result<Cluster, AllocError> {
-        let pages = Arc::try_clone(&self.pages)?;
-        Ok(Cluster { pages })
+        let store = Arc::try_clone(&self.store)?;
+        Ok(Cluster { store })
     }
 }
 
@@ -41,9 +41,9 @@ impl Cluster {
         ensures size { IfOk result (λ c. c.size ≡ size) }
         ensures blocks { IfOk result (λ c. c.blocks ≡ replicate blocks (replicate size 0)) }
     {
-        let zeros = Pages::zeros(alloc, blocks, size)?;
-        let pages = Arc::new(alloc, zeros)?;
-        Ok(Cluster { pages })
+        let zeros = Store::zeros(alloc, blocks, size)?;
+        let store = Arc::new(alloc, zeros)?;
+        Ok(Cluster { store })
     }
 
     /// The bytes of a block: every block has so many.
@@ -51,7 +51,7 @@ impl Cluster {
         ensures value { result ≡ self.now.size }
         ensures each { All (λ block. length block ≡ result) self.now.blocks }
     {
-        self.pages.size()
+        self.store.size()
     }
 
     /// The bytes of `count` blocks from `at` on, one block after another.
@@ -59,18 +59,7 @@ impl Cluster {
         requires { at + count ≤ length self.now.blocks }
         ensures { IfOk result (λ b. b ≡ concat (take count (drop at self.now.blocks))) }
     {
-        self.pages.read(alloc, at, count)
-    }
-
-    // Pages of its own, where others share them.
-    fn own(&mut self, alloc: Global) -> Result<(), OutOfMemory>
-        ensures { self.new ≡ self.old }
-    {
-        if Arc::strong_count(&self.pages) > 1 {
-            let copy = self.pages.copy(alloc)?;
-            self.pages = Arc::new(alloc, copy)?;
-        }
-        Ok(())
+        self.store.read(alloc, at, count)
     }
 
     /// Puts what a write brings into `count` blocks from `at` on, of which the first has this number on
@@ -90,11 +79,13 @@ impl Cluster {
         ensures ok { OnOk result (self.new.blocks ≡ take at self.old.blocks ++ filled fill number (take count (drop at self.old.blocks)) ++ drop (at + count) self.old.blocks) }
         ensures err { OnErr result (self.new ≡ self.old) }
     {
-        self.own(alloc)?;
-        let Some(pages) = Arc::get_mut(&mut self.pages) else {
-            return Err(OutOfMemory);
-        };
-        pages.fill(alloc, at, count, fill, number)?;
+        if let Some(store) = Arc::get_mut(&mut self.store) {
+            store.fill(at, count, fill, number);
+            return Ok(());
+        }
+        let mut copy = self.store.copy(alloc)?;
+        copy.fill(at, count, fill, number);
+        self.store = Arc::new(alloc, copy)?;
         Ok(())
     }
 
@@ -106,11 +97,13 @@ impl Cluster {
         ensures ok { OnOk result (self.new.blocks ≡ take at self.old.blocks ++ zeroed (take count (drop at self.old.blocks)) ++ drop (at + count) self.old.blocks) }
         ensures err { OnErr result (self.new ≡ self.old) }
     {
-        self.own(alloc)?;
-        let Some(pages) = Arc::get_mut(&mut self.pages) else {
-            return Err(OutOfMemory);
-        };
-        pages.zero(at, count);
+        if let Some(store) = Arc::get_mut(&mut self.store) {
+            store.zero(at, count);
+            return Ok(());
+        }
+        let mut copy = self.store.copy(alloc)?;
+        copy.zero(at, count);
+        self.store = Arc::new(alloc, copy)?;
         Ok(())
     }
 }

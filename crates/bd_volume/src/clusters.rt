@@ -1,14 +1,15 @@
 //! The clusters of a volume, by their places.
-ghost use Rattle.std.specs.Prelude.{◌≡◌, ◌+◌, ◌<◌, ◌≤◌, ◌^◌, ◌++◌, ℕ, length, replicate, take, drop, IfOk, OnOk, OnErr};
+ghost use Rattle.std.specs.Prelude.{◌≡◌, ◌+◌, ◌<◌, ◌≤◌, ◌^◌, ◌++◌, ℕ, Some, length, option_map, replicate, slice_get, take, drop, true, IfOk, OnOk, OnErr};
 ghost use Rattle.std.specs.List.{concat};
 ghost use Rattle.bd_pages.specs.Fills.{filled};
 ghost use Rattle.bd_pages.specs.Pages.{zeroed};
-ghost use Rattle.bd_volume.specs.Clusters.{blocks_at};
+ghost use Rattle.bd_volume.specs.Clusters.{blocks_at, found};
 
 use crate::cluster::Cluster;
+use crate::guesses::Guesses;
 use bd_base::{Bytes, Fill, OutOfMemory};
+use indexmap::IndexMap;
 use std::alloc::Global;
-use std::collections::BTreeMap;
 use std::marker::Model;
 
 /// Some blocks of one cluster: its place, the first of them in it, and how many.
@@ -22,7 +23,8 @@ pub(crate) struct Part {
 /// The clusters of a volume, seen by their places. One that no write touched takes no memory.
 #[derive(Drop)]
 pub(crate) struct Clusters {
-    map: BTreeMap<u64, Cluster>,
+    map: IndexMap<u64, Cluster>,
+    guesses: Guesses,
     cluster: u64,
     size: u32,
 }
@@ -55,7 +57,8 @@ impl Clusters {
         ensures blocks { (place : ℕ) → blocks_at result place ≡ replicate cluster (replicate size 0) }
     {
         Clusters {
-            map: BTreeMap::new(alloc),
+            map: IndexMap::new(alloc),
+            guesses: Guesses::new(alloc),
             cluster,
             size,
         }
@@ -75,11 +78,62 @@ impl Clusters {
         ensures { IfOk result (λ c. c ≡ self.now) }
     {
         let map = self.map.clone()?;
+        let guesses = self.guesses.copy()?;
         Ok(Clusters {
             map,
+            guesses,
             cluster: self.cluster,
             size: self.size,
         })
+    }
+
+    // Whether the cluster at this index of the map is that of a place.
+    fn is_at(&self, index: usize, place: u64) -> bool
+        ensures { result ≡ true → slice_get self.now.entries index ≡ option_map (λ p. (place, p)) (found self.now.entries place) }
+    {
+        match self.map.get_index(index) {
+            Some((key, _)) => *key == place,
+            None => false,
+        }
+    }
+
+    // At which index of the map the cluster of a place stands; where there is none, an index past the map's end.
+    #[inline(never)]
+    fn look_up(&self, place: u64) -> usize
+        ensures { slice_get self.now.entries result ≡ option_map (λ p. (place, p)) (found self.now.entries place) }
+    {
+        match self.map.get_full(&place) {
+            Some((index, _, _)) => index,
+            None => self.map.len(),
+        }
+    }
+
+    // The same. The index that was noted for such a place is tried first.
+    fn find(&self, place: u64) -> usize
+        ensures { slice_get self.now.entries result ≡ option_map (λ p. (place, p)) (found self.now.entries place) }
+    {
+        let noted = self.guesses.of(place);
+        if self.is_at(noted, place) {
+            return noted;
+        }
+        self.look_up(place)
+    }
+
+    // Puts a cluster at a place that has none. Out of memory, the clusters are as they were.
+    #[inline(never)]
+    fn put(&mut self, place: u64, cluster: Cluster) -> Result<(), OutOfMemory>
+        requires size { cluster.size ≡ self.old.size }
+        requires long { length cluster.blocks ≡ self.old.cluster }
+        ensures cluster { self.new.cluster ≡ self.old.cluster }
+        ensures apart { (other : ℕ) → (other ≡ place → ⊥) → blocks_at self.new other ≡ blocks_at self.old other }
+        ensures here { OnOk result (blocks_at self.new place ≡ cluster.blocks) }
+        ensures err { OnErr result (self.new ≡ self.old) }
+    {
+        let index = self.map.len();
+        self.map.insert(place, cluster)?;
+        self.guesses.make_room(index);
+        self.guesses.note(place, index);
+        Ok(())
     }
 
     /// The bytes of some blocks, one block after another.
@@ -87,8 +141,8 @@ impl Clusters {
         requires { part.at + part.count ≤ self.now.cluster }
         ensures { IfOk result (λ b. b ≡ concat (take part.count (drop part.at (blocks_at self.now part.place)))) }
     {
-        match self.map.get(&part.place) {
-            Some(cluster) => cluster.read(alloc, part.at, part.count),
+        match self.map.get_index(self.find(part.place)) {
+            Some((_, cluster)) => cluster.read(alloc, part.at, part.count),
             None => {
                 let bytes = zeros(alloc, part.count, self.size)?;
                 Ok(bytes)
@@ -112,7 +166,9 @@ impl Clusters {
         ensures here { OnOk result (blocks_at self.new part.place ≡ take part.at (blocks_at self.old part.place) ++ filled fill number (take part.count (drop part.at (blocks_at self.old part.place))) ++ drop (part.at + part.count) (blocks_at self.old part.place)) }
         ensures err { OnErr result (self.new ≡ self.old) }
     {
-        if let Some(cluster) = self.map.get_mut(&part.place) {
+        let index = self.find(part.place);
+        self.guesses.note(part.place, index);
+        if let Some(cluster) = self.map.get_index_mut(index) {
             if let Err(e) = cluster.fill(alloc, part.at, part.count, fill, number) {
                 return Err(e);
             }
@@ -120,7 +176,7 @@ impl Clusters {
         }
         let mut cluster = Cluster::zeros(alloc, self.cluster, self.size)?;
         cluster.fill(alloc, part.at, part.count, fill, number)?;
-        self.map.insert(part.place, cluster)?;
+        self.put(part.place, cluster)?;
         Ok(())
     }
 
@@ -133,7 +189,7 @@ impl Clusters {
         match self.map.get(&place) {
             Some(cluster) => {
                 let _size = cluster.size();
-                self.map.remove(&place);
+                self.map.swap_remove(&place);
             }
             None => {}
         }
@@ -147,7 +203,9 @@ impl Clusters {
         ensures here { OnOk result (blocks_at self.new part.place ≡ take part.at (blocks_at self.old part.place) ++ zeroed (take part.count (drop part.at (blocks_at self.old part.place))) ++ drop (part.at + part.count) (blocks_at self.old part.place)) }
         ensures err { OnErr result (self.new ≡ self.old) }
     {
-        if let Some(cluster) = self.map.get_mut(&part.place) {
+        let index = self.find(part.place);
+        self.guesses.note(part.place, index);
+        if let Some(cluster) = self.map.get_index_mut(index) {
             if let Err(e) = cluster.zero(alloc, part.at, part.count) {
                 return Err(e);
             }

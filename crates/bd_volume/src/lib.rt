@@ -3,6 +3,8 @@
 
 mod cluster;
 mod clusters;
+mod guesses;
+mod store;
 mod volume;
 
 pub use volume::Volume;
