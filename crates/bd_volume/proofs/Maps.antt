@@ -5,7 +5,7 @@ use Rattle.std.proofs.lemmas.Option.{slice_get-map}
 use Rattle.std.specs.Map.{values_of}
 use Rattle.indexmap.specs.IndexMap.{IndexMap, IsUnique, Updates, set_value_at, with_value_at}
 use Rattle.indexmap.proofs.CallerLemmas.{updates-with_value_at}
-use Rattle.bd_volume.specs.Clusters.{AreClusters, Stored, found}
+use Rattle.bd_volume.specs.Clusters.{AreClusters, StandsAt, Stored, found}
 
 -- what is there already is put again
 pub put_again : {K X : Type 0} (es : List (K × X)) (i : ℕ) (w : X) → Some w ≡ slice_get (values_of es) i → set_value_at es i w ≡ es
@@ -13,7 +13,7 @@ put_again [] i w is = refl
 put_again {K} {X} (e ∷ es) zero w is = ap (λ (v : X). (e.0, v) ∷ es) (ap (λ (o : Option X). unwrap_or o w) is)
 put_again {K} {X} (e ∷ es) (suc i) w is = ap (λ (xs : List (K × X)). e ∷ xs) (put_again es i w is)
 
-module _ (es : List (ℕ × Stored)) (place i : ℕ) (is : slice_get es i ≡ option_map (λ p. (place, p)) (found es place)) where
+module _ (es : List (ℕ × Stored)) (place i : ℕ) (is : StandsAt es place i) where
   both : (o : Option Stored) → option_map (λ (e : ℕ × Stored). e.1) (option_map (λ p. (place, p)) o) ≡ o
   both None = refl
   both (Some p) = refl
@@ -35,8 +35,8 @@ module _ (es : List (ℕ × Stored)) (place i : ℕ) (is : slice_get es i ≡ op
 apart : (place q : ℕ) → (q ≡ place → ⊥) → nat_eq place q ≡ false
 apart place q other = grind arith
 
--- a cluster that was written in place
-module _ {S : Type 0} (m : IndexMap ℕ Stored S) (unique : IsUnique nat_eq m) (place i : ℕ) (is : slice_get m.entries i ≡ option_map (λ p. (place, p)) (found m.entries place)) (p : Stored) (there : Some p ≡ slice_get (values_of m.entries) i) (w : Stored) where
+-- a cluster at the place that was written in place
+module _ {S : Type 0} (m : IndexMap ℕ Stored S) (unique : IsUnique nat_eq m) (place i : ℕ) (is : StandsAt m.entries place i) (p : Stored) (there : Some p ≡ slice_get (values_of m.entries) i) (w : Stored) where
   updates : Updates nat_eq m (with_value_at m i w) place (Some w)
   updates = updates-with_value_at m i w nat_eq_equiv unique place p (entry_at m.entries place i is p there)
 

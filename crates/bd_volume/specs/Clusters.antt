@@ -1,5 +1,5 @@
 -- The clusters of a volume, and its blocks, cluster after cluster.
-use Rattle.std.specs.Prelude.{◌≡◌, ℕ, zero, suc, ◌+◌, ◌/◌, ◌<◌, List, [], ◌++◌, Option, None, Some, length, nat_eq, replicate, take}
+use Rattle.std.specs.Prelude.{◌≡◌, ℕ, zero, suc, ◌+◌, ◌/◌, ◌<◌, List, [], ◌++◌, Option, None, Some, length, nat_eq, option_map, replicate, slice_get, take}
 use Rattle.std.specs.Map.{lookup}
 
 -- the bytes of a block, and the blocks of one cluster
@@ -26,6 +26,10 @@ cluster_or cluster size (Some pages) = pages.blocks
 -- the cluster at a place, where it is there
 abbrev pub found : List (ℕ × Stored) → ℕ → Option Stored
 found entries place = lookup (nat_eq place) entries
+
+-- at this index of the entries stands the cluster of a place, and nothing where the place has none
+abbrev pub StandsAt : List (ℕ × Stored) → ℕ → ℕ → Type 0
+StandsAt entries place index = slice_get entries index ≡ option_map (λ cluster. (place, cluster)) (found entries place)
 
 -- the blocks of the cluster at a place
 abbrev pub blocks_at : Placed → ℕ → List (List ℕ)

@@ -1,9 +1,9 @@
 //! The clusters of a volume, by their places.
-ghost use Rattle.std.specs.Prelude.{◌≡◌, ◌+◌, ◌<◌, ◌≤◌, ◌^◌, ◌++◌, ℕ, Some, length, option_map, replicate, slice_get, take, drop, true, IfOk, OnOk, OnErr};
+ghost use Rattle.std.specs.Prelude.{◌≡◌, ◌+◌, ◌<◌, ◌≤◌, ◌^◌, ◌++◌, ℕ, length, replicate, take, drop, true, IfOk, OnOk, OnErr};
 ghost use Rattle.std.specs.List.{concat};
 ghost use Rattle.bd_pages.specs.Fills.{filled};
 ghost use Rattle.bd_pages.specs.Pages.{zeroed};
-ghost use Rattle.bd_volume.specs.Clusters.{blocks_at, found};
+ghost use Rattle.bd_volume.specs.Clusters.{StandsAt, blocks_at};
 
 use crate::cluster::Cluster;
 use crate::guesses::Guesses;
@@ -87,9 +87,9 @@ impl Clusters {
         })
     }
 
-    // Whether the cluster at this index of the map is that of a place.
+    // Whether the cluster at an index of the map is that of a place.
     fn is_at(&self, index: usize, place: u64) -> bool
-        ensures { result ≡ true → slice_get self.now.entries index ≡ option_map (λ p. (place, p)) (found self.now.entries place) }
+        ensures { result ≡ true → StandsAt self.now.entries place index }
     {
         match self.map.get_index(index) {
             Some((key, _)) => *key == place,
@@ -100,7 +100,7 @@ impl Clusters {
     // At which index of the map the cluster of a place stands; where there is none, an index past the map's end.
     #[inline(never)]
     fn look_up(&self, place: u64) -> usize
-        ensures { slice_get self.now.entries result ≡ option_map (λ p. (place, p)) (found self.now.entries place) }
+        ensures { StandsAt self.now.entries place result }
     {
         match self.map.get_full(&place) {
             Some((index, _, _)) => index,
@@ -110,7 +110,7 @@ impl Clusters {
 
     // The same. The index that was noted for such a place is tried first.
     fn find(&self, place: u64) -> usize
-        ensures { slice_get self.now.entries result ≡ option_map (λ p. (place, p)) (found self.now.entries place) }
+        ensures { StandsAt self.now.entries place result }
     {
         let noted = self.guesses.of(place);
         if self.is_at(noted, place) {

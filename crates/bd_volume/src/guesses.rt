@@ -1,8 +1,13 @@
-//! At which index a cluster may stand, by the lowest digits of its place. What is noted is tried first, and never trusted.
+//! Guesses at which index of a map a place stands. A guess is tried before the map is asked, and never trusted: no
+//! contract says what it is.
 use bd_base::OutOfMemory;
 use std::alloc::Global;
 
-/// For the lowest digits of a place, an index that was noted for such a place.
+// How many guesses there is room for at first, where there is any. Each further room is twice the one before, so that
+// a place's lowest bits say where its guess is.
+const FEWEST: usize = 16;
+
+/// For the lowest bits of a place, the index that was noted last for such a place.
 #[derive(Drop)]
 pub(crate) struct Guesses {
     noted: Vec<usize>,
@@ -18,7 +23,7 @@ impl Guesses {
         }
     }
 
-    /// What was noted for a place with these lowest digits; 0 for none.
+    /// The index that may be that of a place.
     pub(crate) fn of(&self, place: u64) -> usize {
         match self.noted.get((place & self.mask) as usize) {
             Some(index) => *index,
@@ -26,29 +31,34 @@ impl Guesses {
         }
     }
 
-    /// Notes an index for a place.
+    /// Notes the index of a place, where there is room.
     pub(crate) fn note(&mut self, place: u64, index: usize) {
         if let Some(noted) = self.noted.get_mut((place & self.mask) as usize) {
             *noted = index;
         }
     }
 
-    /// Makes room for twice as many as there are clusters, where memory is found.
+    /// Makes room for twice as many guesses as there are clusters, unless there is room or no memory for it.
     pub(crate) fn make_room(&mut self, clusters: usize) {
         let len = self.noted.len();
-        if clusters < len / 2 || len > 1_000_000_000 {
+        if clusters < len / 2 {
             return;
         }
-        let more = if len == 0 { 16 } else { len * 2 };
-        if let Ok(()) = self.noted.resize(more, 0) {
-            self.mask = more as u64 - 1;
+        let room = if len < FEWEST {
+            FEWEST
+        } else {
+            len.saturating_mul(2)
+        };
+        if let Ok(()) = self.noted.resize(room, 0) {
+            self.mask = room as u64 - 1;
         }
     }
 
-    /// The same notes.
+    /// The same guesses.
     pub(crate) fn copy(&self) -> Result<Guesses, OutOfMemory> {
+        let noted = Vec::from_slice(*self.noted.allocator(), self.noted.as_slice())?;
         Ok(Guesses {
-            noted: self.noted.clone()?,
+            noted,
             mask: self.mask,
         })
     }

@@ -1,4 +1,4 @@
-use Rattle.std.proofs.Common.{◌≡◌, ◌*◌, Bool, ℕ, List, [], ◌∷◌, cond, ap, sym, ◌∙◌, arith}
+use Rattle.std.proofs.Common.{Bool, ℕ, List, [], ◌∷◌, cond, ap, sym, ◌∙◌, arith}
 use Rattle.bd_base.specs.Pattern.{pattern_byte}
 use Rattle.bd_pages.specs.Bytes.{written}
 use Rattle.bd_pages.specs.Fills.{patterns, turned_block}

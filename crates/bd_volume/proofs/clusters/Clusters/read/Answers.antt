@@ -1,6 +1,6 @@
-use Rattle.std.proofs.Common.{◌≡◌, ℕ, ◌+◌, ◌≤◌, List, take, drop, replicate, slice_get, option_map, ap, subst, sym, ◌∙◌}
+use Rattle.std.proofs.Common.{ℕ, ◌+◌, ◌≤◌, List, take, drop, replicate, ap, subst, sym, ◌∙◌}
 use Rattle.std.specs.List.{concat}
-use Rattle.bd_volume.specs.Clusters.{Placed, Stored, blocks_at, cluster_or, found}
+use Rattle.bd_volume.specs.Clusters.{Placed, StandsAt, Stored, blocks_at, cluster_or}
 use Rattle.bd_volume.proofs.Maps.{none_at}
 use Rattle.bd_volume.proofs.Zeros.{range_same}
 use Rattle.bd_volume.proofs.clusters.Clusters.read.Goals as goal
@@ -13,7 +13,7 @@ returns-in_ok-bytes-in-None c =
     let size : ℕ = c.self.inside.size in
     let place : ℕ = c.args.part.place in
     let es : List (ℕ × Stored) = c.self.inside.map.entries in
-    let is : slice_get es c.find.result ≡ option_map (λ p. (place, p)) (found es place) = subst (λ (s : Placed). slice_get s.entries c.find.result ≡ option_map (λ p. (place, p)) (found s.entries place)) (sym c.self.view_is) c.find.ensures in
+    let is : StandsAt es place c.find.result = subst (λ (s : Placed). StandsAt s.entries place c.find.result) (sym c.self.view_is) c.find.ensures in
     let z : List ℕ = replicate size 0 in
     let inside : at + n ≤ cluster = subst (λ (s : Placed). at + n ≤ s.cluster) (sym c.self.view_is) c.requires in
     c.in_ok-bytes-in-None.ensures

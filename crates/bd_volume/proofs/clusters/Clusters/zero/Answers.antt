@@ -1,21 +1,17 @@
-use Rattle.std.proofs.Common.{◌≡◌, ℕ, ◌+◌, ◌≤◌, List, ◌++◌, Option, None, Some, length, replicate, slice_get, option_map, take, drop, ap, subst, sym, ◌∙◌, arith}
+use Rattle.std.proofs.Common.{◌≡◌, ℕ, ◌+◌, ◌≤◌, List, ◌++◌, Option, None, Some, length, take, drop, ap, subst, sym, ◌∙◌, arith}
 use Rattle.bd_pages.specs.Pages.{zeroed}
 use Rattle.indexmap.specs.IndexMap.{set_value_at}
-use Rattle.bd_volume.specs.Clusters.{Placed, Stored, blocks_at, cluster_or, found}
+use Rattle.bd_volume.specs.Clusters.{Placed, StandsAt, Stored, blocks_at, cluster_or}
 use Rattle.bd_volume.proofs.Maps.{found_at, put_again, put_apart, put_clusters, put_here}
 use Rattle.bd_volume.proofs.Zeros.{zeros_stay}
 use Rattle.bd_volume.proofs.clusters.Clusters.zero.Goals as goal
-
--- what the index of the place means, of the entries
-abbrev AtPlace : List (ℕ × Stored) → ℕ → ℕ → Type 0
-AtPlace es place i = slice_get es i ≡ option_map (λ p. (place, p)) (found es place)
 
 pub zero-requires : goal.zero-requires
 zero-requires c =
     let es : List (ℕ × Stored) = c.self.inside.map.entries in
     let place : ℕ = c.args.part.place in
     let p : Stored = c.in-Some.cluster.now in
-    let is : AtPlace es place c.find-index.result = subst (λ (s : Placed). AtPlace s.entries place c.find-index.result) (sym c.self.view_is) c.find-index.ensures in
+    let is : StandsAt es place c.find-index.result = subst (λ (s : Placed). StandsAt s.entries place c.find-index.result) (sym c.self.view_is) c.find-index.ensures in
     let inside : c.args.part.at + c.args.part.count ≤ c.self.inside.cluster = subst (λ (s : Placed). c.args.part.at + c.args.part.count ≤ s.cluster) (sym c.self.view_is) c.requires in
     let long : length p.blocks ≡ c.self.inside.cluster = c.self.invariant.long place p (sym (found_at es place c.find-index.result is (Some p) c.in-Some.ensures.value)) in
     omega (arith, inside, long)
@@ -24,7 +20,7 @@ pub invariant_of-self : goal.invariant_of-self
 invariant_of-self c =
     let place : ℕ = c.args.part.place in
     let i : ℕ = c.find-index.result in
-    let is : AtPlace c.self.inside.map.entries place i = subst (λ (s : Placed). AtPlace s.entries place i) (sym c.self.view_is) c.find-index.ensures in
+    let is : StandsAt c.self.inside.map.entries place i = subst (λ (s : Placed). StandsAt s.entries place i) (sym c.self.view_is) c.find-index.ensures in
     put_clusters c.self.inside.map c.in-Some.ensures.unique place i is c.in-Some.cluster.now c.in-Some.ensures.value c.zero.new.self
     c.self.inside.cluster c.self.inside.size c.self.invariant c.in-Err.ensures.long c.in-Err.ensures.size
 
@@ -32,7 +28,7 @@ pub invariant_of-self-in-Some : goal.invariant_of-self-in-Some
 invariant_of-self-in-Some c =
     let place : ℕ = c.args.part.place in
     let i : ℕ = c.find-index.result in
-    let is : AtPlace c.self.inside.map.entries place i = subst (λ (s : Placed). AtPlace s.entries place i) (sym c.self.view_is) c.find-index.ensures in
+    let is : StandsAt c.self.inside.map.entries place i = subst (λ (s : Placed). StandsAt s.entries place i) (sym c.self.view_is) c.find-index.ensures in
     put_clusters c.self.inside.map c.in-Some.ensures.unique place i is c.in-Some.cluster.now c.in-Some.ensures.value c.zero.new.self
     c.self.inside.cluster c.self.inside.size c.self.invariant c.in_default-zero.ensures.long c.in_default-zero.ensures.size
 
@@ -40,7 +36,7 @@ pub returns-in-Err-clause-apart : goal.returns-in-Err-clause-apart
 returns-in-Err-clause-apart c =
     let place : ℕ = c.args.part.place in
     let i : ℕ = c.find-index.result in
-    let is : AtPlace c.self.inside.map.entries place i = subst (λ (s : Placed). AtPlace s.entries place i) (sym c.self.view_is) c.find-index.ensures in
+    let is : StandsAt c.self.inside.map.entries place i = subst (λ (s : Placed). StandsAt s.entries place i) (sym c.self.view_is) c.find-index.ensures in
     λ q other.
     ap (λ (o : Option Stored). cluster_or c.self.inside.cluster c.self.inside.size o)
     (put_apart c.self.inside.map c.in-Some.ensures.unique place i is c.in-Some.cluster.now c.in-Some.ensures.value c.zero.new.self q other)
@@ -50,7 +46,7 @@ pub returns-in-Some-clause-apart : goal.returns-in-Some-clause-apart
 returns-in-Some-clause-apart c =
     let place : ℕ = c.args.part.place in
     let i : ℕ = c.find-index.result in
-    let is : AtPlace c.self.inside.map.entries place i = subst (λ (s : Placed). AtPlace s.entries place i) (sym c.self.view_is) c.find-index.ensures in
+    let is : StandsAt c.self.inside.map.entries place i = subst (λ (s : Placed). StandsAt s.entries place i) (sym c.self.view_is) c.find-index.ensures in
     λ q other.
     ap (λ (o : Option Stored). cluster_or c.self.inside.cluster c.self.inside.size o)
     (put_apart c.self.inside.map c.in-Some.ensures.unique place i is c.in-Some.cluster.now c.in-Some.ensures.value c.zero.new.self q other)
@@ -73,7 +69,7 @@ returns-in-Some-clause-here c =
     let es : List (ℕ × Stored) = c.self.inside.map.entries in
     let p : Stored = c.in-Some.cluster.now in
     let or : Option Stored → List (List ℕ) = λ o. cluster_or c.self.inside.cluster c.self.inside.size o in
-    let is : AtPlace es place i = subst (λ (s : Placed). AtPlace s.entries place i) (sym c.self.view_is) c.find-index.ensures in
+    let is : StandsAt es place i = subst (λ (s : Placed). StandsAt s.entries place i) (sym c.self.view_is) c.find-index.ensures in
     let was : p.blocks ≡ blocks_at c.args.self.now place = ap or (found_at es place i is (Some p) c.in-Some.ensures.value) ∙ ap (λ (s : Placed). blocks_at s place) c.self.view_is in
     ap or (put_here c.self.inside.map c.in-Some.ensures.unique place i is p c.in-Some.ensures.value c.zero.new.self)
     ∙ c.in_default-zero.ensures.ok
@@ -89,7 +85,7 @@ returns-clause-here c =
     let cluster : ℕ = c.self.inside.cluster in
     let size : ℕ = c.self.inside.size in
     let inside : at + n ≤ cluster = subst (λ (s : Placed). at + n ≤ s.cluster) (sym c.self.view_is) c.requires in
-    let is : AtPlace es place i = subst (λ (s : Placed). AtPlace s.entries place i) (sym c.self.view_is) c.find-index.ensures in
+    let is : StandsAt es place i = subst (λ (s : Placed). StandsAt s.entries place i) (sym c.self.view_is) c.find-index.ensures in
     ap (λ (s : Placed). blocks_at s place) c.self.view_is
     ∙ subst (λ (s : Placed). blocks_at s place ≡ take at (blocks_at s place) ++ zeroed (take n (drop at (blocks_at s place))) ++ drop (at + n) (blocks_at s place)) c.self.view_is
     (subst (λ (o : Option Stored). cluster_or cluster size o ≡ take at (cluster_or cluster size o) ++ zeroed (take n (drop at (cluster_or cluster size o))) ++ drop (at + n) (cluster_or cluster size o)) (found_at es place i is None c.in_default.ensures.value)

@@ -1,4 +1,4 @@
-use Rattle.std.proofs.Common.{◌≡◌, ◌+◌, ◌*◌, ◌≤◌, ℕ, List, length, ap, subst, sym, ◌∙◌, arith}
+use Rattle.std.proofs.Common.{◌+◌, ◌*◌, ◌≤◌, ℕ, List, length, ap, subst, sym, ◌∙◌, arith}
 use Rattle.bd_pages.specs.Bytes.{written}
 use Rattle.bd_pages.specs.Fills.{bytes_filled}
 use Rattle.bd_pages.specs.Pages.{blocks_of}

@@ -1,4 +1,4 @@
-use Rattle.std.proofs.Common.{◌≡◌, ◌+◌, ◌*◌, ◌≤◌, ℕ, List, length, take, drop, ap, subst, sym, ◌∙◌}
+use Rattle.std.proofs.Common.{◌+◌, ◌*◌, ◌≤◌, ℕ, List, length, take, drop, ap, subst, sym, ◌∙◌}
 use Rattle.bd_volume.proofs.Stores.{span_inside, span_read}
 use Rattle.bd_volume.proofs.store.Store.read.Goals as goal
 

@@ -1,5 +1,5 @@
 use Rattle.std.proofs.Common.{arith}
-use Rattle.bd_volume.proofs.Stores.{range_inside, span_inside}
+use Rattle.bd_volume.proofs.Stores.{range_inside}
 use Rattle.bd_volume.proofs.store.Store.span.Goals as goal
 
 pub overflow_mul-result : goal.overflow_mul-result
