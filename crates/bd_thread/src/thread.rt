@@ -36,8 +36,8 @@ pub struct Thread<'a> {
     pub(crate) time: Time,
     // its requests that delay devices hold, in the order in which their holds end
     pub(crate) holds: Held,
-    // requests that were not cut as they were accepted, or that were found waiting for a decision of the registry: what
-    // is to be asked next, also some for which there is nothing to ask any more
+    // requests that needed a decision of the registry as they were accepted or came back, or that were found waiting for
+    // one: what is to be asked next, also some for which there is nothing to ask any more
     pub(crate) calls: VecDeque<ReqId>,
 }
 

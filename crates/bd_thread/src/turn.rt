@@ -65,7 +65,7 @@ impl<'a> Thread<'a> {
         Ok(())
     }
 
-    // Submits through a handle, and cuts what was accepted, or notes it where it can't be cut yet.
+    // Submits through a handle, and cuts what was accepted; where it can't be cut yet, it is set out or noted.
     #[tactic(auto, using(crate::proofs::Alone::alone_none))]
     fn submit_through(
         &mut self,
