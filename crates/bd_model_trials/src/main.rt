@@ -28,6 +28,7 @@ fn answer(alloc: Global, given: &Given, asked: &str) -> Result<String, OutOfMemo
         "set" => sets::told(alloc, rest),
         "stack" => stacks::answer(alloc, &setup, rest),
         "tokens" => tokens::counted(alloc),
+        "walks" => tokens::walks(alloc),
         _ => words::said(alloc, "no such question"),
     }
 }

@@ -88,3 +88,51 @@ pub(crate) fn counted(alloc: Global) -> Result<String, OutOfMemory> {
     let left = tokens.len();
     Ok(format!(in alloc; "{held} held, {found} found, {out} taken out, {left} left")?)
 }
+
+// At how many places of the walks that are held this one is.
+fn places_of(tokens: &Tokens, number: u32) -> u32 {
+    let mut places = 0u32;
+    for place in 0..tokens.walk_count() {
+        if let Some(walk) = tokens.walk_at(place) {
+            if walk.thread == 3 && walk.seq == u128::from(number) {
+                places = places.saturating_add(1);
+            }
+        }
+    }
+    places
+}
+
+// How many walks are held, at how many places each of six is found, and whether none is past the last place.
+fn tell_walks(text: &mut String, tokens: &Tokens) -> Result<(), OutOfMemory> {
+    let count = tokens.walk_count();
+    write!(text, "{count} walks, found at")?;
+    for number in 0..6u32 {
+        let places = places_of(tokens, number);
+        write!(text, " {places}")?;
+    }
+    text.push_str(" places")?;
+    if tokens.walk_at(count).is_some() {
+        text.push_str(", and past the last")?;
+    }
+    Ok(())
+}
+
+/// Six walks are held, twice each, beside as many tokens of each other kind; then every second token is let go.
+pub(crate) fn walks(alloc: Global) -> Result<String, OutOfMemory> {
+    let mut tokens = Tokens::new(alloc);
+    for number in 0..12u32 {
+        for id in ids_of(number % 6) {
+            tokens.hold(id, Kept::Notice(News::Device(DevId(number))))?;
+        }
+    }
+    let mut text = String::new(alloc);
+    tell_walks(&mut text, &tokens)?;
+    for number in [1u32, 3, 5] {
+        for id in ids_of(number) {
+            tokens.let_go(id);
+        }
+    }
+    text.push_str("; ")?;
+    tell_walks(&mut text, &tokens)?;
+    Ok(text)
+}

@@ -1,3 +1,4 @@
 pub mod Each
 pub mod Here
+pub mod Listed
 pub mod Placed

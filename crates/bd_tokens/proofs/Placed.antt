@@ -1,4 +1,4 @@
--- A token is looked up at its place and then in the map; a change at one place, or in the map, is a change of one token.
+-- A token is looked up at its place and then among those without one; a change at one place, or among those, is a change of one token.
 use Rattle.std.proofs.Common.{◌≡◌, ◌≢◌, ℕ, zero, suc, ◌+◌, ◌<◌, ◌≤◌, ◌==◌, ◌⊎◌, inl, inr, Bool, true, false, cond, List, [], ◌∷◌, ◌++◌, length, slice_index_or, slice_set, Option, Some, None, is_some, option_map, refl, sym, ◌∙◌, ap, ap₂, subst, eqb-true, eq-eqb, arith}
 use Rattle.std.proofs.lemmas.List.{get_or-set_same, get_or-set_other, get_or_past, length-set}
 use mathlib.Core.Path.{fun_ext}
@@ -6,8 +6,7 @@ use Rattle.bd_machine.specs.declared.state.Id.{Id}
 use Rattle.bd_machine.specs.declared.state.Kept.{Kept}
 use Rattle.bd_machine.specs.Same.{same_id}
 use Rattle.bd_machine.proofs.Tables.{id_same}
-use Rattle.bd_tokens.specs.declared.key.Key.{Key}
-use Rattle.bd_tokens.specs.Tokens.{here_in, items_of, Sets}
+use Rattle.bd_tokens.specs.Tokens.{here_in, Sets}
 use Rattle.bd_tokens.specs.Places.{items_in, items_with, is_free, is_own, kept_in, kept_of, place_of, AreApart, AreAt, AreKept, IsAt}
 
 -- ---- places
@@ -137,7 +136,7 @@ empty_row id row free j = go (same_id id j) refl
     go true e = refl
     go false e = sym (of_other id j row free e)
 
--- ---- places and the map
+-- ---- places, and tokens that aren't at one
 
 abbrev pub first_of : Option Kept → Option Kept → Option Kept
 first_of None o = o
@@ -147,42 +146,42 @@ of_first : (b : Bool) (kept : Kept) (o p q : Option Kept) → o ≡ first_of p q
 of_first true kept o p q is = refl
 of_first false kept o p q is = is
 
-here_both : (xs ys : List (Id × Kept)) (id : Id) → here_in (xs ++ ys) id ≡ first_of (here_in xs id) (here_in ys id)
+pub here_both : (xs ys : List (Id × Kept)) (id : Id) → here_in (xs ++ ys) id ≡ first_of (here_in xs id) (here_in ys id)
 here_both [] ys id = refl
 here_both (x ∷ xs) ys id = of_first (same_id x.0 id) x.1 (here_in (xs ++ ys) id) (here_in xs id) (here_in ys id) (here_both xs ys id)
 
 -- what is at its place is here
-pub here_own : (rows : List (Option (Id × Kept))) (entries : List (Key × Kept)) (id : Id) (kept : Kept) → here_in (items_in rows) id ≡ Some kept → here_in (items_with rows entries) id ≡ Some kept
-here_own rows entries id kept is = here_both (items_in rows) (items_of entries) id ∙ ap (λ (o : Option Kept). first_of o (here_in (items_of entries) id)) is
+pub here_own : (rows : List (Option (Id × Kept))) (unplaced : List (Id × Kept)) (id : Id) (kept : Kept) → here_in (items_in rows) id ≡ Some kept → here_in (items_with rows unplaced) id ≡ Some kept
+here_own rows unplaced id kept is = here_both (items_in rows) unplaced id ∙ ap (λ (o : Option Kept). first_of o (here_in unplaced id)) is
 
--- of a token that isn't at its place that is here which the map has
-pub here_other : (rows : List (Option (Id × Kept))) (entries : List (Key × Kept)) (id : Id) → here_in (items_in rows) id ≡ None → here_in (items_with rows entries) id ≡ here_in (items_of entries) id
-here_other rows entries id is = here_both (items_in rows) (items_of entries) id ∙ ap (λ (o : Option Kept). first_of o (here_in (items_of entries) id)) is
+-- of a token that isn't at its place that is here which those without one have
+pub here_other : (rows : List (Option (Id × Kept))) (unplaced : List (Id × Kept)) (id : Id) → here_in (items_in rows) id ≡ None → here_in (items_with rows unplaced) id ≡ here_in unplaced id
+here_other rows unplaced id is = here_both (items_in rows) unplaced id ∙ ap (λ (o : Option Kept). first_of o (here_in unplaced id)) is
 
--- places and map change for one token alone: it is here then as they say, and all else stayed
-sets_both : (rows rows' : List (Option (Id × Kept))) (entries entries' : List (Key × Kept)) (id : Id) (o : Option Kept)
-    → ((j : Id) → same_id id j ≡ true → first_of (here_in (items_in rows') j) (here_in (items_of entries') j) ≡ o)
+-- places and the others change for one token alone: it is here then as they say, and all else stayed
+sets_both : (rows rows' : List (Option (Id × Kept))) (unplaced unplaced' : List (Id × Kept)) (id : Id) (o : Option Kept)
+    → ((j : Id) → same_id id j ≡ true → first_of (here_in (items_in rows') j) (here_in unplaced' j) ≡ o)
     → ((j : Id) → same_id id j ≡ false → here_in (items_in rows') j ≡ here_in (items_in rows) j)
-    → ((j : Id) → same_id id j ≡ false → here_in (items_of entries') j ≡ here_in (items_of entries) j)
-    → Sets (items_with rows entries) (items_with rows' entries') id o
-sets_both rows rows' entries entries' id o own places others = fun_ext (λ (j : Id). here_both (items_in rows') (items_of entries') j ∙ go j (same_id id j) refl)
+    → ((j : Id) → same_id id j ≡ false → here_in unplaced' j ≡ here_in unplaced j)
+    → Sets (items_with rows unplaced) (items_with rows' unplaced') id o
+sets_both rows rows' unplaced unplaced' id o own places others = fun_ext (λ (j : Id). here_both (items_in rows') unplaced' j ∙ go j (same_id id j) refl)
   where
-    go : (j : Id) (b : Bool) → same_id id j ≡ b → first_of (here_in (items_in rows') j) (here_in (items_of entries') j) ≡ cond b o (here_in (items_with rows entries) j)
+    go : (j : Id) (b : Bool) → same_id id j ≡ b → first_of (here_in (items_in rows') j) (here_in unplaced' j) ≡ cond b o (here_in (items_with rows unplaced) j)
     go j true e = own j e
-    go j false e = ap₂ first_of (places j e) (others j e) ∙ sym (here_both (items_in rows) (items_of entries) j)
+    go j false e = ap₂ first_of (places j e) (others j e) ∙ sym (here_both (items_in rows) unplaced j)
 
-apart_both : (rows rows' : List (Option (Id × Kept))) (entries entries' : List (Key × Kept)) (id : Id)
-    → ((j : Id) → same_id id j ≡ true → (here_in (items_in rows') j ≡ None) ⊎ (here_in (items_of entries') j ≡ None))
+apart_both : (rows rows' : List (Option (Id × Kept))) (unplaced unplaced' : List (Id × Kept)) (id : Id)
+    → ((j : Id) → same_id id j ≡ true → (here_in (items_in rows') j ≡ None) ⊎ (here_in unplaced' j ≡ None))
     → ((j : Id) → same_id id j ≡ false → here_in (items_in rows') j ≡ here_in (items_in rows) j)
-    → ((j : Id) → same_id id j ≡ false → here_in (items_of entries') j ≡ here_in (items_of entries) j)
-    → AreApart rows entries → AreApart rows' entries'
-apart_both rows rows' entries entries' id own places others apart j = go (same_id id j) refl
+    → ((j : Id) → same_id id j ≡ false → here_in unplaced' j ≡ here_in unplaced j)
+    → AreApart rows unplaced → AreApart rows' unplaced'
+apart_both rows rows' unplaced unplaced' id own places others apart j = go (same_id id j) refl
   where
-    kept : same_id id j ≡ false → (here_in (items_in rows) j ≡ None) ⊎ (here_in (items_of entries) j ≡ None) → (here_in (items_in rows') j ≡ None) ⊎ (here_in (items_of entries') j ≡ None)
+    kept : same_id id j ≡ false → (here_in (items_in rows) j ≡ None) ⊎ (here_in unplaced j ≡ None) → (here_in (items_in rows') j ≡ None) ⊎ (here_in unplaced' j ≡ None)
     kept e (inl h) = inl (places j e ∙ h)
     kept e (inr h) = inr (others j e ∙ h)
 
-    go : (b : Bool) → same_id id j ≡ b → (here_in (items_in rows') j ≡ None) ⊎ (here_in (items_of entries') j ≡ None)
+    go : (b : Bool) → same_id id j ≡ b → (here_in (items_in rows') j ≡ None) ⊎ (here_in unplaced' j ≡ None)
     go true e = own j e
     go false e = kept e (apart j)
 
@@ -198,27 +197,27 @@ module _ (rows : List (Option (Id × Kept))) (k : ℕ) (row : Option (Id × Kept
   set_other : (j : Id) → same_id id j ≡ false → here_in (items_in (slice_set rows k row)) j ≡ here_in (items_in rows) j
   set_other j e = set-is j ∙ ap (λ (b : Bool). cond b o (here_in (items_in rows) j)) e
 
--- the map has something else of one token
-module _ (entries entries' : List (Key × Kept)) (id : Id) (o : Option Kept) (sets : Sets (items_of entries) (items_of entries') id o) where
-  map_own : (j : Id) → same_id id j ≡ true → here_in (items_of entries') j ≡ o
-  map_own j e = ap (λ (f : Id → Option Kept). f j) sets ∙ ap (λ (b : Bool). cond b o (here_in (items_of entries) j)) e
+-- the others have something else of one token
+module _ (unplaced unplaced' : List (Id × Kept)) (id : Id) (o : Option Kept) (sets : Sets unplaced unplaced' id o) where
+  others_own : (j : Id) → same_id id j ≡ true → here_in unplaced' j ≡ o
+  others_own j e = ap (λ (f : Id → Option Kept). f j) sets ∙ ap (λ (b : Bool). cond b o (here_in unplaced j)) e
 
-  map_other : (j : Id) → same_id id j ≡ false → here_in (items_of entries') j ≡ here_in (items_of entries) j
-  map_other j e = ap (λ (f : Id → Option Kept). f j) sets ∙ ap (λ (b : Bool). cond b o (here_in (items_of entries) j)) e
+  others_other : (j : Id) → same_id id j ≡ false → here_in unplaced' j ≡ here_in unplaced j
+  others_other j e = ap (λ (f : Id → Option Kept). f j) sets ∙ ap (λ (b : Bool). cond b o (here_in unplaced j)) e
 
--- a token is held at its place, and the map doesn't have it
-pub record IsHeldAt (rows : List (Option (Id × Kept))) (entries entries' : List (Key × Kept)) (k : ℕ) (id : Id) (it : Kept) : Type 0 where
-  pub kept : AreKept (slice_set rows k (Some (id, it))) entries'
-  pub held : Sets (items_with rows entries) (items_with (slice_set rows k (Some (id, it))) entries') id (Some it)
+-- a token is held at its place, and isn't among the others
+pub record IsHeldAt (rows : List (Option (Id × Kept))) (unplaced unplaced' : List (Id × Kept)) (k : ℕ) (id : Id) (it : Kept) : Type 0 where
+  pub kept : AreKept (slice_set rows k (Some (id, it))) unplaced'
+  pub held : Sets (items_with rows unplaced) (items_with (slice_set rows k (Some (id, it))) unplaced') id (Some it)
 
-pub held_at : (rows : List (Option (Id × Kept))) (entries entries' : List (Key × Kept)) (k : ℕ) (id : Id) (kept : Kept)
-    → AreKept rows entries
+pub held_at : (rows : List (Option (Id × Kept))) (unplaced unplaced' : List (Id × Kept)) (k : ℕ) (id : Id) (kept : Kept)
+    → AreKept rows unplaced
     → k < length rows
     → place_of id ≡ Some k
     → is_free id (slice_index_or rows k None) ≡ true
-    → Sets (items_of entries) (items_of entries') id None
-    → IsHeldAt rows entries entries' k id kept
-held_at rows entries entries' k id kept before lt is free gone =
+    → Sets unplaced unplaced' id None
+    → IsHeldAt rows unplaced unplaced' k id kept
+held_at rows unplaced unplaced' k id kept before lt is free gone =
     let row : Option (Id × Kept) = Some (id, kept) in
     let at' : AreAt 0 (slice_set rows k row) = set_from 0 k rows row before.at (is ∙ ap (λ (n : ℕ). Some n) (let h : k ≡ 0 + k = omega arith in h)) in
     let set-is : (j : Id) → here_in (items_in (slice_set rows k row)) j ≡ cond (same_id id j) (Some kept) (here_in (items_in rows) j) =
@@ -227,124 +226,124 @@ held_at rows entries entries' k id kept before lt is free gone =
       kept = record {
         few = omega (arith, length-set rows k row, before.few);
         at = at';
-        apart = apart_both rows (slice_set rows k row) entries entries' id (λ j e. inr (map_own entries entries' id None gone j e)) (set_other rows k row id (Some kept) set-is) (map_other entries entries' id None gone) before.apart;
+        apart = apart_both rows (slice_set rows k row) unplaced unplaced' id (λ j e. inr (others_own unplaced unplaced' id None gone j e)) (set_other rows k row id (Some kept) set-is) (others_other unplaced unplaced' id None gone) before.apart;
       };
-      held = sets_both rows (slice_set rows k row) entries entries' id (Some kept)
-          (λ j e. ap (λ (x : Option Kept). first_of x (here_in (items_of entries') j)) (set_own rows k row id (Some kept) set-is j e))
-          (set_other rows k row id (Some kept) set-is) (map_other entries entries' id None gone);
+      held = sets_both rows (slice_set rows k row) unplaced unplaced' id (Some kept)
+          (λ j e. ap (λ (x : Option Kept). first_of x (here_in unplaced' j)) (set_own rows k row id (Some kept) set-is j e))
+          (set_other rows k row id (Some kept) set-is) (others_other unplaced unplaced' id None gone);
     }
 
--- a token is held in the map, where it isn't at its place
-pub record IsHeldThere (rows : List (Option (Id × Kept))) (entries entries' : List (Key × Kept)) (id : Id) (o : Option Kept) : Type 0 where
-  pub kept : AreKept rows entries'
-  pub held : Sets (items_with rows entries) (items_with rows entries') id o
+-- a token is held among the others, where it isn't at its place
+pub record IsHeldThere (rows : List (Option (Id × Kept))) (unplaced unplaced' : List (Id × Kept)) (id : Id) (o : Option Kept) : Type 0 where
+  pub kept : AreKept rows unplaced'
+  pub held : Sets (items_with rows unplaced) (items_with rows unplaced') id o
 
-pub held_there : (rows : List (Option (Id × Kept))) (entries entries' : List (Key × Kept)) (id : Id) (o : Option Kept)
-    → AreKept rows entries → here_in (items_in rows) id ≡ None → Sets (items_of entries) (items_of entries') id o → IsHeldThere rows entries entries' id o
-held_there rows entries entries' id o before none sets =
+pub held_there : (rows : List (Option (Id × Kept))) (unplaced unplaced' : List (Id × Kept)) (id : Id) (o : Option Kept)
+    → AreKept rows unplaced → here_in (items_in rows) id ≡ None → Sets unplaced unplaced' id o → IsHeldThere rows unplaced unplaced' id o
+held_there rows unplaced unplaced' id o before none sets =
     let nothing : (j : Id) → same_id id j ≡ true → here_in (items_in rows) j ≡ None = λ j e. at_same (here_in (items_in rows)) id j None e none in
     record {
-      kept = record { few = before.few; at = before.at; apart = apart_both rows rows entries entries' id (λ j e. inl (nothing j e)) (λ j e. refl) (map_other entries entries' id o sets) before.apart };
-      held = sets_both rows rows entries entries' id o (λ j e. ap₂ first_of (nothing j e) (map_own entries entries' id o sets j e)) (λ j e. refl) (map_other entries entries' id o sets);
+      kept = record { few = before.few; at = before.at; apart = apart_both rows rows unplaced unplaced' id (λ j e. inl (nothing j e)) (λ j e. refl) (others_other unplaced unplaced' id o sets) before.apart };
+      held = sets_both rows rows unplaced unplaced' id o (λ j e. ap₂ first_of (nothing j e) (others_own unplaced unplaced' id o sets j e)) (λ j e. refl) (others_other unplaced unplaced' id o sets);
     }
 
--- a map with the same tokens
-pub kept_others : (rows : List (Option (Id × Kept))) (entries entries' : List (Key × Kept)) → AreKept rows entries → here_in (items_of entries') ≡ here_in (items_of entries) → AreKept rows entries'
-kept_others rows entries entries' before same = record {
+-- others with the same tokens
+pub kept_others : (rows : List (Option (Id × Kept))) (unplaced unplaced' : List (Id × Kept)) → AreKept rows unplaced → here_in unplaced' ≡ here_in unplaced → AreKept rows unplaced'
+kept_others rows unplaced unplaced' before same = record {
   few = before.few;
   at = before.at;
   apart = λ j. subst (λ (f : Id → Option Kept). (here_in (items_in rows) j ≡ None) ⊎ (f j ≡ None)) (sym same) (before.apart j);
 }
 
--- a token is held now, at its place or in the map
-pub record IsHeld (rows rows' : List (Option (Id × Kept))) (entries entries' : List (Key × Kept)) (id : Id) (it : Kept) : Type 0 where
-  pub kept : AreKept rows' entries'
-  pub held : Sets (items_with rows entries) (items_with rows' entries') id (Some it)
+-- a token is held now, at its place or among the others
+pub record IsHeld (rows rows' : List (Option (Id × Kept))) (unplaced unplaced' : List (Id × Kept)) (id : Id) (it : Kept) : Type 0 where
+  pub kept : AreKept rows' unplaced'
+  pub held : Sets (items_with rows unplaced) (items_with rows' unplaced') id (Some it)
 
 -- it was put at its place
-pub held_put : (rows rows' : List (Option (Id × Kept))) (entries entries' : List (Key × Kept)) (k : ℕ) (id : Id) (it : Kept)
-    → AreKept rows entries
+pub held_put : (rows rows' : List (Option (Id × Kept))) (unplaced unplaced' : List (Id × Kept)) (k : ℕ) (id : Id) (it : Kept)
+    → AreKept rows unplaced
     → k < length rows
     → place_of id ≡ Some k
     → is_free id (slice_index_or rows k None) ≡ true
     → rows' ≡ slice_set rows k (Some (id, it))
-    → Sets (items_of entries) (items_of entries') id None
-    → IsHeld rows rows' entries entries' id it
-held_put rows rows' entries entries' k id it before lt is free put gone =
-    let at = held_at rows entries entries' k id it before lt is free gone in
+    → Sets unplaced unplaced' id None
+    → IsHeld rows rows' unplaced unplaced' id it
+held_put rows rows' unplaced unplaced' k id it before lt is free put gone =
+    let at = held_at rows unplaced unplaced' k id it before lt is free gone in
     record {
-      kept = subst (λ (rs : List (Option (Id × Kept))). AreKept rs entries') (sym put) at.kept;
-      held = subst (λ (rs : List (Option (Id × Kept))). Sets (items_with rows entries) (items_with rs entries') id (Some it)) (sym put) at.held;
+      kept = subst (λ (rs : List (Option (Id × Kept))). AreKept rs unplaced') (sym put) at.kept;
+      held = subst (λ (rs : List (Option (Id × Kept))). Sets (items_with rows unplaced) (items_with rs unplaced') id (Some it)) (sym put) at.held;
     }
 
--- its place has none, and it is in the map
-pub held_beside : (rows rows' : List (Option (Id × Kept))) (entries entries' : List (Key × Kept)) (k : ℕ) (id : Id) (it : Kept)
-    → AreKept rows entries
+-- its place has none, and it is among the others
+pub held_beside : (rows rows' : List (Option (Id × Kept))) (unplaced unplaced' : List (Id × Kept)) (k : ℕ) (id : Id) (it : Kept)
+    → AreKept rows unplaced
     → place_of id ≡ Some k
     → rows' ≡ rows
     → slice_index_or rows k None ≡ None
-    → Sets (items_of entries) (items_of entries') id (Some it)
-    → IsHeld rows rows' entries entries' id it
-held_beside rows rows' entries entries' k id it before is same none sets =
-    let there = held_there rows entries entries' id (Some it) before (at_place rows k id before.at is ∙ ap (kept_in id) none) sets in
+    → Sets unplaced unplaced' id (Some it)
+    → IsHeld rows rows' unplaced unplaced' id it
+held_beside rows rows' unplaced unplaced' k id it before is same none sets =
+    let there = held_there rows unplaced unplaced' id (Some it) before (at_place rows k id before.at is ∙ ap (kept_in id) none) sets in
     record {
-      kept = subst (λ (rs : List (Option (Id × Kept))). AreKept rs entries') (sym same) there.kept;
-      held = subst (λ (rs : List (Option (Id × Kept))). Sets (items_with rows entries) (items_with rs entries') id (Some it)) (sym same) there.held;
+      kept = subst (λ (rs : List (Option (Id × Kept))). AreKept rs unplaced') (sym same) there.kept;
+      held = subst (λ (rs : List (Option (Id × Kept))). Sets (items_with rows unplaced) (items_with rs unplaced') id (Some it)) (sym same) there.held;
     }
 
 -- nothing changed
-pub kept_still : (rows rows' : List (Option (Id × Kept))) (entries entries' : List (Key × Kept)) → AreKept rows entries → rows' ≡ rows → items_of entries' ≡ items_of entries → AreKept rows' entries'
-kept_still rows rows' entries entries' before same others =
-    subst (λ (rs : List (Option (Id × Kept))). AreKept rs entries') (sym same) (kept_others rows entries entries' before (ap here_in others))
+pub kept_still : (rows rows' : List (Option (Id × Kept))) (unplaced unplaced' : List (Id × Kept)) → AreKept rows unplaced → rows' ≡ rows → unplaced' ≡ unplaced → AreKept rows' unplaced'
+kept_still rows rows' unplaced unplaced' before same others =
+    subst (λ (rs : List (Option (Id × Kept))). AreKept rs unplaced') (sym same) (kept_others rows unplaced unplaced' before (ap here_in others))
 
 -- a token is taken from its place, as it was seen there
-pub record IsTaken (rows rows' : List (Option (Id × Kept))) (entries : List (Key × Kept)) (id : Id) (was : Option Kept) : Type 0 where
-  pub kept : AreKept rows' entries
-  pub gone : Sets (items_with rows entries) (items_with rows' entries) id None
-  pub is : here_in (items_with rows entries) id ≡ was
+pub record IsTaken (rows rows' : List (Option (Id × Kept))) (unplaced : List (Id × Kept)) (id : Id) (was : Option Kept) : Type 0 where
+  pub kept : AreKept rows' unplaced
+  pub gone : Sets (items_with rows unplaced) (items_with rows' unplaced) id None
+  pub is : here_in (items_with rows unplaced) id ≡ was
 
-taken_at : (rows : List (Option (Id × Kept))) (entries : List (Key × Kept)) (k : ℕ) (id : Id)
-    → AreKept rows entries → k < length rows → place_of id ≡ Some k → is_own id (slice_index_or rows k None) ≡ true
-    → IsTaken rows (slice_set rows k None) entries id (option_map kept_of (slice_index_or rows k None))
-taken_at rows entries k id before lt is own =
+taken_at : (rows : List (Option (Id × Kept))) (unplaced : List (Id × Kept)) (k : ℕ) (id : Id)
+    → AreKept rows unplaced → k < length rows → place_of id ≡ Some k → is_own id (slice_index_or rows k None) ≡ true
+    → IsTaken rows (slice_set rows k None) unplaced id (option_map kept_of (slice_index_or rows k None))
+taken_at rows unplaced k id before lt is own =
     let old : Option (Id × Kept) = slice_index_or rows k None in
     let at' : AreAt 0 (slice_set rows k None) = set_from 0 k rows None before.at tt in
     let set-is : (j : Id) → here_in (items_in (slice_set rows k None)) j ≡ cond (same_id id j) None (here_in (items_in rows) j) =
     set_at rows k None id None before.at at' lt is (empty_row id old (own_free id old own)) in
     let here : here_in (items_in rows) id ≡ kept_in id old = at_place rows k id before.at is in
-    let none : here_in (items_of entries) id ≡ None = not_both (kept_in id old) (own_some id old own) here (before.apart id) in
+    let none : here_in unplaced id ≡ None = not_both (kept_in id old) (own_some id old own) here (before.apart id) in
     record {
       kept = record {
         few = omega (arith, length-set rows k None, before.few);
         at = at';
-        apart = apart_both rows (slice_set rows k None) entries entries id (λ j e. inl (set_own rows k None id None set-is j e)) (set_other rows k None id None set-is) (λ j e. refl) before.apart;
+        apart = apart_both rows (slice_set rows k None) unplaced unplaced id (λ j e. inl (set_own rows k None id None set-is j e)) (set_other rows k None id None set-is) (λ j e. refl) before.apart;
       };
-      gone = sets_both rows (slice_set rows k None) entries entries id None
-          (λ j e. ap₂ first_of (set_own rows k None id None set-is j e) (at_same (here_in (items_of entries)) id j None e none))
+      gone = sets_both rows (slice_set rows k None) unplaced unplaced id None
+          (λ j e. ap₂ first_of (set_own rows k None id None set-is j e) (at_same (here_in unplaced) id j None e none))
           (set_other rows k None id None set-is) (λ j e. refl);
       is = was-is (kept_in id old) (own_some id old own) (own_kept id old own) here;
     }
   where
-    not_both : (o : Option Kept) → is_some o ≡ true → here_in (items_in rows) id ≡ o → (here_in (items_in rows) id ≡ None) ⊎ (here_in (items_of entries) id ≡ None) → here_in (items_of entries) id ≡ None
+    not_both : (o : Option Kept) → is_some o ≡ true → here_in (items_in rows) id ≡ o → (here_in (items_in rows) id ≡ None) ⊎ (here_in unplaced id ≡ None) → here_in unplaced id ≡ None
     not_both None some e h = absurd (clash (sym some))
     not_both (Some x) some e (inl h) = absurd (none_some x (sym h ∙ e))
     not_both (Some x) some e (inr h) = h
 
-    was-is : (o : Option Kept) → is_some o ≡ true → o ≡ option_map kept_of (slice_index_or rows k None) → here_in (items_in rows) id ≡ o → here_in (items_with rows entries) id ≡ option_map kept_of (slice_index_or rows k None)
+    was-is : (o : Option Kept) → is_some o ≡ true → o ≡ option_map kept_of (slice_index_or rows k None) → here_in (items_in rows) id ≡ o → here_in (items_with rows unplaced) id ≡ option_map kept_of (slice_index_or rows k None)
     was-is None some same e = absurd (clash (sym some))
-    was-is (Some x) some same e = here_own rows entries id x e ∙ same
+    was-is (Some x) some same e = here_own rows unplaced id x e ∙ same
 
-pub takes : (rows rows' seen : List (Option (Id × Kept))) (entries : List (Key × Kept)) (k : ℕ) (id : Id)
-    → AreKept rows entries
+pub takes : (rows rows' seen : List (Option (Id × Kept))) (unplaced : List (Id × Kept)) (k : ℕ) (id : Id)
+    → AreKept rows unplaced
     → seen ≡ rows
     → k < length seen
     → place_of id ≡ Some k
     → is_own id (slice_index_or seen k None) ≡ true
     → rows' ≡ slice_set rows k None
-    → IsTaken rows rows' entries id (option_map kept_of (slice_index_or rows k None))
-takes rows rows' seen entries k id before same lt is own after =
-    subst (λ (xs : List (Option (Id × Kept))). IsTaken rows xs entries id (option_map kept_of (slice_index_or rows k None))) (sym after)
-    (taken_at rows entries k id before (subst (λ (xs : List (Option (Id × Kept))). k < length xs) same lt) is (subst (λ (xs : List (Option (Id × Kept))). is_own id (slice_index_or xs k None) ≡ true) same own))
+    → IsTaken rows rows' unplaced id (option_map kept_of (slice_index_or rows k None))
+takes rows rows' seen unplaced k id before same lt is own after =
+    subst (λ (xs : List (Option (Id × Kept))). IsTaken rows xs unplaced id (option_map kept_of (slice_index_or rows k None))) (sym after)
+    (taken_at rows unplaced k id before (subst (λ (xs : List (Option (Id × Kept))). k < length xs) same lt) is (subst (λ (xs : List (Option (Id × Kept))). is_own id (slice_index_or xs k None) ≡ true) same own))
 
 -- ---- making the places, and counting what is there
 
@@ -361,13 +360,13 @@ pub at_more : (rows : List (Option (Id × Kept))) → AreAt 0 rows → AreAt 0 (
 at_more rows at = at_more_from 0 rows at
 
 -- places with the same tokens
-pub kept_places : (rows rows' : List (Option (Id × Kept))) (entries : List (Key × Kept)) → AreKept rows entries → length rows' ≤ 384 → AreAt 0 rows' → items_in rows' ≡ items_in rows → AreKept rows' entries
-kept_places rows rows' entries before few at same = record {
+pub kept_places : (rows rows' : List (Option (Id × Kept))) (unplaced : List (Id × Kept)) → AreKept rows unplaced → length rows' ≤ 384 → AreAt 0 rows' → items_in rows' ≡ items_in rows → AreKept rows' unplaced
+kept_places rows rows' unplaced before few at same = record {
   few = few;
   at = at;
-  apart = λ j. subst (λ (items : List (Id × Kept)). (here_in items j ≡ None) ⊎ (here_in (items_of entries) j ≡ None)) (sym same) (before.apart j);
+  apart = λ j. subst (λ (items : List (Id × Kept)). (here_in items j ≡ None) ⊎ (here_in unplaced j ≡ None)) (sym same) (before.apart j);
 }
 
-pub here_others : (rows : List (Option (Id × Kept))) (entries entries' : List (Key × Kept)) → here_in (items_of entries') ≡ here_in (items_of entries) → here_in (items_with rows entries') ≡ here_in (items_with rows entries)
-here_others rows entries entries' same = fun_ext (λ (j : Id).
-    here_both (items_in rows) (items_of entries') j ∙ ap (λ (f : Id → Option Kept). first_of (here_in (items_in rows) j) (f j)) same ∙ sym (here_both (items_in rows) (items_of entries) j))
+pub here_others : (rows : List (Option (Id × Kept))) (unplaced unplaced' : List (Id × Kept)) → here_in unplaced' ≡ here_in unplaced → here_in (items_with rows unplaced') ≡ here_in (items_with rows unplaced)
+here_others rows unplaced unplaced' same = fun_ext (λ (j : Id).
+    here_both (items_in rows) unplaced' j ∙ ap (λ (f : Id → Option Kept). first_of (here_in (items_in rows) j) (f j)) same ∙ sym (here_both (items_in rows) unplaced j))

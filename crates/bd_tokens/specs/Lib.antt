@@ -2,3 +2,4 @@ pub mod Keys
 pub mod Pended
 pub mod Places
 pub mod Tokens
+pub mod Walks

@@ -4,8 +4,7 @@ use Rattle.bd_machine.specs.declared.state.Id.{Id}
 use Rattle.bd_machine.specs.declared.state.Id.TheVariants.{Request, Piece, Walk, Notice}
 use Rattle.bd_machine.specs.declared.state.Kept.{Kept}
 use Rattle.bd_machine.specs.Same.{same_id}
-use Rattle.bd_tokens.specs.declared.key.Key.{Key}
-use Rattle.bd_tokens.specs.Tokens.{here_in, items_of}
+use Rattle.bd_tokens.specs.Tokens.{here_in}
 
 -- the place of a request is another one for each of 128 of a thread in a row, that of a piece for each of 16 in a row of each of 16 threads
 abbrev pub place_of : Id → Option ℕ
@@ -48,16 +47,16 @@ abbrev pub is_own : Id → Option (Id × Kept) → Bool
 is_own id None = false
 is_own id (Some item) = same_id item.0 id
 
--- what is at the places, and then what the map has
-abbrev pub items_with : List (Option (Id × Kept)) → List (Key × Kept) → List (Id × Kept)
-items_with rows entries = items_in rows ++ items_of entries
+-- what is at the places, and then what isn't at one
+abbrev pub items_with : List (Option (Id × Kept)) → List (Id × Kept) → List (Id × Kept)
+items_with rows others = items_in rows ++ others
 
--- no token is both at its place and in the map
-abbrev pub AreApart : List (Option (Id × Kept)) → List (Key × Kept) → Type 0
-AreApart rows entries = (id : Id) → (here_in (items_in rows) id ≡ None) ⊎ (here_in (items_of entries) id ≡ None)
+-- no token is both at its place and among these others
+abbrev pub AreApart : List (Option (Id × Kept)) → List (Id × Kept) → Type 0
+AreApart rows others = (id : Id) → (here_in (items_in rows) id ≡ None) ⊎ (here_in others id ≡ None)
 
--- each token is at its place or in the map
-pub record AreKept (rows : List (Option (Id × Kept))) (entries : List (Key × Kept)) : Type 0 where
+-- each token is at its place or among the others
+pub record AreKept (rows : List (Option (Id × Kept))) (others : List (Id × Kept)) : Type 0 where
   pub few : length rows ≤ 384
   pub at : AreAt 0 rows
-  pub apart : AreApart rows entries
+  pub apart : AreApart rows others

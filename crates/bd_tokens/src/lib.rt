@@ -2,9 +2,12 @@
 #![tactic(auto)]
 
 mod key;
+pub mod law;
 mod others;
 mod pended;
 mod places;
 mod tokens;
+mod unplaced;
+mod walks;
 
 pub use tokens::Tokens;

@@ -1,4 +1,4 @@
-//! The tokens that aren't at a place: a map by their ids.
+//! The tokens that aren't at a place, and are no walks: a map by their ids.
 ghost use Rattle.std.specs.Prelude.{◌≡◌, ◌+◌, ◌<◌, ◌≤◌, option_copied, IfNone, IsOk, OnErr, OnOk, Some, None};
 ghost use Rattle.std.specs.HashMap.{spare};
 ghost use Rattle.bd_tokens.specs.Tokens.{here_in, items_of, Sets};

@@ -1,25 +1,24 @@
 //! What a thread holds of the tokens that are on it.
 ghost use Rattle.std.specs.Prelude.{◌≡◌, ◌+◌, ◌<◌, ◌≤◌, [], length, slice_index_or, option_copied, true, vec_len, IfNone, IfOk, OnOk, OnErr, IsOk, None, Some};
-ghost use Rattle.std.specs.HashMap.{spare};
+ghost use Rattle.std.specs.List.{slice_get};
 ghost use Rattle.bd_rule_effects.specs.Begun.{begun, taken, walk_moved};
 ghost use Rattle.bd_machine.specs.Alone.{held_after};
 ghost use Rattle.bd_tokens.specs.Pended.{are_own_pended, is_pended_at};
 ghost use Rattle.bd_tokens.specs.Places.{is_free, items_with, place_of, AreKept};
 ghost use Rattle.bd_tokens.specs.Tokens.{here_in, left_of, Sets};
+ghost use Rattle.bd_tokens.specs.Walks.{walks_in};
 
-use crate::key::Key;
-use crate::others::{drop_other, get_other, hold_other, take_other};
-use crate::pended::{are_others_pended, are_rows_pended, is_pended};
+use crate::pended::{are_rows_pended, is_pended};
 use crate::places::{
     Row, clear_at, count, free_place, kept_at_place, make_places, own_place, put_at, take_at,
 };
+use crate::unplaced::Unplaced;
 use bd_base::{OutOfMemory, ReqId, Setup, Token, WalkId};
 use bd_machine::{Id, Kept, OpenWalk, Part};
 use bd_parcel::Parcel;
 use bd_rule_effects::{is_at_end, progress_took, stays};
 use bd_rule_view::as_request;
 use std::alloc::Global;
-use std::collections::HashMap;
 use std::marker::Model;
 
 /// The tokens that are on a thread, seen as their ids with what is kept of each, and as how many more
@@ -31,97 +30,96 @@ pub struct Tokens {
     // parcels of tokens that were let go, for tokens to come: what is in them means nothing
     spares: Vec<Parcel>,
     // walks and notices, and tokens whose place another one has
-    map: HashMap<Key, Kept>,
+    unplaced: Unplaced,
 }
 
 impl Model for Tokens {
-    ghost use Rattle.std.specs.HashMap.{spare};
     ghost use Rattle.bd_tokens.specs.Places.{items_with, AreKept};
     ghost use Rattle.bd_tokens.specs.Tokens.{Held};
 
     ghost Value = { Held };
 
-    ghost view = { λ t. record { items = items_with t.rows.items t.map.entries; room = spare t.map } };
+    ghost view = { λ t. record { items = items_with t.rows.items t.unplaced.items; room = t.unplaced.room } };
 
-    ghost invariant = { λ t. AreKept t.rows.items t.map.entries };
+    ghost invariant = { λ t. AreKept t.rows.items t.unplaced.items };
 }
 
-// The token is at its place, where that is free, and else in the map.
+// The token is at its place, where that is free, and else it has none.
 fn hold(
     rows: &mut Vec<Row>,
     spares: &mut Vec<Parcel>,
-    map: &mut HashMap<Key, Kept>,
+    unplaced: &mut Unplaced,
     id: Id,
     kept: Kept,
 ) -> Result<(), OutOfMemory>
-    requires { AreKept rows.old.items map.old.entries }
-    ensures kept { AreKept rows.new.items map.new.entries }
-    ensures ok { OnOk result (Sets (items_with rows.old.items map.old.entries) (items_with rows.new.items map.new.entries) id (Some kept)) }
-    ensures err { OnErr result (items_with rows.new.items map.new.entries ≡ items_with rows.old.items map.old.entries) }
-    ensures room { spare map.old ≤ spare map.new + 1 }
-    ensures holds { 0 < spare map.old → IsOk result }
+    requires { AreKept rows.old.items unplaced.old.items }
+    ensures kept { AreKept rows.new.items unplaced.new.items }
+    ensures ok { OnOk result (Sets (items_with rows.old.items unplaced.old.items) (items_with rows.new.items unplaced.new.items) id (Some kept)) }
+    ensures err { OnErr result (items_with rows.new.items unplaced.new.items ≡ items_with rows.old.items unplaced.old.items) }
+    ensures room { unplaced.old.room ≤ unplaced.new.room + 1 }
+    ensures holds { 0 < unplaced.old.room → IsOk result }
 {
     match free_place(rows.as_slice(), id) {
-        Some(place) => hold_at(rows, spares, map, place, id, kept),
+        Some(place) => hold_at(rows, spares, unplaced, place, id, kept),
         None => {
-            hold_other(map, id, kept)?;
+            unplaced.hold(id, kept)?;
             Ok(())
         }
     }
 }
 
-// The token is at its place, which is free, or in the map where there is no memory for what is kept of it.
+// The token is at its place, which is free, or has none where there is no memory for what is kept of it.
 fn hold_at(
     rows: &mut Vec<Row>,
     spares: &mut Vec<Parcel>,
-    map: &mut HashMap<Key, Kept>,
+    unplaced: &mut Unplaced,
     place: usize,
     id: Id,
     kept: Kept,
 ) -> Result<(), OutOfMemory>
-    requires kept { AreKept rows.old.items map.old.entries }
+    requires kept { AreKept rows.old.items unplaced.old.items }
     requires within { place < vec_len rows.old }
     requires place { place_of id ≡ Some place }
     requires free { is_free id (slice_index_or rows.old.items place None) ≡ true }
-    ensures kept { AreKept rows.new.items map.new.entries }
-    ensures ok { OnOk result (Sets (items_with rows.old.items map.old.entries) (items_with rows.new.items map.new.entries) id (Some kept)) }
-    ensures err { OnErr result (items_with rows.new.items map.new.entries ≡ items_with rows.old.items map.old.entries) }
-    ensures room { spare map.old ≤ spare map.new + 1 }
-    ensures holds { 0 < spare map.old → IsOk result }
+    ensures kept { AreKept rows.new.items unplaced.new.items }
+    ensures ok { OnOk result (Sets (items_with rows.old.items unplaced.old.items) (items_with rows.new.items unplaced.new.items) id (Some kept)) }
+    ensures err { OnErr result (items_with rows.new.items unplaced.new.items ≡ items_with rows.old.items unplaced.old.items) }
+    ensures room { unplaced.old.room ≤ unplaced.new.room + 1 }
+    ensures holds { 0 < unplaced.old.room → IsOk result }
 {
     match put_at(rows, spares, place, id, kept) {
         Ok(()) => {
-            drop_other(map, id);
+            unplaced.let_go(id);
             Ok(())
         }
         Err(kept) => {
-            hold_other(map, id, kept)?;
+            unplaced.hold(id, kept)?;
             Ok(())
         }
     }
 }
 
-// The token that a message brought is at its place, where that is free, and else in the map.
+// The token that a message brought is at its place, where that is free, and else it has none.
 fn hold_parcel(
     rows: &mut Vec<Row>,
-    map: &mut HashMap<Key, Kept>,
+    unplaced: &mut Unplaced,
     id: Id,
     parcel: Parcel,
 ) -> Result<(), OutOfMemory>
-    requires { AreKept rows.old.items map.old.entries }
-    ensures kept { AreKept rows.new.items map.new.entries }
-    ensures ok { OnOk result (Sets (items_with rows.old.items map.old.entries) (items_with rows.new.items map.new.entries) id (Some parcel)) }
-    ensures err { OnErr result (items_with rows.new.items map.new.entries ≡ items_with rows.old.items map.old.entries) }
-    ensures room { spare map.old ≤ spare map.new + 1 }
-    ensures holds { 0 < spare map.old → IsOk result }
+    requires { AreKept rows.old.items unplaced.old.items }
+    ensures kept { AreKept rows.new.items unplaced.new.items }
+    ensures ok { OnOk result (Sets (items_with rows.old.items unplaced.old.items) (items_with rows.new.items unplaced.new.items) id (Some parcel)) }
+    ensures err { OnErr result (items_with rows.new.items unplaced.new.items ≡ items_with rows.old.items unplaced.old.items) }
+    ensures room { unplaced.old.room ≤ unplaced.new.room + 1 }
+    ensures holds { 0 < unplaced.old.room → IsOk result }
 {
     match free_place(rows.as_slice(), id) {
         Some(place) => {
-            hold_parcel_at(rows, map, place, id, parcel);
+            hold_parcel_at(rows, unplaced, place, id, parcel);
             Ok(())
         }
         None => {
-            hold_other(map, id, parcel.open())?;
+            unplaced.hold(id, parcel.open())?;
             Ok(())
         }
     }
@@ -130,20 +128,20 @@ fn hold_parcel(
 // The token is at its place, which is free.
 fn hold_parcel_at(
     rows: &mut Vec<Row>,
-    map: &mut HashMap<Key, Kept>,
+    unplaced: &mut Unplaced,
     place: usize,
     id: Id,
     parcel: Parcel,
 )
-    requires kept { AreKept rows.old.items map.old.entries }
+    requires kept { AreKept rows.old.items unplaced.old.items }
     requires within { place < vec_len rows.old }
     requires place { place_of id ≡ Some place }
     requires free { is_free id (slice_index_or rows.old.items place None) ≡ true }
-    ensures kept { AreKept rows.new.items map.new.entries }
-    ensures held { Sets (items_with rows.old.items map.old.entries) (items_with rows.new.items map.new.entries) id (Some parcel) }
-    ensures room { spare map.old ≤ spare map.new }
+    ensures kept { AreKept rows.new.items unplaced.new.items }
+    ensures held { Sets (items_with rows.old.items unplaced.old.items) (items_with rows.new.items unplaced.new.items) id (Some parcel) }
+    ensures room { unplaced.old.room ≤ unplaced.new.room }
 {
-    drop_other(map, id);
+    unplaced.let_go(id);
     rows[place] = Some((id, parcel));
 }
 
@@ -177,7 +175,7 @@ impl Tokens {
         Tokens {
             rows: Vec::new(alloc),
             spares: Vec::new(alloc),
-            map: HashMap::new(alloc),
+            unplaced: Unplaced::new(alloc),
         }
     }
 
@@ -185,7 +183,7 @@ impl Tokens {
     pub fn len(&self) -> usize
         ensures { result ≡ length self.now.items }
     {
-        count(self.rows.as_slice()) + self.map.len()
+        count(self.rows.as_slice()) + self.unplaced.len()
     }
 
     /// What is held of the token.
@@ -194,7 +192,7 @@ impl Tokens {
     {
         match kept_at_place(self.rows.as_slice(), id) {
             Some(kept) => Some(kept),
-            None => get_other(&self.map, id),
+            None => self.unplaced.get(id),
         }
     }
 
@@ -204,7 +202,7 @@ impl Tokens {
         ensures { result ≡ are_own_pended setup.now part.now me self.now.items }
     {
         are_rows_pended(self.rows.as_slice(), setup, part, me)
-            && are_others_pended(&self.map, setup, part, me)
+            && self.unplaced.are_pended(setup, part, me)
     }
 
     /// Whether the request is held, kept without an answer, and nothing stops it.
@@ -223,7 +221,7 @@ impl Tokens {
         ensures room { self.old.room ≤ self.new.room }
         ensures ok { OnOk result (n ≤ self.new.room) }
     {
-        self.map.reserve(n as usize)?;
+        self.unplaced.reserve(n)?;
         Ok(())
     }
 
@@ -236,7 +234,13 @@ impl Tokens {
         ensures holds { 0 < self.old.room → IsOk result }
     {
         make_places(&mut self.rows);
-        hold(&mut self.rows, &mut self.spares, &mut self.map, id, kept)
+        hold(
+            &mut self.rows,
+            &mut self.spares,
+            &mut self.unplaced,
+            id,
+            kept,
+        )
     }
 
     /// Takes out what is held of the token, where it is here. It takes memory only for a token that isn't at a place; out of
@@ -250,7 +254,7 @@ impl Tokens {
         match own_place(self.rows.as_slice(), id) {
             Some(place) => Ok(take_at(&mut self.rows, place)),
             None => {
-                let kept = take_other(&mut self.map, id);
+                let kept = self.unplaced.take_out(id);
                 let parcel = enclosed(*self.rows.allocator(), kept)?;
                 Ok(parcel)
             }
@@ -264,7 +268,7 @@ impl Tokens {
     {
         match own_place(self.rows.as_slice(), id) {
             Some(place) => clear_at(&mut self.rows, &mut self.spares, place),
-            None => drop_other(&mut self.map, id),
+            None => self.unplaced.let_go(id),
         }
     }
 
@@ -288,7 +292,7 @@ impl Tokens {
         let mut parcel = kept;
         receive(&mut parcel);
         make_places(&mut self.rows);
-        hold_parcel(&mut self.rows, &mut self.map, id, parcel)
+        hold_parcel(&mut self.rows, &mut self.unplaced, id, parcel)
     }
 
     /// A walk that begins is held. Out of memory, nothing changed.
@@ -315,5 +319,19 @@ impl Tokens {
         } else {
             self.hold(Id::Walk(id), Kept::Walk(walk))
         }
+    }
+
+    /// How many walks are held.
+    pub fn walk_count(&self) -> usize
+        ensures { result ≡ length (walks_in self.now.items) }
+    {
+        self.unplaced.walk_count()
+    }
+
+    /// The walk at this place of those that are held, from 0, in no order that means anything.
+    pub fn walk_at(&self, place: usize) -> Option<WalkId>
+        ensures { result ≡ slice_get (walks_in self.now.items) place }
+    {
+        self.unplaced.walk_at(place)
     }
 }

@@ -4,8 +4,8 @@ use Rattle.bd_tokens.proofs.tokens.hold_parcel_at.Goals as goal
 
 pub returns-clause-kept : goal.returns-clause-kept
 returns-clause-kept c =
-    (held_at c.args.rows.now.items c.args.map.now.entries c.drop_other.new.map.entries c.args.place c.args.id c.args.parcel c.requires.kept (omega (arith, c.requires.within)) c.requires.place c.requires.free c.drop_other.ensures.gone).kept
+    (held_at c.args.rows.now.items c.args.unplaced.now.items c.let_go.new.self.items c.args.place c.args.id c.args.parcel c.requires.kept (omega (arith, c.requires.within)) c.requires.place c.requires.free c.let_go.ensures.gone).kept
 
 pub returns-clause-held : goal.returns-clause-held
 returns-clause-held c =
-    (held_at c.args.rows.now.items c.args.map.now.entries c.drop_other.new.map.entries c.args.place c.args.id c.args.parcel c.requires.kept (omega (arith, c.requires.within)) c.requires.place c.requires.free c.drop_other.ensures.gone).held
+    (held_at c.args.rows.now.items c.args.unplaced.now.items c.let_go.new.self.items c.args.place c.args.id c.args.parcel c.requires.kept (omega (arith, c.requires.within)) c.requires.place c.requires.free c.let_go.ensures.gone).held
