@@ -1,7 +1,8 @@
-pub mod Served
+pub mod Resetting
 pub mod Completions
 pub mod Pieces
 pub mod Stopping
+pub mod Naming
 pub mod Sending
 pub mod Duties
 pub mod Following

@@ -10,7 +10,6 @@ use Rattle.bd_machine.specs.declared.state.Kept.TheVariants as keeps
 use Rattle.bd_machine.specs.declared.state.News.{News}
 use Rattle.bd_machine.specs.declared.state.News.TheVariants as news
 use Rattle.bd_machine.specs.declared.state.OpenWalk.{OpenWalk}
-use Rattle.bd_steps.specs.Served.{is_served_token}
 use Rattle.bd_machine.specs.Messages.{brings, news_of, sent}
 use Rattle.bd_machine.specs.Threads.{first_of}
 use Rattle.bd_machine.specs.Walks.{is_at_end}
@@ -54,7 +53,7 @@ abbrev pub first_due : List (List Message) → List Due → Option (ℕ × Token
 first_due queues [] = None
 first_due queues (d ∷ ds) = cond (is_full queues d.receiver) None (Some (d.receiver, token_of d.news))
 
--- the first message, where it brings the token that it names, and that is one that threads take as yet
+-- the first message, where it brings the token that it names
 abbrev pub first_brought : List Message → Option Message
 first_brought [] = None
-first_brought (m ∷ ms) = cond (is_served_token m.what && brings m.what (Some m.kept)) (Some m) None
+first_brought (m ∷ ms) = cond (brings m.what (Some m.kept)) (Some m) None

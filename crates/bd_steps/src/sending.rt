@@ -7,7 +7,6 @@ ghost use Rattle.bd_machine.specs.Messages.{sent};
 ghost use Rattle.bd_tokens.specs.Tokens.{here_in, Sets};
 ghost use Rattle.bd_steps.specs.Sending.{bound_for, first_brought, first_due, goes_on, kept_on_way, sent_off, token_of};
 
-use crate::served::is_served_token;
 use bd_base::{OutOfMemory, Token, WalkId};
 use bd_blocks::first_of;
 use bd_links::{Queue, is_full};
@@ -147,16 +146,13 @@ pub fn first_due(due: &[Due], queues: &[Queue]) -> Result<Option<(u32, Token)>, 
     }
 }
 
-/// Whether the first message to the thread brings the token that it names, and that is one that threads
-/// take.
+/// Whether the first message to the thread brings the token that it names.
 pub fn may_take(queues: &[Queue], me: usize) -> bool
     requires { me < length queues.now }
     ensures { result ≡ is_some (first_brought (queues_of queues.now me)) }
 {
     match queues[me].first() {
-        Some(message) => {
-            is_served_token(&message.what) && brings(&message.what, Some(message.kept.get()))
-        }
+        Some(message) => brings(&message.what, Some(message.kept.get())),
         None => false,
     }
 }

@@ -33,6 +33,7 @@ use Rattle.bd_thread.proofs.Going.{Steps, steps, still_shut}
 use Rattle.bd_thread.proofs.Submissions.{acted_into}
 use Rattle.bd_thread.proofs.Tickets.{same_tickets}
 use Rattle.bd_thread.proofs.Walking.{hold_all, none_is}
+use Rattle.bd_thread.proofs.Timing.{untimed}
 
 -- ---- the request that may be aborted
 
@@ -74,6 +75,7 @@ aborted_acted old before new after req cause r due is =
     acted_into old before new after (acts.Abort req cause) (untaken (stopped old.setup.now old.part req (Some r))) _
     (ap (λ (t : Thread). t.me) is.thread) (ap (λ (t : Thread). t.setup) is.thread) (ap (λ (t : Thread). t.part) is.thread) is.held is.links
     (abort_steps old.setup.now old.me old.part (here_in old.held.items) before.registry.state before.shut (length before.entries) (queues_of before.queues.items) req cause r may.here may.passes) refl
+    (untimed (acts.Abort req cause) old new refl (ap (λ (t : Thread). t.time) is.thread))
 
 -- its open requests and their tickets stay
 departed_requests : (part : Part) (req : ReqId) (o : Option DevId) → (departed part req o).requests ≡ part.requests

@@ -14,7 +14,7 @@ use Rattle.bd_base.specs.declared.id.HandleId.{HandleId}
 use Rattle.bd_base.specs.declared.id.ReqId.{ReqId}
 use Rattle.bd_base.specs.declared.id.WalkId.{WalkId}
 use Rattle.bd_base.specs.declared.request.AbortCause.{AbortCause}
-use Rattle.bd_base.specs.declared.request.AbortCause.TheVariants.{Removed}
+use Rattle.bd_base.specs.declared.request.AbortCause.TheVariants.{Frozen, Removed}
 use Rattle.bd_base.specs.declared.request.Errno.{Errno}
 use Rattle.bd_base.specs.declared.request.WalkKind.{WalkKind}
 use Rattle.bd_base.specs.declared.request.WalkKind.TheVariants as kinds
@@ -106,12 +106,12 @@ acted_alone o a n c g h = record {
 keeps_registry : (o : Thread) (a : Links) (n : Thread) (c : Links) → KeepsRequests o a n c → c.registry ≡ a.registry
 keeps_registry o a n c keeps = ap (λ (l : Links). l.registry) keeps.links
 
-pub takes_alone : (o : Thread) (a : Links) (n : Thread) (c : Links) (id : Option Id) → KeepsRequests o a n c → Takes o a n c id → AsksNothing a c
-takes_alone o a n c id keeps h = go (first_brought (queues_of a.queues.items o.me)) h
+pub takes_alone : (o : Thread) (a : Links) (n : Thread) (c : Links) (id : Option Id) → Takes o a n c id → AsksNothing a c
+takes_alone o a n c id h = go (first_brought (queues_of a.queues.items o.me)) h
   where
     go : (m : Option Message) → TakesBy o a n c id m → AsksNothing a c
     go None k = alone_same a c k.2
-    go (Some m) k = alone_one o.me a c (acts.Took m.sender (count_at o.part.taken m.sender) m.what) refl (keeps_registry o a n c keeps) k.1
+    go (Some m) k = alone_one o.me a c (acts.Took m.sender (count_at o.part.taken m.sender) m.what) refl (ap (λ (l : Links). l.registry) k.1.links) (ap (λ (l : Links). l.entries) k.1.links)
 
 pub puts_alone : (o : Thread) (a : Links) (n : Thread) (c : Links) (to : ℕ) (what : Token) (put : Bool) → KeepsRequests o a n c → Puts o a n c to what put → AsksNothing a c
 puts_alone o a n c to what put keeps h = go (may_put o a to what) h
@@ -159,11 +159,11 @@ each_alone (x ∷ xs) cause o a n c h = alone_then a h.shared c (stops_alone x c
 
 for_alone : (kind : WalkKind) (dev : DevId) (o : Thread) (a : Links) (n : Thread) (c : Links) → StopsFor kind dev o a n c → AsksNothing a c
 for_alone kinds.Removal dev o a n c h = each_alone (stoppable o.part) (Removed dev) o a n c h
-for_alone kinds.Freeze dev o a n c h = alone_same a c h.1
+for_alone kinds.Freeze dev o a n c h = each_alone (stoppable o.part) (Frozen dev) o a n c h
 for_alone kinds.Drain dev o a n c h = alone_same a c h.1
 for_alone kinds.Thaw dev o a n c h = alone_same a c h.1
 
-visits_alone : (walk : WalkId) (o : Thread) (a : Links) (n : Thread) (c : Links) (made : Bool) → Visits walk o a n c made → AsksNothing a c
+pub visits_alone : (walk : WalkId) (o : Thread) (a : Links) (n : Thread) (c : Links) (made : Bool) → Visits walk o a n c made → AsksNothing a c
 visits_alone walk o a n c made h = go (visit_due o a walk) h
   where
     go : (w : Option OpenWalk) → VisitsBy walk o a n c made w → AsksNothing a c
@@ -202,7 +202,7 @@ came_alone req k o a n c (Some p) h = by_progress p.progress h
 -- what a token brings about
 pub comes_alone : (id : Id) (o : Thread) (a : Links) (n : Thread) (c : Links) → Comes id o a n c → AsksNothing a c
 comes_alone (ids.Piece req k) o a n c h = came_alone req k o a n c (as_piece (here_in o.held.items (ids.Piece req k))) h
-comes_alone (ids.Walk walk) o a n c h = visits_alone walk o a n c h.made h.visits
+comes_alone (ids.Walk walk) o a n c h = visits_alone walk o a h.middle c h.made h.visits
 comes_alone (ids.Request req) o a n c h = h
 comes_alone (ids.Notice sender receiver number) o a n c h = alone_same a c h.1
 

@@ -17,7 +17,8 @@ use Rattle.bd_machine.specs.Requests.{may_cut}
 use Rattle.bd_thread.specs.declared.links.Links.{Links}
 use Rattle.bd_thread.specs.declared.thread.Thread.{Thread}
 use Rattle.bd_thread.specs.Acted.{Acted}
-use Rattle.bd_thread.specs.Injections.{asks_decision, is_inject, next_found, Finds, FindsBelow, NoneAsksBelow}
+use Rattle.bd_thread.specs.Calls.{asks_next, next_found, Finds, FindsBelow, NoneAsksBelow}
+use Rattle.bd_thread.specs.Injections.{is_inject}
 use Rattle.bd_thread.specs.Waits.{is_taken_alone, Idles, IsIdle, NoStep, NoStepBelow, NoStepOf, StandsBelow, StandsBut, StandsOf}
 use Rattle.bd_thread.specs.Aborts.{abort_due}
 use Rattle.bd_thread.specs.Cuts.{may_cut_now}
@@ -121,7 +122,7 @@ taken_asks_none steps.Hold may h = refl
 taken_asks_none (steps.Complete status) may h = refl
 taken_asks_none steps.Wait may h = refl
 
--- ---- which waits for a decision
+-- ---- which asks the registry next
 
 -- the one at this place can't be carried on either, and is found where it is the first that asks
 pub stands_below : (place : ℕ) (r : Open) (asks : Bool) (found next : Option ReqId) (o : Thread) (a : Links) (m : Thread) (b : Links) (n : Thread) (c : Links)
@@ -138,21 +139,21 @@ stands_below place r asks found next o a m b n c g h at next_is f s few =
     let none : IsIdle (NoStepBelow (place + 1)) o a n c =
     steps_below place r o a m b n c g h at (λ less. let i = f less in record { thread = i.thread; links = i.links; waits = i.waits.none }) (λ less. let i = s less in record { thread = i.thread; links = i.links; waits = i.waits.none }) few in
     let here : slice_get o.part.requests place ≡ Some r = subst (λ (t : Thread). slice_get t.part.requests place ≡ Some r) first.thread at in
-    let asks_is : asks ≡ asks_decision o a r.id = subst (λ (t : Thread). asks ≡ asks_decision t a r.id) first.thread (subst (λ (l : Links). asks ≡ asks_decision m l r.id) first.links second.waits.asks_is) in
+    let asks_is : asks ≡ asks_next o a r.id = subst (λ (t : Thread). asks ≡ asks_next t a r.id) first.thread (subst (λ (l : Links). asks ≡ asks_next m l r.id) first.links second.waits.asks_is) in
     record {
       thread = none.thread;
       links = none.links;
       waits = record { none = none.waits; finds = subst (λ (x : Option ReqId). FindsBelow (place + 1) x o a) next_is (finds_next asks found here asks_is first.waits.finds) };
     }
   where
-    below_next : slice_get o.part.requests place ≡ Some r → asks_decision o a r.id ≡ false → NoneAsksBelow place o a → (i : ℕ) (x : Open) → i < place + 1 → slice_get o.part.requests i ≡ Some x → (i < place) ⊎ (place ≤ i) → asks_decision o a x.id ≡ false
+    below_next : slice_get o.part.requests place ≡ Some r → asks_next o a r.id ≡ false → NoneAsksBelow place o a → (i : ℕ) (x : Open) → i < place + 1 → slice_get o.part.requests i ≡ Some x → (i < place) ⊎ (place ≤ i) → asks_next o a x.id ≡ false
     below_next here one below i x less found (inl lower) = below i x lower found
     below_next here one below i x less found (inr upper) =
         let same : i ≡ place = omega (arith, less, upper) in
         let is : r ≡ x = same_Some r x (sym here ∙ subst (λ (k : ℕ). slice_get o.part.requests k ≡ Some x) same found) in
-        subst (λ (y : Open). asks_decision o a y.id ≡ false) is one
+        subst (λ (y : Open). asks_next o a y.id ≡ false) is one
 
-    finds_next : (b : Bool) (x : Option ReqId) → slice_get o.part.requests place ≡ Some r → b ≡ asks_decision o a r.id → FindsBelow place x o a → FindsBelow (place + 1) (next_found b r.id x) o a
+    finds_next : (b : Bool) (x : Option ReqId) → slice_get o.part.requests place ≡ Some r → b ≡ asks_next o a r.id → FindsBelow place x o a → FindsBelow (place + 1) (next_found b r.id x) o a
     finds_next b (Some x) here is finds = finds
     finds_next true None here is finds = sym is
     finds_next false None here is finds = λ i x less found. below_next here (sym is) finds i x less found (cases_lt i place)

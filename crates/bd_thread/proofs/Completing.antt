@@ -30,6 +30,7 @@ use Rattle.bd_thread.specs.Completions.{completed, Completes, CompletesBy, IsCom
 use Rattle.bd_thread.specs.Seen.{local_at, view_of}
 use Rattle.bd_thread.proofs.Going.{Steps, steps, still_shut}
 use Rattle.bd_thread.proofs.Submissions.{acted_into}
+use Rattle.bd_thread.proofs.Timing.{untimed}
 
 -- ---- the step
 
@@ -66,6 +67,7 @@ completed_acted old before new after req ending may done =
     acted_into old before new after (acts.Complete req ending.status done.shown) (completed req old.part) (ended req ending.pieces (here_in old.held.items))
     (ap (λ (t : Thread). t.me) done.thread) (ap (λ (t : Thread). t.setup) done.thread) done.part done.held done.links
     (complete_steps old.setup.now old.me old.part (here_in old.held.items) before.registry.state before.shut (length before.entries) (queues_of before.queues.items) req ending done.shown (ends_now old.setup.now old.me (view_of old before) req ending may) done.shows) refl
+    (untimed (acts.Complete req ending.status done.shown) old new refl (ap (λ (t : Thread). t.time) done.thread))
 
 -- where it doesn't complete, nothing changes
 pub stays_open : (old : Thread) (before : Links) (req : ReqId) → ending_of old.setup.now old.me (view_of old before) req ≡ None → Completes req old before old before false

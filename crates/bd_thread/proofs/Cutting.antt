@@ -25,6 +25,7 @@ use Rattle.bd_thread.specs.Cuts.{may_cut_now, Cuts, CutsBy, IsCut}
 use Rattle.bd_thread.specs.Seen.{local_at, untaken, view_of}
 use Rattle.bd_thread.proofs.Going.{Steps, steps, still_shut}
 use Rattle.bd_thread.proofs.Submissions.{acted_into}
+use Rattle.bd_thread.proofs.Timing.{untimed}
 
 -- the request by how many pieces it has, and then its pieces
 pub cut_held : (setup : Setup) (req : ReqId) (r : OpenRequest) (n : ℕ) (found : List Extent) (old cut new : List (Id × Kept))
@@ -58,6 +59,7 @@ cut_acted old before new after req r n is may cut =
     acted_into old before new after (acts.Cut req n) (untaken old.part) (held_after (cut_into old.setup.now req n (Some r)) (here_in old.held.items))
     (ap (λ (t : Thread). t.me) cut.thread) (ap (λ (t : Thread). t.setup) cut.thread) (ap (λ (t : Thread). t.part) cut.thread) cut.held cut.links
     (cut_steps old.setup.now old.me old.part (here_in old.held.items) before.registry.state before.shut (length before.entries) (queues_of before.queues.items) req r n is may cut.pieces) refl
+    (untimed (acts.Cut req n) old new refl (ap (λ (t : Thread). t.time) cut.thread))
 
 -- where it may not be cut, nothing changes
 pub uncut_stays : (old : Thread) (before : Links) (req : ReqId) → may_cut_now req old before ≡ false → Cuts req old before old before 0

@@ -49,6 +49,7 @@ use Rattle.bd_thread.proofs.Idle.{completion_idle, may_grow, more}
 use Rattle.bd_thread.proofs.Submissions.{acted_into}
 use Rattle.bd_thread.proofs.Tickets.{same_tickets}
 use Rattle.bd_thread.proofs.Walking.{hold_all, none_is}
+use Rattle.bd_thread.proofs.Timing.{time_stays, untimed}
 
 -- ---- a hold
 
@@ -158,6 +159,7 @@ held_acted old before new after req r until due is =
     acted_into old before new after (acts.Hold req until) _ _
     (ap (λ (t : Thread). t.me) is.thread) (ap (λ (t : Thread). t.setup) is.thread) (ap (λ (t : Thread). t.part) is.thread) is.held is.links
     (hold_steps old.setup.now old.me old.part (here_in old.held.items) before.registry.state before.shut (length before.entries) (queues_of before.queues.items) req until r may.here may.passes) refl
+    (untimed (acts.Hold req until) old new refl (ap (λ (t : Thread). t.time) is.thread))
 
 pub held_tickets : (old : Thread) (before : Links) (new : Thread) (after : Links) (req : ReqId) (r : OpenRequest) (until : ℕ)
     → IsHeld req r until old before new after
@@ -205,6 +207,7 @@ released_acted old before new after req r due is =
     acted_into old before new after (acts.Release req old.time.moment) _ _
     (ap (λ (t : Thread). t.me) is.thread) (ap (λ (t : Thread). t.setup) is.thread) (ap (λ (t : Thread). t.part) is.thread) is.held is.links
     (release_steps old.setup.now old.me old.part (here_in old.held.items) before.registry.state before.shut (length before.entries) (queues_of before.queues.items) req old.time.moment r may.here may.passes) refl
+    (record { time = time_stays old.time new.time (ap (λ (t : Thread). t.time) is.thread); named = refl; fits = λ dev. tt })
 
 pub released_tickets : (old : Thread) (before : Links) (new : Thread) (after : Links) (req : ReqId) (r : OpenRequest)
     → IsReleased req r old before new after

@@ -33,6 +33,8 @@ use Rattle.bd_thread.specs.declared.links.Links.{Links}
 use Rattle.bd_thread.specs.declared.thread.Thread.{Thread}
 use Rattle.bd_thread.specs.Acted.{ActedBy, AreOf}
 use Rattle.bd_thread.specs.Seen.{local_at, local}
+use Rattle.bd_thread.specs.Timely.{slices_at, IsTimely}
+use Rattle.bd_thread.proofs.Timing.{timely_none, timely_one, timely_then}
 
 -- ---- what a thread sees and what is shared, by its parts
 
@@ -125,8 +127,9 @@ pub acted_still : {may : Setup → Act → Bool} (old : Thread) (before : Links)
     → after.registry.setup ≡ before.registry.setup
     → after.entries ≡ before.entries
     → local old before ≡ local new after
+    → new.time ≡ old.time
     → ActedBy may old before new after
-acted_still old before new after me setup queues rows added same = record {
+acted_still old before new after me setup queues rows added same time = record {
   me = me;
   setup = setup;
   queues = queues;
@@ -135,10 +138,11 @@ acted_still old before new after me setup queues rows added same = record {
   added = added ∙ sym (append-nil before.entries);
   acts = tt;
   leads = same;
+  timely = timely_none old new time (λ dev. ap (λ (l : Local). slices_at l.view.part dev) (sym same));
 }
 
 pub acted_none : {may : Setup → Act → Bool} (t : Thread) (links : Links) → ActedBy may t links t links
-acted_none t links = acted_still t links t links refl refl refl refl refl refl
+acted_none t links = acted_still t links t links refl refl refl refl refl refl refl
 
 pub acted_then : {may : Setup → Act → Bool} (o : Thread) (a : Links) (m : Thread) (b : Links) (n : Thread) (c : Links) → ActedBy may o a m b → ActedBy may m b n c → ActedBy may o a n c
 acted_then {may} o a m b n c g h =
@@ -154,6 +158,7 @@ acted_then {may} o a m b n c g h =
       leads = leads_on o.setup.now o.me (local o a) (local m b) (local n c) g.entries h.entries g.leads
           (subst (λ (t : ℕ). Leads o.setup.now t (local m b) h.entries (local n c)) g.me
           (subst (λ (s : Setup). Leads s m.me (local m b) h.entries (local n c)) setup-is h.leads));
+      timely = timely_then g.entries h.entries o m n g.timely h.timely;
     }
 
 pub acted_one : {may : Setup → Act → Bool} (old : Thread) (before : Links) (new : Thread) (after : Links) (act : Act)
@@ -166,8 +171,9 @@ pub acted_one : {may : Setup → Act → Bool} (old : Thread) (before : Links) (
     → refusal_local old.setup.now old.me (local old before) (entry_at old.me (length before.entries + 1) act) ≡ None
     → local_after old.setup.now old.me (local old before) (entry_at old.me (length before.entries + 1) act) ≡ local new after
     → may old.setup.now act ≡ true
+    → IsTimely act old new
     → ActedBy may old before new after
-acted_one old before new after act me setup queues rows added still allowed leads own = record {
+acted_one old before new after act me setup queues rows added still allowed leads own timely = record {
   me = me;
   setup = setup;
   queues = queues;
@@ -176,6 +182,7 @@ acted_one old before new after act me setup queues rows added still allowed lead
   added = added;
   acts = (own, tt);
   leads = (refl, still, allowed, leads);
+  timely = timely_one old new old.setup.now old.me (local old before) (local new after) (entry_at old.me (length before.entries + 1) act) refl refl allowed leads timely;
 }
 
 pub acted_step : {may : Setup → Act → Bool} (old : Thread) (before : Links) (new : Thread) (after : Links) (act : Act)
@@ -186,8 +193,9 @@ pub acted_step : {may : Setup → Act → Bool} (old : Thread) (before : Links) 
     → after.entries ≡ longer old.me before.entries act
     → Steps old.setup.now old.me (local old before) act (local new after)
     → may old.setup.now act ≡ true
+    → IsTimely act old new
     → ActedBy may old before new after
-acted_step old before new after act me setup queues rows added h own = acted_one old before new after act me setup queues rows added h.still h.allowed h.leads own
+acted_step old before new after act me setup queues rows added h own timely = acted_one old before new after act me setup queues rows added h.still h.allowed h.leads own timely
 
 -- by what the act leaves, part by part
 pub acted_by : {may : Setup → Act → Bool} (old : Thread) (before : Links) (new : Thread) (after : Links) (act : Act)
@@ -198,11 +206,12 @@ pub acted_by : {may : Setup → Act → Bool} (old : Thread) (before : Links) (n
     → after.entries ≡ longer old.me before.entries act
     → Steps old.setup.now old.me (local old before) act (local_at old.me new.part (here_in new.held.items) after.registry.state after.shut (length before.entries + 1) (queues_of after.queues.items))
     → may old.setup.now act ≡ true
+    → IsTimely act old new
     → ActedBy may old before new after
-acted_by old before new after act me setup queues rows added h own =
+acted_by old before new after act me setup queues rows added h own timely =
     let at : ℕ → ℕ → Local = λ t n. local_at t new.part (here_in new.held.items) after.registry.state after.shut n (queues_of after.queues.items) in
     let stamp : length before.entries + 1 ≡ length after.entries = sym (length-longer old.me before.entries act) ∙ sym (ap length added) in
-    acted_one old before new after act me setup queues rows added h.still h.allowed (h.leads ∙ ap (at old.me) stamp ∙ ap (λ t. at t (length after.entries)) (sym me)) own
+    acted_one old before new after act me setup queues rows added h.still h.allowed (h.leads ∙ ap (at old.me) stamp ∙ ap (λ t. at t (length after.entries)) (sym me)) own timely
 
 -- what is said of the thread and the links as an act leaves them
 pub carried : (P : Thread → Links → Type 0) (new : Thread) (after : Links) (n : Thread) (l : Links) → n ≡ new → l ≡ after → P new after → P n l

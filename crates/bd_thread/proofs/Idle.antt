@@ -11,7 +11,7 @@ use Rattle.bd_base.specs.declared.event.RegEvent.TheVariants as events
 use Rattle.bd_base.specs.declared.id.DevId.{DevId}
 use Rattle.bd_base.specs.declared.id.ReqId.{ReqId}
 use Rattle.bd_base.specs.declared.request.AbortCause.{AbortCause}
-use Rattle.bd_base.specs.declared.request.AbortCause.TheVariants.{Removed}
+use Rattle.bd_base.specs.declared.request.AbortCause.TheVariants.{Frozen, Removed}
 use Rattle.bd_base.specs.declared.request.WalkKind.{WalkKind}
 use Rattle.bd_base.specs.declared.request.WalkKind.TheVariants as kinds
 use Rattle.bd_machine.specs.declared.state.Between.{Between}
@@ -106,7 +106,7 @@ takes_idle old before new after id h few = go (first_brought (queues_of before.q
   where
     go : (o : Option Message) → first_brought (queues_of before.queues.items old.me) ≡ o → TakesBy old before new after id o → IsIdle NoMessage old before new after
     go None e k = record { thread = k.1; links = k.2; waits = e }
-    go (Some m) e k = absurd (more old.me before after (acts.Took m.sender (count_at old.part.taken m.sender) m.what) k.1 few)
+    go (Some m) e k = absurd (more old.me before after (acts.Took m.sender (count_at old.part.taken m.sender) m.what) (ap (λ (l : Links). l.entries) k.1.links) few)
 
 -- a message was taken, and then what its token brings about
 pub received_more : (o : Thread) (a : Links) (m : Thread) (b : Links) (n : Thread) (c : Links) (id : Id) → Takes o a m b (Some id) → Acted m b n c → length c.entries ≤ length a.entries → ⊥
@@ -117,7 +117,7 @@ received_more o a m b n c id h acted few = go (first_brought (queues_of a.queues
 
     go : (x : Option Message) → TakesBy o a m b (Some id) x → ⊥
     go None k = none_taken k.0
-    go (Some x) k = more_then o.me a b (acts.Took x.sender (count_at o.part.taken x.sender) x.what) m n c k.1 acted few
+    go (Some x) k = more_then o.me a b (acts.Took x.sender (count_at o.part.taken x.sender) x.what) m n c (ap (λ (l : Links). l.entries) k.1.links) acted few
 
 -- a request that may be cut is cut
 pub cuts_more : (req : ReqId) (old : Thread) (before : Links) (new : Thread) (after : Links) (n : ℕ) → may_cut_now req old before ≡ true → Cuts req old before new after n → length after.entries ≤ length before.entries → ⊥
@@ -180,13 +180,13 @@ each_grows : (reqs : List ReqId) (cause : AbortCause) (old : Thread) (before : L
 each_grows [] cause old before new after h = same_grows before after h.1
 each_grows (req ∷ reqs) cause old before new after h = omega (arith, stop_grows req cause old before h.middle h.shared h.first, each_grows reqs cause h.middle h.shared new after h.second)
 
-for_grows : (kind : WalkKind) (dev : DevId) (old : Thread) (before : Links) (new : Thread) (after : Links) → StopsFor kind dev old before new after → length before.entries ≤ length after.entries
+pub for_grows : (kind : WalkKind) (dev : DevId) (old : Thread) (before : Links) (new : Thread) (after : Links) → StopsFor kind dev old before new after → length before.entries ≤ length after.entries
 for_grows kinds.Removal dev old before new after h = each_grows (stoppable old.part) (Removed dev) old before new after h
-for_grows kinds.Freeze dev old before new after h = same_grows before after h.1
+for_grows kinds.Freeze dev old before new after h = each_grows (stoppable old.part) (Frozen dev) old before new after h
 for_grows kinds.Drain dev old before new after h = same_grows before after h.1
 for_grows kinds.Thaw dev old before new after h = same_grows before after h.1
 
-asks_idle : {P : Thread → Links → Type 0} (old : Thread) (before : Links) (new : Thread) (after : Links) (asked : Bool) (o : Option RegEvent) → (o ≡ None → P old before) → AsksBy old before new after asked o → Idles P old before new after
+pub asks_idle : {P : Thread → Links → Type 0} (old : Thread) (before : Links) (new : Thread) (after : Links) (asked : Bool) (o : Option RegEvent) → (o ≡ None → P old before) → AsksBy old before new after asked o → Idles P old before new after
 asks_idle old before new after asked None so h few = record { thread = h.1; links = h.2; waits = so refl }
 asks_idle old before new after asked (Some event) so h few = absurd (more old.me before after (acts.Reg event h.1.answer) (ap (λ (l : Links). l.entries) h.1.links) few)
 

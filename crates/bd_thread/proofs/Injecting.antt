@@ -42,7 +42,7 @@ use Rattle.bd_tokens.specs.Tokens.{here_in}
 use Rattle.bd_thread.specs.declared.links.Links.{Links}
 use Rattle.bd_thread.specs.declared.thread.Thread.{Thread}
 use Rattle.bd_thread.specs.Acted.{Acted}
-use Rattle.bd_thread.specs.Injections.{asked_of, asks_decision, decided_registry, decision_asked, decision_of, is_inject, may_pend_now, pend_due, DecidedBy, Decides, DecidesBy, Finds, IsDecided, IsPended, IsUndecided, NoDecision, NoDecisionOf, Pends, PendsBy, StandsAsked, TakesDecision}
+use Rattle.bd_thread.specs.Injections.{asked_of, asks_decision, decided_registry, decision_asked, decision_of, is_inject, may_pend_now, pend_due, DecidedBy, Decides, DecidesBy, IsDecided, IsPended, IsUndecided, NoDecisionOf, Pends, PendsBy, TakesDecision}
 use Rattle.bd_thread.specs.Lines.{may_ask, may_ask_after}
 use Rattle.bd_thread.specs.Requests.{KeepsTickets}
 use Rattle.bd_thread.specs.Seen.{local, local_at, untaken, view_of}
@@ -56,6 +56,7 @@ use Rattle.bd_thread.proofs.Registering.{answer_self, asked_local}
 use Rattle.bd_thread.proofs.Submissions.{acted_into}
 use Rattle.bd_thread.proofs.Tickets.{same_tickets}
 use Rattle.bd_thread.proofs.Walking.{hold_all, none_is}
+use Rattle.bd_thread.proofs.Timing.{untimed}
 
 -- ---- the local rules
 
@@ -148,16 +149,17 @@ asked_into : (t : Thread) (before : Links) (new : Thread) (after : Links) (req :
     → new.me ≡ t.me
     → new.setup ≡ t.setup
     → after ≡ decided_registry t before req dev r answer
+    → new.time ≡ t.time
     → Steps t.setup.now t.me (local t before) (acts.Reg (asked_of req dev r) answer)
     (local_at t.me new.part (here_in new.held.items) (registry_after t.setup.now before.registry.state t.me (Some (record { event = asked_of req dev r; answer = answer }))) before.shut (length before.entries + 1) (queues_of before.queues.items))
     → Acted t before new after
-asked_into t before new after req dev r answer me setup links stepped =
+asked_into t before new after req dev r answer me setup links time stepped =
     let act : Act = acts.Reg (asked_of req dev r) answer in
     let q : Links = decided_registry t before req dev r answer in
     let at : ℕ → ℕ → Local = λ n m. local_at m new.part (here_in new.held.items) q.registry.state before.shut n (queues_of before.queues.items) in
     let ends : at (length before.entries + 1) t.me ≡ local new q = ap (λ n. at n t.me) (sym (length-longer t.me before.entries act)) ∙ ap (at (length q.entries)) (sym me) in
     subst (λ (l : Links). Acted t before new l) (sym links)
-    (acted_step t before new q act me setup refl refl refl (subst (Steps t.setup.now t.me (local t before) act) ends stepped) refl)
+    (acted_step t before new q act me setup refl refl refl (subst (Steps t.setup.now t.me (local t before) act) ends stepped) refl (untimed act t new refl time))
 
 -- what is written twice at an id is what was written last
 abbrev written : Id → Option Kept → (Id → Option Kept) → Id → Option Kept
@@ -184,7 +186,7 @@ decided_acted old before new after req dev r decision here asks given is =
     let middle : Thread = record old { part = record old.part { injection = Some (taken req dev decision) }; held = record { items = (ids.Request req, keeps.Request asked) ∷ old.held.items; room = 0 } } in
     let shared : Links = decided_registry old before req dev r answer in
     let first : Acted old before middle shared =
-    asked_into old before middle shared req dev r answer refl refl refl
+    asked_into old before middle shared req dev r answer refl refl refl refl
     (told_steps old.setup.now old.me old.part here_is before.registry.state before.shut (length before.entries) queues req dev r decision here given asks) in
     let second : Acted middle shared new after =
     acted_into middle shared new after (acts.Inject req dev decision) (untaken middle.part) _
@@ -192,7 +194,8 @@ decided_acted old before new after req dev r decision here asks given is =
     (is.held ∙ sym (twice (ids.Request req) (Some (keeps.Request asked)) (Some (keeps.Request (injected decision asked))) here_is))
     is.links
     (inject_steps middle.setup.now middle.me middle.part (here_in middle.held.items) shared.registry.state shared.shut (length shared.entries) queues req dev decision asked
-    (found req asked here_is) refl) refl in
+    (found req asked here_is) refl) refl
+    (untimed (acts.Inject req dev decision) middle new refl (ap (λ (t : Thread). t.time) is.thread)) in
     acted_then old before middle shared new after first second
   where
     found : (req : ReqId) (x : OpenRequest) (here : Id → Option Kept) → as_request (cond (same_id (ids.Request req) (ids.Request req)) (Some (keeps.Request x)) (here (ids.Request req))) ≡ Some x
@@ -207,7 +210,7 @@ pub undecided_acted : (old : Thread) (before : Links) (new : Thread) (after : Li
 undecided_acted old before new after req dev r answer other asks given is =
     let p : Thread = record old { part = untaken old.part } in
     subst (λ (t : Thread). Acted old before t after) (sym is.thread)
-    (asked_into old before p after req dev r answer refl refl is.links
+    (asked_into old before p after req dev r answer refl refl is.links refl
     (refused_steps old.setup.now old.me old.part (here_in old.held.items) before.registry.state before.shut (length before.entries) (queues_of before.queues.items) req dev r answer other given asks))
 
 pub decided_tickets : (old : Thread) (before : Links) (new : Thread) (after : Links) (req : ReqId) (dev : DevId) (r : OpenRequest) (decision : Decision)
@@ -385,6 +388,7 @@ pended_acted old before new after req r due is =
     acted_into old before new after (acts.Pend req) _ _
     (ap (λ (t : Thread). t.me) is.thread) (ap (λ (t : Thread). t.setup) is.thread) (ap (λ (t : Thread). t.part) is.thread) is.held is.links
     (pend_steps old.setup.now old.me old.part (here_in old.held.items) before.registry.state before.shut (length before.entries) (queues_of before.queues.items) req r may.here may.passes) refl
+    (untimed (acts.Pend req) old new refl (ap (λ (t : Thread). t.time) is.thread))
 
 pub pended_tickets : (old : Thread) (before : Links) (new : Thread) (after : Links) (req : ReqId) (r : OpenRequest)
     → IsPended req r old before new after
@@ -457,8 +461,3 @@ decision_free req t links free asks none = go (next_step t.setup.now t.me (view_
     go (steps_of.Limit d) o is h k = cc
     go steps_of.Pend o is h k = cc
     go steps_of.Wait o is h k = cc
-
--- what was found and can't be taken
-pub stands_undecided : (found : Option ReqId) (t : Thread) (links : Links) → Finds found t links → StandsAsked found t links → NoDecision t links
-stands_undecided None t links finds stands = λ free. finds
-stands_undecided (Some req) t links finds stands = λ free. absurd (decision_free req t links free finds stands)

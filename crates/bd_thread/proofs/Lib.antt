@@ -1,12 +1,15 @@
 pub mod Completing
 pub mod Delaying
 pub mod Injecting
+pub mod Calling
 pub mod Limiting
 pub mod Cutting
 pub mod Submissions
 pub mod Tickets
 pub mod Put
 pub mod Took
+pub mod Timing
+pub mod OnTime
 pub mod Going
 pub mod Left
 pub mod Ends
@@ -20,6 +23,8 @@ pub mod Carried
 pub mod Waiting
 pub mod Walking
 pub mod Aborting
+pub mod Naming
+pub mod Begun
 pub mod Refusing
 pub mod Retrying
 pub mod Alone

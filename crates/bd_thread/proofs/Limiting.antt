@@ -1,6 +1,6 @@
 -- Tick and Let, by the local rules; and what a thread waits for with the lines of its limited devices.
-use Rattle.std.proofs.Common.{◌≡◌, ◌⊎◌, inl, inr, ℕ, zero, suc, ◌+◌, ◌<◌, ◌≤◌, Bool, true, false, cond, not, ◌&&◌, ◌||◌, ◌==◌, nat_lt, vec_len, List, [], ◌∷◌, length, is_none, is_some, slice_get, Option, Some, None, refl, sym, ◌∙◌, ap, ap₂, subst, eqb-true, arith}
-use Rattle.std.proofs.lemmas.Bool.{cases_lt}
+use Rattle.std.proofs.Common.{◌≡◌, ◌⊎◌, inl, inr, ℕ, zero, suc, ◌+◌, ◌<◌, ◌≤◌, Bool, true, false, cond, not, ◌&&◌, ◌||◌, ◌==◌, nat_lt, vec_len, List, [], ◌∷◌, length, is_none, is_some, slice_get, Option, Some, None, refl, sym, ◌∙◌, ap, ap₂, subst, eqb-true, ltb-true, nat_le, arith}
+use Rattle.std.proofs.lemmas.Bool.{and_parts, cases_lt}
 use Rattle.std.proofs.lemmas.Option.{same_Some, slice_get_within}
 use Rattle.bd_base.specs.declared.act.Act.TheVariants as acts
 use Rattle.bd_base.specs.declared.act.Token.{Token}
@@ -22,10 +22,11 @@ use Rattle.bd_machine.specs.declared.state.Part.{Part}
 use Rattle.bd_machine.specs.declared.state.Registry.{Registry}
 use Rattle.bd_machine.specs.Alone.{held_after}
 use Rattle.bd_machine.specs.BlockMap.{home}
+use Rattle.bd_machine.specs.Budget.{may_have_passed}
+use Rattle.bd_machine.proofs.Acts.{passed as passed_guards}
 use Rattle.bd_machine.specs.Messages.{may_go}
-use Rattle.bd_steps.specs.Served.{is_served_token}
 use Rattle.bd_machine.specs.Kept.{as_request, edited, request_here}
-use Rattle.bd_machine.specs.Limits.{bytes_if_any, charged_by_way, guards_let, guards_tick, is_limit, left_by, limited_here, passed, seen, ticked, waiting_for, way_if_any}
+use Rattle.bd_machine.specs.Limits.{bytes_if_any, charged_by_way, guards_let, guards_tick, is_limit, is_tick_due, left_by, limited_here, passed, seen, starts_left, ticked, waiting_for, way_if_any}
 use Rattle.bd_machine.specs.Same.{same_id}
 use Rattle.bd_machine.specs.Step.{first_failing}
 use Rattle.bd_machine.specs.Table.{change_first}
@@ -38,8 +39,12 @@ use Rattle.bd_thread.specs.declared.thread.Thread.{Thread}
 use Rattle.bd_thread.specs.Aborts.{abort_due, Stops}
 use Rattle.bd_thread.specs.Acted.{Acted}
 use Rattle.bd_steps.specs.Completions.{ending_in}
+use Rattle.bd_steps.specs.Naming.{named_in, number_in}
 use Rattle.bd_thread.specs.Delays.{hold_due_of, may_release_now, NoFirstRelease}
+use Rattle.bd_steps.specs.Resetting.{reset_event}
+use Rattle.bd_thread.specs.Calls.{asks_reset, may_ask_freely}
 use Rattle.bd_thread.specs.Injections.{is_inject}
+use Rattle.bd_thread.specs.Walking.{NoVisit}
 use Rattle.bd_thread.specs.Limits.{head_of, head_stop, head_stop_of, stop_by, let_due, let_due_of, may_let, may_tick, slices_now, tick_due, tick_due_of, with_id, IsLet, IsTicked, Lets, LetsBy, NoLimit, NoLimitBelow, NoLimitOn, NoWayOut, Ticks, TicksBy, way_by}
 use Rattle.bd_thread.specs.Requests.{KeepsTickets}
 use Rattle.bd_thread.specs.Seen.{local, local_at, untaken, view_of}
@@ -52,6 +57,7 @@ use Rattle.bd_thread.proofs.Idle.{grown, idle_then, more, stops_more}
 use Rattle.bd_thread.proofs.Submissions.{acted_into}
 use Rattle.bd_thread.proofs.Tickets.{same_tickets}
 use Rattle.bd_thread.proofs.Walking.{hold_all, none_is}
+use Rattle.bd_thread.proofs.Timing.{tick_fits, time_stays}
 
 -- ---- the first in a line, which a mark aborts
 
@@ -136,14 +142,38 @@ module _ (setup : Setup) (me : ℕ) (part : Part) (here : Id → Option Kept) (r
       (hold_all (guards_let setup me old.view req dev now) passes)
       (ap₂ after (still_shut shut) is)
 
+-- some passed that weren't told, of a device that is limited here
+record TicksSome (t : Thread) (dev : DevId) (slices : ℕ) : Type 0 where
+  row : Limited
+  here : limited_here t.part dev ≡ Some row
+  is : slices ≡ slices_now t row
+  some : 0 < slices
+
+ticks_some : (t : Thread) (links : Links) (dev : DevId) (slices : ℕ) → tick_due t links dev ≡ Some slices → TicksSome t dev slices
+ticks_some t links dev slices due =
+    let g = (passed_guards (guards_tick t.setup.now t.me (view_of t links) dev t.time.moment slices) (tick_may t links dev slices due)).0 in
+    go (limited_here t.part dev) refl due (and_parts ((home t.setup.now dev == t.me) && nat_le t.part.moments.last t.time.moment) (is_tick_due t.part.moments t.time.moment slices (limited_here t.part dev)) g).1
+  where
+    by : (l : Limited) (b : Bool) → cond b (Some (slices_now t l)) None ≡ Some slices → slices ≡ slices_now t l
+    by l true k = sym (same_Some (slices_now t l) slices k)
+    by l false k = cc
+
+    go : (o : Option Limited) → limited_here t.part dev ≡ o → tick_due_of t links dev o ≡ Some slices → is_tick_due t.part.moments t.time.moment slices o ≡ true → TicksSome t dev slices
+    go None here k m = cc
+    go (Some l) here k m =
+        let some = (and_parts (nat_lt 0 slices && nat_lt 0 (length l.waiting)) (may_have_passed t.time.moment (l.slices + slices) (starts_left t.part.moments t.time.moment l.starts)) m).0 in
+        record { row = l; here = here; is = by l (may_tick t links dev (slices_now t l)) k; some = ltb-true 0 slices (and_parts (nat_lt 0 slices) (nat_lt 0 (length l.waiting)) some).0 }
+
 pub ticked_acted : (old : Thread) (before : Links) (new : Thread) (after : Links) (dev : DevId) (slices : ℕ)
     → tick_due old before dev ≡ Some slices
     → IsTicked dev slices old before new after
     → Acted old before new after
 ticked_acted old before new after dev slices due is =
+    let told = ticks_some old before dev slices due in
     acted_into old before new after (acts.Tick dev old.time.moment slices) _ (here_in old.held.items)
     (ap (λ (t : Thread). t.me) is.thread) (ap (λ (t : Thread). t.setup) is.thread) (ap (λ (t : Thread). t.part) is.thread) (ap (λ (t : Thread). here_in t.held.items) is.thread) is.links
     (tick_steps old.setup.now old.me old.part (here_in old.held.items) before.registry.state before.shut (length before.entries) (queues_of before.queues.items) dev old.time.moment slices (tick_may old before dev slices due)) refl
+    (record { time = time_stays old.time new.time (ap (λ (t : Thread). t.time) is.thread); named = refl; fits = tick_fits old dev slices told.row told.here told.is told.some })
 
 pub ticked_tickets : (old : Thread) (before : Links) (new : Thread) (after : Links) (dev : DevId) (slices : ℕ)
     → IsTicked dev slices old before new after
@@ -220,6 +250,7 @@ let_acted old before new after dev req r due is =
     acted_into old before new after (acts.Let req dev old.time.moment) _ _
     (ap (λ (t : Thread). t.me) is.thread) (ap (λ (t : Thread). t.setup) is.thread) (ap (λ (t : Thread). t.part) is.thread) is.held is.links
     (let_steps old.setup.now old.me old.part (here_in old.held.items) before.registry.state before.shut (length before.entries) (queues_of before.queues.items) req dev old.time.moment r may.here may.passes) refl
+    (record { time = time_stays old.time new.time (ap (λ (t : Thread). t.time) is.thread); named = refl; fits = λ dev. tt })
 
 pub let_tickets : (old : Thread) (before : Links) (new : Thread) (after : Links) (dev : DevId) (req : ReqId) (r : OpenRequest)
     → IsLet dev req r old before new after
@@ -340,19 +371,25 @@ limits_there place o a n c within none f few =
     gone (x ∷ xs) zero within none = none_some (sym none)
     gone (x ∷ xs) (suc i) within none = gone xs i (omega (arith, within)) none
 
--- after the pieces of its stores a thread serves its lines, and then releases what it holds
-pub then_served : (o : Thread) (a : Links) (m : Thread) (b : Links) (p : Thread) (d : Links) (n : Thread) (c : Links)
+-- after the pieces of its stores a thread serves its lines, releases what it holds, and then tries the walks that are here
+pub then_served : (o : Thread) (a : Links) (m : Thread) (b : Links) (p : Thread) (d : Links) (q : Thread) (e : Links) (n : Thread) (c : Links)
     → Acted o a m b
     → Acted m b p d
-    → Acted p d n c
+    → Acted p d q e
+    → Acted q e n c
     → Idles NoPiece o a m b
     → Idles NoLimit m b p d
-    → Idles NoFirstRelease p d n c
+    → Idles NoFirstRelease p d q e
+    → Idles NoVisit q e n c
     → Idles NothingToServe o a n c
-then_served o a m b p d n c first next last piece limit release =
-    let served : Idles NothingToServe o a p d =
-    idle_then {P = NoPiece} {Q = NoLimit} {R = NothingToServe} o a m b p d first next (λ none none_on. record { piece = none; limit = none_on }) piece limit in
-    idle_then {P = NothingToServe} {Q = NoFirstRelease} {R = NothingToServe} o a p d n c (acted_then o a m b p d first next) last (λ none none_first. none) served release
+then_served o a m b p d q e n c first next after last piece limit release walk =
+    let both = acted_then o a m b p d first next in
+    let limited : Idles (λ t links. NoPiece t links × NoLimit t links) o a p d =
+    idle_then {P = NoPiece} {Q = NoLimit} {R = λ t links. NoPiece t links × NoLimit t links} o a m b p d first next (λ none none_on. (none, none_on)) piece limit in
+    let released : Idles (λ t links. NoPiece t links × NoLimit t links) o a q e =
+    idle_then {P = λ t links. NoPiece t links × NoLimit t links} {Q = NoFirstRelease} {R = λ t links. NoPiece t links × NoLimit t links} o a p d q e both after (λ none none_first. none) limited release in
+    idle_then {P = λ t links. NoPiece t links × NoLimit t links} {Q = NoVisit} {R = NothingToServe} o a q e n c (acted_then o a p d q e both after) last
+    (λ none none_visits. record { piece = none.0; limit = none.1; walk = none_visits }) released walk
 
 -- ---- a request that goes to a limited device's home
 
@@ -386,23 +423,23 @@ stays_way req dev to t links is stays =
 
 -- what may be sent may be put
 pub put_way : (t : Thread) (links : Links) (to : ℕ) (what : Token) → may_send t links ((to, what) ∷ []) ≡ true → may_put t links to what ≡ true
-put_way t links to what may = go (nat_lt to (vec_len links.queues)) (not (is_full links.queues.items to)) (is_served_token what) (may_go t.setup.now t.me (local t links).view to what) may
+put_way t links to what may = go (nat_lt to (vec_len links.queues)) (not (is_full links.queues.items to)) (may_go t.setup.now t.me (local t links).view to what) may
   where
-    go : (a b c d : Bool) → (a && b) && c && d ≡ true → a && c && d ≡ true
-    go true true c d h = h
-    go true false c d h = cc
-    go false b c d h = cc
+    go : (a b c : Bool) → (a && b) && c ≡ true → a && c ≡ true
+    go true true c h = h
+    go true false c h = cc
+    go false b c h = cc
 
 -- a request that was set out: only what is to be put and what is noted changed
 pub set_out_acted : (o : Thread) (a : Links) (u : Thread) → u ≡ record o { outbox = u.outbox; calls = u.calls } → Acted o a u a
-set_out_acted o a u is = subst (λ (t : Thread). Acted o a t a) (sym is) (acted_still o a (record o { outbox = u.outbox; calls = u.calls }) a refl refl refl refl refl refl)
+set_out_acted o a u is = subst (λ (t : Thread). Acted o a t a) (sym is) (acted_still o a (record o { outbox = u.outbox; calls = u.calls }) a refl refl refl refl refl refl refl)
 
 pub set_out_tickets : (o : Thread) (u : Thread) → u ≡ record o { outbox = u.outbox; calls = u.calls } → KeepsTickets o → KeepsTickets u
 set_out_tickets o u is keeps = same_tickets o u (ap (λ (t : Thread). t.purse.ids) is) (ap (λ (t : Thread). t.part.requests) is) (ap (λ (t : Thread). t.part.next_request) is) keeps
 
 -- ---- a request that isn't here
 
--- it can't be carried on, and asks for no decision
+-- it can't be carried on, and asks nothing
 pub not_here : (req : ReqId) (t : Thread) (links : Links) → is_some (here_in t.held.items (ids.Request req)) ≡ false → StandsOf false req t links
 not_here req t links away =
     let none : request_here (view_of t links) req ≡ None = ap as_request (none_some (here_in t.held.items (ids.Request req)) away) in
@@ -410,6 +447,7 @@ not_here req t links away =
     record {
       none = record {
         step = ap is_taken_alone step-is;
+        named = ap (λ (o : Option OpenRequest). named_in t.setup.now t.me (view_of t links) req (number_in o)) none;
         still = record {
           release = ap (λ (o : Option OpenRequest). cond (may_release_now t links req) o None) none ∙ neither (may_release_now t links req);
           hold = ap (hold_due_of t links req) none;
@@ -417,7 +455,7 @@ not_here req t links away =
         };
         out = subst (λ (s : Step). NoWayOut req s t links) (sym step-is) (and_false (length t.outbox.items == 0));
       };
-      asks_is = sym (ap (λ (s : Step). is_inject s && may_take t.setup.now t.me (view_of t links) req s) step-is);
+      asks_is = sym (ap (λ (s : Step). (is_inject s && may_take t.setup.now t.me (view_of t links) req s) || asks_reset t links req) step-is ∙ ap (λ (o : Option OpenRequest). may_ask_freely t links (reset_event t.part req o)) none);
     }
   where
     none_some : {X : Type 0} (o : Option X) → is_some o ≡ false → o ≡ None

@@ -41,6 +41,7 @@ use Rattle.bd_thread.specs.Given.{contents_once, held_as, IsReadBy, IsServedAs, 
 use Rattle.bd_thread.specs.Over.{WentOver}
 use Rattle.bd_thread.specs.Requests.{KeepsTickets}
 use Rattle.bd_thread.specs.Seen.{block_size, local, local_at, untaken}
+use Rattle.bd_thread.specs.Timely.{slices_at}
 use Rattle.bd_thread.specs.Waits.{Idles}
 use Rattle.bd_thread.specs.Work.{AsksNothing}
 use Rattle.bd_thread.proofs.Applies.{apply_steps, at_home}
@@ -48,6 +49,7 @@ use Rattle.bd_thread.proofs.Going.{still_shut, Steps}
 use Rattle.bd_thread.proofs.Idle.{more}
 use Rattle.bd_thread.proofs.Over.{over_none}
 use Rattle.bd_thread.proofs.Tickets.{same_tickets}
+use Rattle.bd_thread.proofs.Timing.{timely_plain}
 
 not_true : {Q : Type 0} → false ≡ true → Q
 not_true e = cc
@@ -140,6 +142,7 @@ served_as_over old before new after req k dev end read s home aio holds first he
               local_is setup old.me old.part now before.registry.state before.shut n queues req k dev end contents s.piece here aio b read found reads ∙ ap there counted ∙ same,
             ),
           );
+          timely = timely_plain old new (entry_at old.me (n + 1) (acts.Apply req k dev end)) refl (ap (λ (t : Thread). t.time) s.thread) (λ d. ap (λ (p : Part). slices_at p d) part);
         }
 
 -- the same, of the piece that is next on the device's disk

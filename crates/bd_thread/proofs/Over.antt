@@ -20,6 +20,7 @@ use Rattle.bd_thread.specs.Over.{WentAloneOver, WentOver}
 use Rattle.bd_thread.specs.Seen.{local}
 use Rattle.bd_thread.specs.Work.{ActedAlone, AsksNothing}
 use Rattle.bd_thread.proofs.Alone.{alone_then}
+use Rattle.bd_thread.proofs.Timing.{timely_none, timely_then}
 
 is_not : (b : Bool) → not b ≡ true → b ≡ false
 is_not true h = cc
@@ -44,6 +45,7 @@ acted_over contents o a n c g = record {
   entries = g.entries;
   added = g.added;
   leads = own_is_over o.setup.now contents o.me (local o a) g.entries (local n c) (none_on_disk o.setup.now g.entries g.acts) g.leads;
+  timely = g.timely;
 }
 
 pub over_none : (contents : DevId → Content) (t : Thread) (links : Links) → WentOver contents contents t links t links
@@ -55,6 +57,7 @@ over_none contents t links = record {
   entries = [];
   added = sym (append-nil links.entries);
   leads = (refl, refl);
+  timely = timely_none t t refl (λ dev. refl);
 }
 
 pub over_then : (x y z : DevId → Content) (o : Thread) (a : Links) (m : Thread) (b : Links) (n : Thread) (c : Links) → WentOver x y o a m b → WentOver y z m b n c → WentOver x z o a n c
@@ -70,6 +73,7 @@ over_then x y z o a m b n c g h =
       leads = over_goes_on o.setup.now o.me x y z (local o a) (local m b) (local n c) g.entries h.entries g.leads
           (subst (λ (t : ℕ). LeadsOver o.setup.now t y (local m b) h.entries z (local n c)) g.me
           (subst (λ (s : Setup). LeadsOver s m.me y (local m b) h.entries z (local n c)) setup-is h.leads));
+      timely = timely_then g.entries h.entries o m n g.timely h.timely;
     }
 
 -- it adds entries only

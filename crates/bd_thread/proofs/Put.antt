@@ -19,7 +19,6 @@ use Rattle.bd_machine.specs.declared.state.OpenWalk.{OpenWalk}
 use Rattle.bd_machine.specs.declared.state.Part.{Part}
 use Rattle.bd_machine.specs.declared.state.Registry.{Registry}
 use Rattle.bd_machine.specs.Alone.{held_after}
-use Rattle.bd_steps.specs.Served.{is_served_token}
 use Rattle.bd_machine.specs.Kept.{as_piece, as_request, as_walk}
 use Rattle.bd_machine.specs.Messages.{count_at, due_after, is_token_here, may_go, may_piece_here_go, may_request_here_go, may_walk_go, moves_put, news_of, sent, token_put}
 use Rattle.bd_machine.specs.Same.{same_id}
@@ -115,14 +114,13 @@ put_moves t v to number (tokens.Device dev) kept h = news_moves t to number kept
 
 pub put_steps : (setup : Setup) (t : ℕ) (p new : Part) (here here' : Id → Option Kept) (registry : Registry) (shut : Bool) (stamp : ℕ) (queues queues' : ℕ → List Message) (to number : ℕ) (what : Token) (kept : Kept)
     → number ≡ count_at p.put to
-    → is_served_token what ≡ true
     → may_go setup t (local_at t p here registry shut stamp queues).view to what ≡ true
     → kept_on_way what (here (id_of t to number what)) ≡ Some kept
     → new ≡ record p { put = write ◌==◌ p.put to (number + 1); due = due_after to (news_of what) p.due }
     → here' ≡ (λ j. cond (same_id (id_of t to number what) j) None (here j))
     → queues' ≡ (λ r. cond (r == to) (queues r ++ record { sender = t; what = what; kept = kept } ∷ []) (queues r))
     → Steps setup t (local_at t p here registry shut stamp queues) (acts.Put to number what) (local_at t (untaken new) here' registry shut (stamp + 1) queues')
-put_steps setup t p new here here' registry shut stamp queues queues' to number what kept next built may goes part gone queued =
+put_steps setup t p new here here' registry shut stamp queues queues' to number what kept next may goes part gone queued =
     let l : Local = local_at t p here registry shut stamp queues in
     let l' : Local = local_at t (untaken new) here' registry shut (stamp + 1) queues' in
     let moves : moves_put t l.view to number what ≡ away (id_of t to number what) kept to number = put_moves t l.view to number what kept goes in
@@ -134,9 +132,6 @@ put_steps setup t p new here here' registry shut stamp queues queues' to number 
     refl refl refl (still_shut shut) refl
     (ap (λ (ms : List Move). λ r. cond (r == to) (queues r ++ sent_by t what ms) (queues r)) moves ∙ sym queued))
 
--- there is a queue, the token is built, and it may go there
-pub may_parts : (t : Thread) (links : Links) (to : ℕ) (what : Token) → may_put t links to what ≡ true → (nat_lt to (vec_len links.queues) ≡ true) × (is_served_token what ≡ true) × (may_go t.setup.now t.me (local t links).view to what ≡ true)
-may_parts t links to what h =
-    let most = and_parts (nat_lt to (vec_len links.queues) && is_served_token what) (may_go t.setup.now t.me (local t links).view to what) h in
-    let first = and_parts (nat_lt to (vec_len links.queues)) (is_served_token what) most.0 in
-    (first.0, first.1, most.1)
+-- there is a queue, and the token may go there
+pub may_parts : (t : Thread) (links : Links) (to : ℕ) (what : Token) → may_put t links to what ≡ true → (nat_lt to (vec_len links.queues) ≡ true) × (may_go t.setup.now t.me (local t links).view to what ≡ true)
+may_parts t links to what h = and_parts (nat_lt to (vec_len links.queues)) (may_go t.setup.now t.me (local t links).view to what) h

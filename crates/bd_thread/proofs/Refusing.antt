@@ -32,6 +32,7 @@ use Rattle.bd_thread.proofs.Going.{Steps, steps, still_shut}
 use Rattle.bd_thread.proofs.Idle.{grown}
 use Rattle.bd_thread.proofs.Submissions.{acted_into}
 use Rattle.bd_thread.proofs.Tickets.{same_tickets}
+use Rattle.bd_thread.proofs.Timing.{untimed}
 
 some_same : {X : Type 0} {x y : X} → Some x ≡ Some y → x ≡ y
 some_same e = cc
@@ -74,6 +75,7 @@ sent_back_acted old before new after req k dev due is =
     (ap (λ (t : Thread). t.me) is.thread) (ap (λ (t : Thread). t.setup) is.thread) (ap (λ (t : Thread). t.part) is.thread) is.held is.links
     (refuse_steps old.setup.now old.me old.part (here_in old.held.items) before.registry.state before.shut (length before.entries) (queues_of before.queues.items) req k dev
     (refusal_may old.setup.now old.me (view_of old before) dev req k due)) refl
+    (untimed (acts.NoMem req k dev) old new refl (ap (λ (t : Thread). t.time) is.thread))
 
 pub sent_back_tickets : (old : Thread) (before : Links) (new : Thread) (after : Links) (req : ReqId) (k : ℕ) (dev : DevId) → IsSentBack req k dev old before new after → KeepsTickets old → KeepsTickets new
 sent_back_tickets old before new after req k dev is keeps =

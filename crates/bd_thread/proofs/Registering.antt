@@ -36,7 +36,7 @@ use Rattle.bd_machine.specs.Asked.{asks_between, asks_event, bound_to}
 use Rattle.bd_machine.specs.Changes.{between_after, registry_after}
 use Rattle.bd_machine.specs.Events.{change_reg}
 use Rattle.bd_machine.specs.Guards.{taken_injection}
-use Rattle.bd_steps.specs.Served.{is_served_event}
+use Rattle.bd_steps.specs.Resetting.{is_asked_alone}
 use Rattle.bd_machine.specs.Registry.{answer_to}
 use Rattle.bd_machine.specs.Same.{same_answer, same_dev, same_dropped, same_decision, same_holder, same_if_any, same_next_reset}
 use Rattle.bd_machine.specs.View.{Came, Change, Move, View}
@@ -57,6 +57,7 @@ use Rattle.bd_thread.specs.Seen.{local, local_at, untaken, view_of}
 use Rattle.bd_links.proofs.Longer.{length-longer}
 use Rattle.bd_thread.proofs.Going.{Steps, channels_own, handles_own, local_eq, not_built, steps, still_shut, acted_step}
 use Rattle.bd_thread.proofs.Tickets.{same_tickets}
+use Rattle.bd_thread.proofs.Timing.{untimed}
 
 -- ---- an answer is the same as itself
 
@@ -120,7 +121,7 @@ answer_self (answers.Injected d) = decision_self d
 answer_self (answers.Freed h) = if_any_self (λ a b. a.0 == b.0) (λ (x : HandleId). eq-eqb x.0 x.0 refl) h
 answer_self (answers.Refused e) = eq-eqb (number_of e) (number_of e) refl
 
--- ---- an event that is built
+-- ---- an event that is asked alone
 
 module _ (setup : Setup) (me : ℕ) where
   -- an event is asked by what has to follow and by the Shutdown alone
@@ -139,7 +140,7 @@ module _ (setup : Setup) (me : ℕ) where
       sym (asked_between l.view l.shared.registry l.shared.shut (Some (answer_to setup l.shared.registry me event)) event l.shared.registry.between) ∙ asks
 
   -- it takes no injection
-  untaken_by : (event : RegEvent) (answer : Answer) → is_served_event event ≡ true → taken_injection (acts.Reg event answer) ≡ None
+  untaken_by : (event : RegEvent) (answer : Answer) → is_asked_alone event ≡ true → taken_injection (acts.Reg event answer) ≡ None
   untaken_by (events.Open name write) answer built = refl
   untaken_by (events.Close id) answer built = refl
   untaken_by (events.Claim id kind) answer built = refl
@@ -148,10 +149,13 @@ module _ (setup : Setup) (me : ℕ) where
   untaken_by (events.DropChannel dev) answer built = refl
   untaken_by (events.BeginRemove name) answer built = refl
   untaken_by (events.Destructed dev) answer built = refl
-  untaken_by _ answer built = not_built built
+  untaken_by (events.BeginReset dev req) answer built = refl
+  untaken_by (events.EndReset dev) answer built = refl
+  untaken_by (events.FinishReset dev) answer built = refl
+  untaken_by (events.TakeInjection dev req op) answer built = not_built built
 
   -- of what came, what it changes goes by the Shutdown alone
-  change_by_shut : (v : View) (came : Came) (event : RegEvent) (answer : Answer) → is_served_event event ≡ true
+  change_by_shut : (v : View) (came : Came) (event : RegEvent) (answer : Answer) → is_asked_alone event ≡ true
       → change_reg setup me v came event answer ≡ change_reg setup me v (came_shut came.shut) event answer
   change_by_shut v came (events.Open name write) answer built = refl
   change_by_shut v came (events.Close id) answer built = refl
@@ -161,7 +165,10 @@ module _ (setup : Setup) (me : ℕ) where
   change_by_shut v came (events.DropChannel dev) answer built = refl
   change_by_shut v came (events.BeginRemove name) answer built = refl
   change_by_shut v came (events.Destructed dev) answer built = refl
-  change_by_shut v came _ answer built = not_built built
+  change_by_shut v came (events.BeginReset dev req) answer built = refl
+  change_by_shut v came (events.EndReset dev) answer built = refl
+  change_by_shut v came (events.FinishReset dev) answer built = refl
+  change_by_shut v came (events.TakeInjection dev req op) answer built = not_built built
 
 module _ (setup : Setup) (me : ℕ) (part : Part) (here : Id → Option Kept) (registry : Registry) (shut : Bool) (stamp : ℕ) (queues : ℕ → List Message) where
   abbrev old : Local
@@ -169,7 +176,7 @@ module _ (setup : Setup) (me : ℕ) (part : Part) (here : Id → Option Kept) (r
 
   -- an event with the registry's answer, where it is asked
   pub event_steps : (event : RegEvent) (answer : Answer) (here' : Id → Option Kept)
-      → is_served_event event ≡ true
+      → is_asked_alone event ≡ true
       → answer_to setup registry me event ≡ answer
       → asks_event setup me old.view (came_between registry.between shut) event ≡ true
       → here' ≡ held_after (change_reg setup me old.view (came_shut shut) event answer).moves here
@@ -191,7 +198,7 @@ module _ (setup : Setup) (me : ℕ) (part : Part) (here : Id → Option Kept) (r
 
 -- the thread that asked goes on
 pub asked_acted : (t : Thread) (before : Links) (new : Thread) (after : Links) (event : RegEvent)
-    → is_served_event event ≡ true
+    → is_asked_alone event ≡ true
     → may_ask t before event ≡ true
     → IsAnswered event t before new after
     → Acted t before new after
@@ -208,7 +215,7 @@ asked_acted t before new after event built asks is =
     ap (λ (n : ℕ). local_at t.me p.part (here_in new.held.items) registry before.shut n queues) (sym (length-longer t.me before.entries act)) in
     subst (λ (n : Thread). Acted t before n after) (sym is.thread)
     (subst (λ (l : Links). Acted t before p l) (sym is.links)
-    (acted_step t before p q act refl refl refl refl refl (subst (Steps t.setup.now t.me (local t before) act) ends stepped) refl))
+    (acted_step t before p q act refl refl refl refl refl (subst (Steps t.setup.now t.me (local t before) act) ends stepped) refl (untimed act t p refl refl)))
 
 -- open requests and their tickets stay
 pub answered_tickets : (t : Thread) (before : Links) (new : Thread) (event : RegEvent) (answer : Answer)
@@ -271,12 +278,12 @@ claim_named part handle kind id shut o unshut line bound = ap (λ b. claim_of pa
 -- ---- what has to follow
 
 -- a channel that has to follow an open may be asked for
-pub get_built : (me : ℕ) (between : Option Between) → IfSome (get_due me between) (λ event. is_served_event event ≡ true)
+pub get_built : (me : ℕ) (between : Option Between) → IfSome (get_due me between) (λ event. is_asked_alone event ≡ true)
 get_built me None = tt
 get_built me (Some (Closing u dev)) = tt
 get_built me (Some (Opening u dev)) = go (u == me)
   where
-    go : (b : Bool) → IfSome (cond b (Some (events.GetChannel dev)) None) (λ event. is_served_event event ≡ true)
+    go : (b : Bool) → IfSome (cond b (Some (events.GetChannel dev)) None) (λ event. is_asked_alone event ≡ true)
     go true = refl
     go false = tt
 
@@ -293,12 +300,12 @@ get_asked t links = go links.registry.state.between
         mine false e = tt
 
 -- a close that has to follow a put may be asked for, where it might after the put
-pub close_built : (id : HandleId) (me : ℕ) (between : Option Between) → IfSome (close_due id me between) (λ event. is_served_event event ≡ true)
+pub close_built : (id : HandleId) (me : ℕ) (between : Option Between) → IfSome (close_due id me between) (λ event. is_asked_alone event ≡ true)
 close_built id me None = tt
 close_built id me (Some (Opening u dev)) = tt
 close_built id me (Some (Closing u dev)) = go (u == me)
   where
-    go : (b : Bool) → IfSome (cond b (Some (events.Close id)) None) (λ event. is_served_event event ≡ true)
+    go : (b : Bool) → IfSome (cond b (Some (events.Close id)) None) (λ event. is_asked_alone event ≡ true)
     go true = refl
     go false = tt
 

@@ -29,11 +29,10 @@ use Rattle.bd_machine.specs.declared.state.Handle.{Handle}
 use Rattle.bd_machine.specs.declared.state.News.{News}
 use Rattle.bd_machine.specs.declared.state.News.TheVariants as news
 use Rattle.bd_machine.specs.declared.state.Owed.{Owed}
-use Rattle.bd_machine.specs.Admission.{has_range, is_gone}
+use Rattle.bd_machine.specs.Admission.{is_gone}
 use Rattle.bd_machine.specs.Asked.{may_close as closes}
 use Rattle.bd_machine.specs.Asked.{bound_to, busy_outcome, claim_outcome, close_outcome, is_handle_on, is_job_claim, is_job_close, is_job_open, is_job_remove, owes_removal, is_open_handle, is_script_blocked, is_waiting_job, is_waiting_line, job_of, most_requests, next_line, open_on, outcome_by, outcome_due, undecided_job, undecided_outcome}
 use Rattle.bd_machine.specs.Claims.{same_kind}
-use Rattle.bd_steps.specs.Served.{is_served_token}
 use Rattle.bd_machine.specs.Messages.{is_due, is_due_to, may_go}
 use Rattle.bd_machine.specs.Registry.{device_named, handle_of}
 use Rattle.bd_machine.specs.Same.{is_the, same_dev, same_handle, same_news, same_request}
@@ -52,7 +51,7 @@ use Rattle.bd_steps.specs.Asking.{is_base_if_any}
 use Rattle.bd_steps.specs.Duties.{duty_owed}
 use Rattle.bd_steps.specs.Sending.{first_due, token_of}
 use Rattle.bd_thread.specs.Duties.{NoDuty}
-use Rattle.bd_thread.specs.Injections.{StandsAsked}
+use Rattle.bd_thread.specs.Calls.{StandsAsked}
 use Rattle.bd_thread.specs.Lines.{claim_if_bound, claim_of, close_of, handle_if_any, if_asked, if_closable, may_ask, may_ask_after, may_close, open_of, remove_of}
 use Rattle.bd_thread.specs.Moves.{turned_of}
 use Rattle.bd_thread.specs.Requests.{KeepsTickets}
@@ -60,7 +59,7 @@ use Rattle.bd_thread.specs.Sent.{may_put, may_send}
 use Rattle.bd_thread.specs.Seen.{local, view_of}
 use Rattle.bd_thread.specs.Waits.{asks_unbuilt, is_line_waiting, is_submission, is_unbuilt, may_post, Idles, IsWaiting, NoDestructBelow, NoDestructOn, NoHandleBelow, NoHandleOn, NoLine, NoMessage, NoPieceBelow, NoPieceOn, NoRefusal, NoRetry, NothingLeft, NothingToPost, NothingToSend, NothingToServe, Quiets, StandsBut, IsIdle, IsStill}
 use Rattle.bd_thread.proofs.Going.{acted_then}
-use Rattle.bd_thread.proofs.Injecting.{stands_undecided}
+use Rattle.bd_thread.proofs.Calling.{stands_uncalled}
 use Rattle.bd_thread.proofs.Idle.{idle_last, idle_then}
 use Rattle.bd_thread.proofs.Leftovers.{found_is}
 use Rattle.bd_thread.proofs.Tickets.{same_tickets}
@@ -129,13 +128,8 @@ false_true h = cc
 no_room : (n m : ℕ) → nat_lt n m ≡ false → nat_le m n ≡ true
 no_room n m h = grind (arith, nat_tests)
 
-submission_waits : (ranged : Bool) (n m : ℕ) → ranged && nat_lt n m ≡ false → (nat_le m n && true) || not ranged ≡ true
-submission_waits true n m h = ap (λ b. (b && true) || false) (no_room n m h)
-submission_waits false n m h = go (nat_le m n)
-  where
-    go : (b : Bool) → (b && true) || true ≡ true
-    go true = refl
-    go false = refl
+submission_waits : (n m : ℕ) → nat_lt n m ≡ false → (nat_le m n && true) || false ≡ true
+submission_waits n m h = ap (λ b. (b && true) || false) (no_room n m h)
 
 kind_self : (kind : ClaimKind) → same_kind kind kind ≡ true
 kind_self kinds.Exclusive = refl
@@ -267,7 +261,7 @@ module _ (t : Thread) (links : Links) where
   job_waits (jobs.Claim handle kind) is o c k r s e =
       absurd (claim_waits handle kind (bound_to t.part handle) refl is (ap (λ (j : Option Job). if_asked t free (claim_of t.part j)) (sym is) ∙ k) e)
   job_waits (jobs.Submit handle op lba count) is o c k r s e =
-      submission_waits (has_range op) (length t.part.requests) most_requests (ap (λ (j : Option Job). is_submission j && nat_lt (length t.part.requests) most_requests) (sym is) ∙ s)
+      submission_waits (length t.part.requests) most_requests (ap (λ (j : Option Job). is_submission j && nat_lt (length t.part.requests) most_requests) (sym is) ∙ s)
   job_waits (jobs.Remove dev) is o c k r s e = absurd (remove_waits dev is r)
   job_waits jobs.Wait is o c k r s e = ap (λ (r : Option Outcome). is_none r || false) e
   job_waits (jobs.Sleep time) is o c k r s e = none_some e
@@ -362,26 +356,24 @@ first_goes setup me view d ds due = go d.news refl
     go (news.Device dev) e = first (news.Device dev) e
     go (news.Go req threads) e = first (news.Go req threads) e
 
--- what may go and isn't put has no queue, or is none that is put
-no_queue : (queue travels goes room : Bool) → queue && travels && goes ≡ false → goes ≡ true → queue && room && travels ≡ false
-no_queue false travels goes room h e = refl
-no_queue true false goes true h e = refl
-no_queue true false goes false h e = refl
-no_queue true true true room h e = cc
-no_queue true true false room h e = cc
+-- what may go and isn't put has no queue
+no_queue : (queue goes room : Bool) → queue && goes ≡ false → goes ≡ true → queue && room ≡ false
+no_queue false goes room h e = refl
+no_queue true true room h e = cc
+no_queue true false room h e = cc
 
 -- where no message is due for which there is room, none can be put
 pub full_waits : (t : Thread) (links : Links) → first_due links.queues.items t.part.due ≡ None → NothingToPost t links
 full_waits t links none = go t.part.due none
   where
-    by_room : (full there travels : Bool) (x : ℕ × Token) → cond full None (Some x) ≡ None → there && not full && travels ≡ false
-    by_room true true travels x e = refl
-    by_room true false travels x e = refl
-    by_room false there travels x e = none_some e
+    by_room : (full there : Bool) (x : ℕ × Token) → cond full None (Some x) ≡ None → there && not full ≡ false
+    by_room true true x e = refl
+    by_room true false x e = refl
+    by_room false there x e = none_some e
 
     go : (ds : List Due) → first_due links.queues.items ds ≡ None → may_post links ds ≡ false
     go [] e = refl
-    go (d ∷ ds) e = by_room (is_full links.queues.items d.receiver) (nat_lt d.receiver (vec_len links.queues)) (is_served_token (token_of d.news)) (d.receiver, token_of d.news) e
+    go (d ∷ ds) e = by_room (is_full links.queues.items d.receiver) (nat_lt d.receiver (vec_len links.queues)) (d.receiver, token_of d.news) e
 
 pub due_waits : (t : Thread) (links : Links) (x : ℕ × Token) → first_due links.queues.items t.part.due ≡ Some x → may_put t links x.0 x.1 ≡ false → NothingToPost t links
 due_waits t links x first stays = go t.part.due refl first
@@ -395,7 +387,7 @@ due_waits t links x first stays = go t.part.due refl first
     go (d ∷ ds) due e =
         let is : (d.receiver, token_of d.news) ≡ x = is_first (is_full links.queues.items d.receiver) (d.receiver, token_of d.news) e in
         let stays_so : may_put t links d.receiver (token_of d.news) ≡ false = subst (λ (y : ℕ × Token). may_put t links y.0 y.1 ≡ false) (sym is) stays in
-        no_queue (nat_lt d.receiver (vec_len links.queues)) (is_served_token (token_of d.news)) (may_go t.setup.now t.me (local t links).view d.receiver (token_of d.news)) (not (is_full links.queues.items d.receiver))
+        no_queue (nat_lt d.receiver (vec_len links.queues)) (may_go t.setup.now t.me (local t links).view d.receiver (token_of d.news)) (not (is_full links.queues.items d.receiver))
         stays_so
         (first_goes t.setup.now t.me (local t links).view d ds due)
 
@@ -459,7 +451,7 @@ turn_idle found o a p1 l1 p2 l2 p3 l3 p4 l4 p5 l5 p6 l6 p7 l7 p8 l8 p9 l9 p10 l1
     let so10 : Idles (λ t links. NoMessage t links × NoRetry t links × NoDuty t links × NothingToServe t links × NoLine t links × NothingLeft t links × NothingToSend t links × NothingToPost t links × StandsBut found t links × StandsAsked found t links) o a p11 l11 =
     idle_last o a p10 l10 p11 l11 both9 acted10 (λ so next. (so.0, so.1, so.2, so.3, so.4, so.5, so.6, so.7, so.8, next)) so9 asked in
     idle_last o a p11 l11 n c (acted_then o a p10 l10 p11 l11 both9 acted10) acted11
-    (λ so next. record { message = so.0; retry = so.1; duty = so.2; piece = so.3.piece; limit = so.3.limit; line = line_waits o a so.4; left = so.5; outbox = so.6; due = so.7; request = so.8.none; decision = stands_undecided found o a so.8.finds so.9; refusal = next }) so10 refusal
+    (λ so next. record { message = so.0; retry = so.1; duty = so.2; piece = so.3.piece; limit = so.3.limit; walk = so.3.walk; line = line_waits o a so.4; left = so.5; outbox = so.6; due = so.7; request = so.8.none; call = stands_uncalled found o a so.8.finds so.9; refusal = next }) so10 refusal
 
 -- what is noted to be asked is nothing that a thread waits for, sees or keeps
 pub waits_noted : (t : Thread) (links : Links) (u : Thread) → IsWaiting t links → IsWaiting (record t { calls = u.calls }) links
@@ -470,17 +462,18 @@ waits_noted t links u w = record {
   duty = w.duty;
   piece = w.piece;
   limit = λ i l at. record { head = (w.limit i l at).head; tick = (w.limit i l at).tick; pass = (w.limit i l at).pass };
+  walk = w.walk;
   line = w.line;
   left = record { removal = w.left.removal; own = record { handle = w.left.own.handle; device = w.left.own.device } };
   outbox = w.outbox;
   due = w.due;
-  request = λ i o at. record { step = (w.request i o at).step; still = record { release = (w.request i o at).still.release; hold = (w.request i o at).still.hold; completion = (w.request i o at).still.completion }; out = (w.request i o at).out };
-  decision = w.decision;
+  request = λ i o at. record { step = (w.request i o at).step; named = (w.request i o at).named; still = record { release = (w.request i o at).still.release; hold = (w.request i o at).still.hold; completion = (w.request i o at).still.completion }; out = (w.request i o at).out };
+  call = w.call;
 }
 
 pub acted_noted : (o : Thread) (a : Links) (n : Thread) (c : Links) (u : Thread) → u ≡ record n { calls = u.calls } → Acted o a n c → Acted o a u c
 acted_noted o a n c u is h =
-    subst (λ (t : Thread). Acted o a t c) (sym is) (record { me = h.me; setup = h.setup; queues = h.queues; rows = h.rows; entries = h.entries; added = h.added; acts = h.acts; leads = h.leads })
+    subst (λ (t : Thread). Acted o a t c) (sym is) (record { me = h.me; setup = h.setup; queues = h.queues; rows = h.rows; entries = h.entries; added = h.added; acts = h.acts; leads = h.leads; timely = record { time = h.timely.time; named = h.timely.named; fits = h.timely.fits; slices = h.timely.slices } })
 
 pub tickets_noted : (n : Thread) (u : Thread) → u ≡ record n { calls = u.calls } → KeepsTickets n → KeepsTickets u
 tickets_noted n u is keeps = same_tickets n u (ap (λ (t : Thread). t.purse.ids) is) (ap (λ (t : Thread). t.part.requests) is) (ap (λ (t : Thread). t.part.next_request) is) keeps

@@ -160,12 +160,13 @@ nothing_else_waits t links alone unwanted =
         duty = no_duty t links three.1;
         piece = alone.piece;
         limit = alone.limit;
+        walk = alone.walk;
         line = line_waits t links line;
         left = record { removal = no_removal t links four.1; own = record { handle = no_handle t links four.0; device = alone.device } };
         outbox = alone.outbox;
         due = alone.due;
         request = alone.request;
-        decision = λ free. alone.decision noted.1;
+        call = λ free. alone.call noted.1;
       },
     )
   where

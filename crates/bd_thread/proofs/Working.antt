@@ -6,10 +6,11 @@ use Rattle.bd_thread.specs.declared.thread.Thread.{Thread}
 use Rattle.bd_thread.specs.declared.turn.Turned.{Turned}
 use Rattle.bd_thread.specs.declared.turn.Turned.TheVariants.{Moved, Quiet}
 use Rattle.bd_thread.specs.Acted.{Acted}
-use Rattle.bd_thread.specs.Injections.{Finds, NoneAsks}
+use Rattle.bd_thread.specs.Calls.{Finds, NoneAsks}
 use Rattle.bd_thread.specs.Limits.{NoLimit}
 use Rattle.bd_thread.specs.Moves.{turned_of}
 use Rattle.bd_thread.specs.Waits.{Idles, IsIdle, IsStill, NoDestruct, NoMessage, NoPiece, NoRefusal, NoRetry, NoStep, NothingToPost, NothingToSend, NothingToServe, StandsBut}
+use Rattle.bd_thread.specs.Walking.{NoVisit}
 use Rattle.bd_thread.specs.Work.{calls_with, IsWaitingAlone, NoLineAlone, QuietsAlone}
 use Rattle.bd_thread.proofs.Going.{acted_then}
 use Rattle.bd_thread.proofs.Idle.{idle_last, idle_then}
@@ -21,6 +22,7 @@ pub record WaitsBut (found : Option ReqId) (t : Thread) (links : Links) : Type 0
   pub retry : NoRetry t links
   pub piece : NoPiece t links
   pub limit : NoLimit t links
+  pub walk : NoVisit t links
   pub line : NoLineAlone t links
   pub device : NoDestruct t links
   pub outbox : NothingToSend t links
@@ -71,7 +73,7 @@ work_idle found o a p1 l1 p2 l2 p3 l3 p4 l4 p5 l5 p6 l6 p7 l7 p8 l8 n c acted0 a
     let so7 : Idles (λ t links. NoMessage t links × NoRetry t links × NothingToServe t links × NoLineAlone t links × NoDestruct t links × NothingToSend t links × NothingToPost t links × StandsBut found t links) o a p8 l8 =
     idle_last o a p7 l7 p8 l8 both6 acted7 (λ so next. (so.0, so.1, so.2, so.3, so.4, so.5, so.6, next)) so6 request in
     idle_last o a p8 l8 n c (acted_then o a p7 l7 p8 l8 both6 acted7) acted8
-    (λ so next. record { message = so.0; retry = so.1; piece = so.2.piece; limit = so.2.limit; line = so.3; device = so.4; outbox = so.5; due = so.6; request = so.7.none; finds = so.7.finds; refusal = next }) so7 refusal
+    (λ so next. record { message = so.0; retry = so.1; piece = so.2.piece; limit = so.2.limit; walk = so.2.walk; line = so.3; device = so.4; outbox = so.5; due = so.6; request = so.7.none; finds = so.7.finds; refusal = next }) so7 refusal
 
 -- where that is noted, or something was before, it waits for all but what is noted
 waits_alone : (found : Option ReqId) (t : Thread) (links : Links) (u : Thread) → u.calls.items ≡ calls_with found t.calls.items → WaitsBut found t links → IsWaitingAlone (record t { calls = u.calls }) links
@@ -81,12 +83,13 @@ waits_alone found t links u noted w = record {
   retry = w.retry;
   piece = w.piece;
   limit = λ i l at. record { head = (w.limit i l at).head; tick = (w.limit i l at).tick; pass = (w.limit i l at).pass };
+  walk = w.walk;
   line = record { submission = w.line.submission; outcome = w.line.outcome };
   device = w.device;
   outbox = w.outbox;
   due = w.due;
-  request = λ i o at. record { step = (w.request i o at).step; still = record { release = (w.request i o at).still.release; hold = (w.request i o at).still.hold; completion = (w.request i o at).still.completion }; out = (w.request i o at).out };
-  decision = λ none. by found t.calls.items w.finds (subst (λ (xs : List ReqId). nat_lt 0 (length xs) ≡ false) noted none);
+  request = λ i o at. record { step = (w.request i o at).step; named = (w.request i o at).named; still = record { release = (w.request i o at).still.release; hold = (w.request i o at).still.hold; completion = (w.request i o at).still.completion }; out = (w.request i o at).out };
+  call = λ none. by found t.calls.items w.finds (subst (λ (xs : List ReqId). nat_lt 0 (length xs) ≡ false) noted none);
 }
   where
     some : {Q : Type 0} (x : ReqId) (xs : List ReqId) → nat_lt 0 (length (x ∷ xs)) ≡ false → Q

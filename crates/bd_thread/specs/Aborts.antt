@@ -1,13 +1,15 @@
--- When a thread aborts a request, what that leaves, and what a mark stops.
+-- When a thread aborts a request, what that leaves, what a mark stops, and what an abort stops that names a request.
 use Rattle.std.specs.Prelude.{◌≡◌, Bool, true, false, List, [], ◌∷◌, Option, Some, None}
 use Rattle.bd_base.specs.declared.act.Act.TheVariants as acts
 use Rattle.bd_base.specs.declared.id.ReqId.{ReqId}
 use Rattle.bd_base.specs.declared.request.AbortCause.{AbortCause}
+use Rattle.bd_base.specs.declared.request.AbortCause.TheVariants.{Named}
 use Rattle.bd_held.specs.Holds.{without_hold}
 use Rattle.bd_machine.specs.declared.state.Id.TheVariants as ids
 use Rattle.bd_machine.specs.declared.state.Kept.TheVariants as keeps
 use Rattle.bd_machine.specs.declared.state.OpenRequest.{OpenRequest}
 use Rattle.bd_machine.specs.Aborts.{aborted, stopped}
+use Rattle.bd_steps.specs.Naming.{named_by}
 use Rattle.bd_steps.specs.Stopping.{abortable, channels_without, may_stop, stoppable, turned_back, without_unsent}
 use Rattle.bd_links.specs.Entries.{longer}
 use Rattle.bd_tokens.specs.Tokens.{here_in, Sets}
@@ -68,3 +70,25 @@ StopsEach (req ∷ reqs) cause old before new after = Then (λ t links. Stops re
 -- each open request of the thread is stopped, in order of acceptance, and then each that waits here at a limited device
 abbrev pub StopsAll : AbortCause → Thread → Links → Thread → Links → Type 0
 StopsAll cause old before new after = StopsEach (stoppable old.part) cause old before new after
+
+-- ---- what an abort stops that names a request
+
+-- the request that the abort `by` stops, where that is here
+abbrev pub named_due : Thread → Links → ReqId → Option ReqId
+named_due t links by = named_by t.setup.now t.me (view_of t links) by
+
+abbrev pub StopsNamedBy : ReqId → Thread → Links → Thread → Links → Option ReqId → Type 0
+StopsNamedBy by old before new after None = (new ≡ old) × (after ≡ before)
+StopsNamedBy by old before new after (Some req) = Stops req (Named by) old before new after
+
+-- the request that the abort names is stopped, where the rules let it; else nothing changes
+abbrev pub StopsNamed : ReqId → Thread → Links → Thread → Links → Type 0
+StopsNamed by old before new after = StopsNamedBy by old before new after (named_due old before by)
+
+-- and then the abort completes, where it may
+abbrev pub EndsAbort : ReqId → Thread → Links → Thread → Links → Type 0
+EndsAbort by old before new after = Then (λ t links. StopsNamed by old before t links) (λ t links. MayComplete by t links new after)
+
+-- it is no abort, or nothing that it names can be stopped
+abbrev pub NoneNamed : ReqId → Thread → Links → Type 0
+NoneNamed by t links = named_due t links by ≡ None

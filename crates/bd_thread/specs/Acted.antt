@@ -10,6 +10,7 @@ use Rattle.bd_turns.specs.Local.{Leads}
 use Rattle.bd_thread.specs.declared.links.Links.{Links}
 use Rattle.bd_thread.specs.declared.thread.Thread.{Thread}
 use Rattle.bd_thread.specs.Seen.{local}
+use Rattle.bd_thread.specs.Timely.{AreTimely}
 
 -- ---- which acts
 
@@ -24,7 +25,7 @@ AreOf may setup entries = AllByRecursion (λ e. may setup e.act ≡ true) entrie
 
 -- ---- going on
 
--- the thread went on by such acts as the local rules let it, and the entries that it added say how
+-- the thread went on by such acts as the local rules let it, at its turn's moment, and the entries that it added say how
 pub record ActedBy (may : Setup → Act → Bool) (old : Thread) (before : Links) (new : Thread) (after : Links) : Type 0 where
   pub me : new.me ≡ old.me
   pub setup : new.setup ≡ old.setup
@@ -34,6 +35,7 @@ pub record ActedBy (may : Setup → Act → Bool) (old : Thread) (before : Links
   pub added : after.entries ≡ before.entries ++ entries
   pub acts : AreOf may old.setup.now entries
   pub leads : Leads old.setup.now old.me (local old before) entries (local new after)
+  pub timely : AreTimely entries old new
 
 -- by itself: no disk served a piece
 abbrev pub Acted : Thread → Links → Thread → Links → Type 0

@@ -2,6 +2,7 @@ pub mod Completions
 pub mod Cuts
 pub mod Sent
 pub mod Seen
+pub mod Timely
 pub mod Acted
 pub mod Asleep
 pub mod Aborts
@@ -10,8 +11,10 @@ pub mod Lines
 pub mod Duties
 pub mod Served
 pub mod Requests
+pub mod Begins
 pub mod Delays
 pub mod Injections
+pub mod Calls
 pub mod Limits
 pub mod Destructs
 pub mod Refusals

@@ -20,6 +20,7 @@ use Rattle.bd_thread.specs.declared.thread.Thread.{Thread}
 use Rattle.bd_thread.specs.declared.turn.Turned.{Turned}
 use Rattle.bd_thread.specs.declared.turn.Turned.TheVariants.{Moved, Quiet}
 use Rattle.bd_tokens.specs.Tokens.{here_in}
+use Rattle.bd_thread.specs.Calls.{NotesResets}
 use Rattle.bd_thread.specs.Refusals.{MaySendBack}
 use Rattle.bd_thread.specs.Retries.{IsBack}
 use Rattle.bd_thread.specs.Sent.{may_send, Takes}
@@ -59,10 +60,12 @@ SendsFirst old before new after sent = SendsBy old before new after sent old.out
 
 -- ---- a message is taken
 
--- the walk visits the thread, where the rules let it, and what a removal stops is stopped
+-- the walk visits the thread, where the rules let it, and what its mark stops is stopped; then the resets that ask the registry for something next are noted
 pub record MayVisit (walk : WalkId) (old : Thread) (before : Links) (new : Thread) (after : Links) : Type 0 where
   pub made : Bool
-  pub visits : Visits walk old before new after made
+  pub middle : Thread
+  pub visits : Visits walk old before middle after made
+  pub notes : NotesResets middle new
 
 abbrev pub ComesOwn : Bool → ReqId → ℕ → Thread → Links → Thread → Links → Type 0
 ComesOwn true req k old before new after = IsBack req k old before new after
@@ -77,12 +80,12 @@ abbrev pub ComesPiece : Option OpenPiece → ReqId → ℕ → Thread → Links 
 ComesPiece None req k old before new after = (new ≡ old) × (after ≡ before)
 ComesPiece (Some p) req k old before new after = ComesAs p.progress p.base req k old before new after
 
--- what a token that came brings about: of a request that it waits here, or goes on, which its next steps say; of a piece that it goes back or is back; a walk's visit; and else nothing
+-- what a token that came brings about: of a request that it waits here, or goes on, which its next steps say; of a piece that it goes back or is back; a walk's visit; and news may have begun a reset, which is noted where it asks the registry
 abbrev pub Comes : Id → Thread → Links → Thread → Links → Type 0
 Comes (ids.Request req) old before new after = AsksNothing before after
 Comes (ids.Piece req k) old before new after = ComesPiece (as_piece (here_in old.held.items (ids.Piece req k))) req k old before new after
 Comes (ids.Walk walk) old before new after = MayVisit walk old before new after
-Comes _ old before new after = (new ≡ old) × (after ≡ before)
+Comes (ids.Notice sender receiver number) old before new after = NotesResets old new × (after ≡ before)
 
 abbrev pub ComesIfAny : Option Id → Thread → Links → Thread → Links → Type 0
 ComesIfAny None old before new after = (new ≡ old) × (after ≡ before)

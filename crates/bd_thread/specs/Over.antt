@@ -8,9 +8,10 @@ use Rattle.bd_law_disks.specs.Over.{LeadsOver}
 use Rattle.bd_thread.specs.declared.links.Links.{Links}
 use Rattle.bd_thread.specs.declared.thread.Thread.{Thread}
 use Rattle.bd_thread.specs.Seen.{local}
+use Rattle.bd_thread.specs.Timely.{AreTimely}
 
 -- the thread went on over what its disks hold, from what they held before to what they hold after: by its own acts as the local rules let it,
--- and by what disks did as they say it; the entries that it added say how
+-- and by what disks did as they say it, at its turn's moment; the entries that it added say how
 pub record WentOver (contents contents' : DevId → Content) (old : Thread) (before : Links) (new : Thread) (after : Links) : Type 0 where
   pub me : new.me ≡ old.me
   pub setup : new.setup ≡ old.setup
@@ -19,6 +20,7 @@ pub record WentOver (contents contents' : DevId → Content) (old : Thread) (bef
   pub entries : List Entry
   pub added : after.entries ≡ before.entries ++ entries
   pub leads : LeadsOver old.setup.now old.me contents (local old before) entries contents' (local new after)
+  pub timely : AreTimely entries old new
 
 -- so, and the registry is as before, and none of the entries that were added asks it or is the Shutdown
 pub record WentAloneOver (contents contents' : DevId → Content) (old : Thread) (before : Links) (new : Thread) (after : Links) : Type 0 where

@@ -14,7 +14,7 @@ use Rattle.bd_machine.specs.declared.state.Kept.{Kept}
 use Rattle.bd_machine.specs.declared.state.Kept.TheVariants as keeps
 use Rattle.bd_machine.specs.declared.state.Open.{Open}
 use Rattle.bd_machine.specs.declared.state.Part.{Part}
-use Rattle.bd_machine.specs.Admission.{has_range, refusal_of}
+use Rattle.bd_machine.specs.Admission.{refusal_of}
 use Rattle.bd_machine.specs.Asked.{is_handle_on, is_job_submit, most_requests, no_request, undecided_job}
 use Rattle.bd_machine.specs.Registry.{handle_of}
 use Rattle.bd_machine.specs.Requests.{change_accept, new_request}
@@ -32,11 +32,10 @@ use Rattle.bd_thread.specs.Seen.{untaken, view_of}
 
 -- ---- what is asked of a thread
 
--- the next line asks for this submission on a range, nothing decided it, and no Shutdown came
+-- the next line asks for this submission, nothing decided it, and no Shutdown came
 pub record IsAsked (t : Thread) (links : Links) (handle : Option HandleId) (asked : Submission) : Type 0 where
   pub running : links.shut ≡ false
   pub line : is_job_submit t.part handle asked.op asked.lba asked.count (undecided_job t.setup.now t.me t.part) ≡ true
-  pub ranged : has_range asked.op ≡ true
 
 -- the id is one that the thread may still give
 pub record IsFresh (t : Thread) (id : ReqId) : Type 0 where

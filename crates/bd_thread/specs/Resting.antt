@@ -10,7 +10,9 @@ use Rattle.bd_machine.specs.declared.state.Open.{Open}
 use Rattle.bd_machine.specs.declared.state.OpenRequest.{OpenRequest}
 use Rattle.bd_machine.specs.Kept.{as_request, is_at_own}
 use Rattle.bd_machine.specs.Asked.{is_script_blocked}
+use Rattle.bd_machine.specs.Walks.{is_reset}
 use Rattle.bd_turns.specs.declared.queue.Message.{Message}
+use Rattle.bd_steps.specs.Resetting.{reset_event}
 use Rattle.bd_steps.specs.Resting.{is_done_with}
 use Rattle.bd_steps.specs.Resting.{is_settled as settles}
 use Rattle.bd_links.specs.Entries.{longer}
@@ -37,11 +39,17 @@ abbrev pub is_own : Thread → ReqId → Option OpenRequest → Bool
 is_own t req None = false
 is_own t req (Some r) = is_at_own t.me req r
 
--- the open request is here on its own thread, and isn't pended
-abbrev pub is_moving : Thread → ReqId → Bool
-is_moving t req = is_own t req (as_request (here_in t.held.items (ids.Request req))) && not (is_pended_at t.setup.now t.part (here_in t.held.items) req)
+-- it is a reset that asks the registry for nothing: a walk of it is under way, or it waits for the resets before it
+abbrev pub is_under_way : Thread → ReqId → Option OpenRequest → Bool
+is_under_way t req None = false
+is_under_way t req (Some r) = is_reset r.op && is_none (reset_event t.part req (Some r))
 
--- each of its open requests is held, pended, or away at the home of a limited device, and nothing is still to be put or done
+-- the open request is here on its own thread, isn't pended, and is no reset that is under way
+abbrev pub is_moving : Thread → ReqId → Bool
+is_moving t req =
+    is_own t req (as_request (here_in t.held.items (ids.Request req))) && not (is_pended_at t.setup.now t.part (here_in t.held.items) req) && not (is_under_way t req (as_request (here_in t.held.items (ids.Request req))))
+
+-- each of its open requests is held, pended, away at the home of a limited device, or a reset under way, and nothing is still to be put or done
 abbrev pub rests_but_for_time : Thread → Links → Bool
 rests_but_for_time t links =
     (length t.outbox.items == 0) && (length t.part.due == 0) && (length t.part.owed == 0) && is_none t.part.injection && (count_by (λ (o : Open). is_moving t o.id) t.part.requests == length t.holds) && list_all (is_settled t links) t.part.gone

@@ -1,5 +1,5 @@
 -- What a thread waits for where its turn added no entry.
-use Rattle.std.specs.Prelude.{◌≡◌, ℕ, ◌<◌, ◌≤◌, ◌^◌, Bool, true, false, not, ◌&&◌, ◌||◌, nat_lt, List, [], ◌∷◌, length, find, slice_get, Option, Some, None, is_some}
+use Rattle.std.specs.Prelude.{◌≡◌, ℕ, ◌<◌, ◌≤◌, ◌^◌, Bool, true, false, ◌&&◌, ◌||◌, nat_lt, List, [], ◌∷◌, length, find, slice_get, Option, Some, None, is_some}
 use Rattle.bd_base.specs.declared.id.DevId.{DevId}
 use Rattle.bd_base.specs.declared.id.ReqId.{ReqId}
 use Rattle.bd_base.specs.declared.job.Job.{Job}
@@ -9,14 +9,12 @@ use Rattle.bd_blocks.specs.Digests.{digest_due}
 use Rattle.bd_machine.specs.declared.state.Base.{Base}
 use Rattle.bd_machine.specs.declared.state.Due.{Due}
 use Rattle.bd_machine.specs.declared.state.Open.{Open}
-use Rattle.bd_machine.specs.Admission.{has_range}
 use Rattle.bd_machine.specs.Asked.{bound_to, is_script_blocked, most_requests, undecided_job}
 use Rattle.bd_machine.specs.BlockMap.{is_malloc}
-use Rattle.bd_steps.specs.Served.{is_served_token}
 use Rattle.bd_machine.specs.Homes.{is_base}
 use Rattle.bd_machine.specs.View.{View}
 use Rattle.bd_steps.specs.Asking.{is_base_if_any}
-use Rattle.bd_steps.specs.Sending.{first_brought, token_of}
+use Rattle.bd_steps.specs.Sending.{first_brought}
 use Rattle.bd_flight.specs.declared.next.Step.{Step}
 use Rattle.bd_flight.specs.declared.next.Step.TheVariants as steps
 use Rattle.bd_flight.specs.Next.{next_step}
@@ -25,12 +23,13 @@ use Rattle.bd_thread.specs.declared.links.Links.{Links}
 use Rattle.bd_thread.specs.declared.thread.Thread.{Thread}
 use Rattle.bd_thread.specs.declared.turn.Turned.{Turned}
 use Rattle.bd_thread.specs.declared.turn.Turned.TheVariants.{Moved, Quiet}
+use Rattle.bd_thread.specs.Aborts.{NoneNamed}
 use Rattle.bd_thread.specs.Asleep.{is_asleep}
 use Rattle.bd_thread.specs.Delays.{StandsStill}
 use Rattle.bd_thread.specs.Destructs.{may_device_go}
 use Rattle.bd_thread.specs.Duties.{NoDuty}
 use Rattle.bd_thread.specs.Endings.{left_on, removal_due}
-use Rattle.bd_thread.specs.Injections.{asks_decision, Finds, FindsBelow, NoDecision}
+use Rattle.bd_thread.specs.Calls.{asks_next, Finds, FindsBelow, NoCall}
 use Rattle.bd_thread.specs.Limits.{NoLimit, NoWayOut}
 use Rattle.bd_thread.specs.Lines.{claim_asked, close_asked, job_now, open_asked, outcome_now, remove_asked}
 use Rattle.bd_thread.specs.Refusals.{refusal_now}
@@ -38,6 +37,7 @@ use Rattle.bd_thread.specs.Retries.{may_retry}
 use Rattle.bd_thread.specs.Seen.{view_of}
 use Rattle.bd_thread.specs.Sent.{has_room, may_send}
 use Rattle.bd_thread.specs.Served.{next_due}
+use Rattle.bd_thread.specs.Walking.{NoVisit}
 
 -- ---- messages and pieces
 
@@ -57,10 +57,11 @@ NoPieceBelow n t links = (dev : DevId) → dev.0 < n → NoPieceOn dev t links
 abbrev pub NoPiece : Thread → Links → Type 0
 NoPiece = NoPieceBelow (2 ^ 32)
 
--- nor can anything be done for a line of a limited device
+-- nor can anything be done for a line of a limited device, and no walk visits
 pub record NothingToServe (t : Thread) (links : Links) : Type 0 where
   pub piece : NoPiece t links
   pub limit : NoLimit t links
+  pub walk : NoVisit t links
 
 -- ---- pieces that are refused, and those that wait to be sent again
 
@@ -97,9 +98,10 @@ is_taken_alone steps.Cut = true
 is_taken_alone steps.Pend = true
 is_taken_alone _ = false
 
--- the next step of the request is no abort by a mark, not the cut, and not that it is kept without an answer; it can't be released at the turn's moment, held or completed; and where it is to go to the home of a limited device, something else is to be put before, or there is no room there
+-- the next step of the request is no abort by a mark, not the cut, and not that it is kept without an answer; where it is an abort, nothing that it names can be stopped; it can't be released at the turn's moment, held or completed; and where it is to go to the home of a limited device, something else is to be put before, or there is no room there
 pub record NoStepOf (req : ReqId) (t : Thread) (links : Links) : Type 0 where
   pub step : is_taken_alone (next_step t.setup.now t.me (view_of t links) req) ≡ false
+  pub named : NoneNamed req t links
   pub still : StandsStill req t links
   pub out : NoWayOut req (next_step t.setup.now t.me (view_of t links) req) t links
 
@@ -111,12 +113,12 @@ NoStepBelow n t links = (i : ℕ) (o : Open) → i < n → slice_get t.part.requ
 abbrev pub NoStep : Thread → Links → Type 0
 NoStep t links = (i : ℕ) (o : Open) → slice_get t.part.requests i ≡ Some o → NoStepOf o.id t links
 
--- no step can be taken but a decision of an error device, and whether that is the next one
+-- no step can be taken but one that asks the registry, and whether that is the next one
 pub record StandsOf (asks : Bool) (req : ReqId) (t : Thread) (links : Links) : Type 0 where
   pub none : NoStepOf req t links
-  pub asks_is : asks ≡ asks_decision t links req
+  pub asks_is : asks ≡ asks_next t links req
 
--- the same of the first n open requests, and the first of them that waits for a decision
+-- the same of the first n open requests, and the first of them that waits for the registry
 pub record StandsBelow (found : Option ReqId) (n : ℕ) (t : Thread) (links : Links) : Type 0 where
   pub none : NoStepBelow n t links
   pub finds : FindsBelow n found t links
@@ -128,9 +130,9 @@ pub record StandsBut (found : Option ReqId) (t : Thread) (links : Links) : Type 
 
 -- ---- the next line
 
--- it asks for a submission on a range
+-- it asks for a submission
 abbrev pub is_submission : Option Job → Bool
-is_submission (Some (jobs.Submit handle op lba count)) = has_range op
+is_submission (Some (jobs.Submit handle op lba count)) = true
 is_submission _ = false
 
 -- as many requests are open as may be
@@ -150,17 +152,16 @@ pub record NoLine (t : Thread) (links : Links) : Type 0 where
   pub submission : NoSubmission t links
   pub outcome : outcome_now t links ≡ None
 
--- what no thread does yet: a reset or an abort; nor does a script close a base handle
+-- what no thread does: a script closes no base handle
 abbrev pub is_unbuilt : Setup → View → Job → Bool
 is_unbuilt setup v (jobs.Close handle) = is_base_if_any setup (bound_to v.part handle)
-is_unbuilt setup v (jobs.Submit handle op lba count) = not (has_range op)
 is_unbuilt setup v _ = false
 
 abbrev pub asks_unbuilt : Setup → View → Option Job → Bool
 asks_unbuilt setup v None = false
 asks_unbuilt setup v (Some job) = is_unbuilt setup v job
 
--- the Shutdown came, something has to follow at the registry, the script is at its end or blocked, or its next line asks for what no thread does yet, or sleeps
+-- the Shutdown came, something has to follow at the registry, the script is at its end or blocked, or its next line asks for what no thread does, or sleeps
 abbrev pub is_line_waiting : Thread → Links → Bool
 is_line_waiting t links =
     links.shut || is_some links.registry.state.between || is_script_blocked t.setup.now t.me (view_of t links) || asks_unbuilt t.setup.now (view_of t links) (undecided_job t.setup.now t.me t.part) || is_asleep t
@@ -220,10 +221,10 @@ pub record NothingLeft (t : Thread) (links : Links) : Type 0 where
 abbrev pub NothingToSend : Thread → Links → Type 0
 NothingToSend t links = may_send t links t.outbox.items ≡ false
 
--- the first message that is due is one that threads put as yet, and there is room where it is to go
+-- there is room where the first message that is due is to go
 abbrev pub may_post : Links → List Due → Bool
 may_post links [] = false
-may_post links (d ∷ ds) = has_room links d.receiver && is_served_token (token_of d.news)
+may_post links (d ∷ ds) = has_room links d.receiver
 
 abbrev pub NothingToPost : Thread → Links → Type 0
 NothingToPost t links = may_post links t.part.due ≡ false
@@ -245,7 +246,7 @@ Progresses Waits old before new after false = IsIdle Waits old before new after
 abbrev pub Idles : (Thread → Links → Type 0) → Thread → Links → Thread → Links → Type 0
 Idles Waits old before new after = length after.entries ≤ length before.entries → IsIdle Waits old before new after
 
--- all that a thread waits for: a message that it can take, a piece that it can send back or send again, a pending action that it can do, a piece that it can serve on a device whose home it is, a request in a line that a mark aborts or that may pass at the turn's moment, timeslices that passed where one waits, an open request that it can abort by a mark, cut, keep without an answer, release at the turn's moment, hold, complete or put on its way to a limited device's home, or that asks for a decision that it can take, a line that can go on, after Shutdown on thread 0 a device that it can remove, a handle that it can close by itself or a device that it can destruct, and room for the first of its outbox, if that may go there, and for the first message that is due
+-- all that a thread waits for: nothing of this can be done
 pub record IsWaiting (t : Thread) (links : Links) : Type 0 where
   pub message : NoMessage t links
   pub refusal : NoRefusal t links
@@ -253,12 +254,13 @@ pub record IsWaiting (t : Thread) (links : Links) : Type 0 where
   pub duty : NoDuty t links
   pub piece : NoPiece t links
   pub limit : NoLimit t links
+  pub walk : NoVisit t links
   pub line : is_line_waiting t links ≡ true
   pub left : NothingLeft t links
   pub outbox : NothingToSend t links
   pub due : NothingToPost t links
   pub request : NoStep t links
-  pub decision : NoDecision t links
+  pub call : NoCall t links
 
 -- nothing changed but what is noted to be asked of the registry, and the thread waits for this
 pub record IsStill (Waits : Thread → Links → Type 0) (old : Thread) (before : Links) (new : Thread) (after : Links) : Type 0 where

@@ -16,10 +16,11 @@ use Rattle.bd_thread.specs.declared.turn.Turned.{Turned}
 use Rattle.bd_thread.specs.declared.turn.Turned.TheVariants.{Moved, Quiet}
 use Rattle.bd_thread.specs.Acted.{is_own, ActedBy}
 use Rattle.bd_thread.specs.Endings.{left_on}
-use Rattle.bd_thread.specs.Injections.{NoneAsks}
+use Rattle.bd_thread.specs.Calls.{NoneAsks}
 use Rattle.bd_thread.specs.Limits.{NoLimit}
 use Rattle.bd_thread.specs.Lines.{job_now, outcome_now}
 use Rattle.bd_thread.specs.Waits.{IsStill, IsWaiting, NoDestruct, NoLine, NoMessage, NoPiece, NoRefusal, NoRetry, NoStep, NoSubmission, NothingToPost, NothingToSend}
+use Rattle.bd_thread.specs.Walking.{NoVisit}
 
 -- ---- what asks the registry for nothing
 
@@ -63,13 +64,14 @@ pub record IsWaitingAlone (t : Thread) (links : Links) : Type 0 where
   pub retry : NoRetry t links
   pub piece : NoPiece t links
   pub limit : NoLimit t links
+  pub walk : NoVisit t links
   pub line : NoLineAlone t links
   pub device : NoDestruct t links
   pub outbox : NothingToSend t links
   pub due : NothingToPost t links
   pub request : NoStep t links
-  -- and where nothing is noted to be asked, no open request waits for a decision
-  pub decision : has_calls t ≡ false → NoneAsks t links
+  -- and where nothing is noted to be asked, no open request waits for the registry
+  pub call : has_calls t ≡ false → NoneAsks t links
 
 -- quiet work changed nothing but what is noted to be asked, and the thread waits for all this
 abbrev pub QuietsAlone : Thread → Links → Thread → Links → Turned → Type 0

@@ -1,15 +1,16 @@
-//! Aborts: a request of the thread that a mark stops, and all that a mark stops.
+//! Aborts: a request of the thread that a mark stops, all that a mark stops, and the one that an abort names.
 ghost use Rattle.std.specs.Prelude.{◌<◌, vec_len, IfOk, OnOk};
-ghost use Rattle.bd_thread.specs.Aborts.{Aborts, Stops, StopsAll};
+ghost use Rattle.bd_thread.specs.Aborts.{Aborts, EndsAbort, Stops, StopsAll, StopsNamed};
 ghost use Rattle.bd_thread.specs.Acted.{Acted};
 ghost use Rattle.bd_thread.specs.Requests.{KeepsTickets};
+ghost use Rattle.bd_thread.specs.Work.{AsksNothing};
 
 use crate::links::Links;
 use crate::thread::Thread;
 use bd_base::{AbortCause, Act, OutOfMemory, ReqId};
 use bd_machine::{Id, Kept};
 use bd_rule_faults::aborted;
-use bd_steps::{abortable, drop_unsent, stop_waiting, stoppable, turn_back};
+use bd_steps::{abortable, drop_unsent, named_by, stop_waiting, stoppable, turn_back};
 
 impl<'a> Thread<'a> {
     /// Aborts a request that is here, where the rules let it for this cause (it has a range, is neither aborted nor to
@@ -83,6 +84,35 @@ impl<'a> Thread<'a> {
         for req in reqs.as_slice() {
             self.stop(links, *req, cause)?;
         }
+        Ok(())
+    }
+
+    /// Stops the request that the open abort `by` names, where the rules let it: it is here on its own thread for no
+    /// limited device, on the abort's handle, neither aborted nor to fail, and not all of it is sent, or it is held.
+    /// Else, as where `by` is no abort that is here, nothing changes.
+    pub(crate) fn stop_named(&mut self, links: &mut Links, by: ReqId) -> Result<(), OutOfMemory>
+        requires { self.old.me < vec_len links.old.queues }
+        ensures acted { OnOk result (Acted self.old links.old self.new links.new) }
+        ensures tickets { OnOk result (KeepsTickets self.old → KeepsTickets self.new) }
+        ensures stops { OnOk result (StopsNamed by self.old links.old self.new links.new) }
+    {
+        let Some(req) = named_by(&self.seen(links), self.setup, self.me, by) else {
+            return Ok(());
+        };
+        self.stop(links, req, AbortCause::Named(by))?;
+        Ok(())
+    }
+
+    /// An open abort stops the request that it names, where it may, and then completes.
+    pub(crate) fn end_abort(&mut self, links: &mut Links, by: ReqId) -> Result<(), OutOfMemory>
+        requires { self.old.me < vec_len links.old.queues }
+        ensures acted { OnOk result (Acted self.old links.old self.new links.new) }
+        ensures tickets { OnOk result (KeepsTickets self.old → KeepsTickets self.new) }
+        ensures ends { OnOk result (EndsAbort by self.old links.old self.new links.new) }
+        ensures alone { OnOk result (AsksNothing links.old links.new) }
+    {
+        self.stop_named(links, by)?;
+        let _completed = self.complete(links, by)?;
         Ok(())
     }
 }

@@ -1,12 +1,13 @@
 //! Requests over error devices: the decisions that they take of the registry, and those that are kept without an
 //! answer.
-ghost use Rattle.std.specs.Prelude.{◌≡◌, ◌<◌, true, length, vec_len, IfOk, None, OnOk, Some};
+ghost use Rattle.std.specs.Prelude.{◌≡◌, ◌++◌, ◌∷◌, [], ◌<◌, true, length, vec_len, IfOk, None, OnOk, Some};
 ghost use Rattle.bd_base.specs.declared.act.Act.TheVariants as acts;
 ghost use Rattle.bd_links.specs.Entries.{longer};
 ghost use Rattle.bd_machine.specs.Kept.{request_here};
 ghost use Rattle.bd_registry.specs.State.{rows_of};
 ghost use Rattle.bd_thread.specs.Acted.{Acted};
-ghost use Rattle.bd_thread.specs.Injections.{asked_of, decision_asked, pend_due, Decides, NoDecisionOf, Pends, StandsAsked, TakesDecision};
+ghost use Rattle.bd_thread.specs.Calls.{NoCallOf, StandsAsked};
+ghost use Rattle.bd_thread.specs.Injections.{asked_of, decision_asked, pend_due, Decides, NoDecisionOf, Pends, TakesDecision};
 ghost use Rattle.bd_thread.specs.Lines.{may_ask};
 ghost use Rattle.bd_thread.specs.Requests.{KeepsTickets};
 ghost use Rattle.bd_thread.specs.Seen.{untaken, view_of};
@@ -167,7 +168,8 @@ impl<'a> Thread<'a> {
 
     /// Notes a request, which is to be carried on in a turn that has the registry.
     pub(crate) fn note_call(&mut self, req: ReqId) -> Result<(), OutOfMemory>
-        ensures { OnOk result (self.new ≡ record self.old { calls = self.new.calls }) }
+        ensures thread { OnOk result (self.new ≡ record self.old { calls = self.new.calls }) }
+        ensures noted { OnOk result (self.new.calls.items ≡ self.old.calls.items ++ req ∷ []) }
     {
         self.calls.push_back(req)?;
         Ok(())
@@ -188,15 +190,16 @@ impl<'a> Thread<'a> {
         Ok(())
     }
 
-    // Takes the decisions that the request waits for, and then carries it on.
+    // Asks the registry for what the request waits for, decisions or what a reset asks, and then carries it on.
     fn call(&mut self, links: &mut Links, req: ReqId) -> Result<(), OutOfMemory>
         requires me { self.old.me < vec_len links.old.queues }
         requires rows { links.old.registry.setup ≡ rows_of self.old.setup.now }
         ensures acted { OnOk result (Acted self.old links.old self.new links.new) }
         ensures tickets { OnOk result (KeepsTickets self.old → KeepsTickets self.new) }
-        ensures quiet { OnOk result (Idles (NoDecisionOf req) self.old links.old self.new links.new) }
+        ensures quiet { OnOk result (Idles (NoCallOf req) self.old links.old self.new links.new) }
     {
         self.decide_all(links, req)?;
+        self.reset(links, req)?;
         self.carry(links, req)?;
         Ok(())
     }
@@ -217,7 +220,41 @@ impl<'a> Thread<'a> {
         Ok(())
     }
 
-    /// Asks the registry for what the noted requests wait for, in a turn that added entries since there were this many.
+    // Asks the registry for what the first noted request waits for, in a turn that added no entry since there were this
+    // many. It stays noted.
+    fn call_first(&mut self, links: &mut Links, entries: usize) -> Result<(), OutOfMemory>
+        requires me { self.old.me < vec_len links.old.queues }
+        requires rows { links.old.registry.setup ≡ rows_of self.old.setup.now }
+        ensures acted { OnOk result (Acted self.old links.old self.new links.new) }
+        ensures tickets { OnOk result (KeepsTickets self.old → KeepsTickets self.new) }
+        ensures quiet { OnOk result (Idles (StandsAsked None) self.old links.old self.new links.new) }
+    {
+        if entries != links.entries.len() {
+            return Ok(());
+        }
+        let Some(req) = self.calls.front().copied() else {
+            return Ok(());
+        };
+        self.call(links, req)?;
+        Ok(())
+    }
+
+    // Asks the registry for what all noted requests wait for, in a turn that added entries since there were this many.
+    fn call_rest(&mut self, links: &mut Links, entries: usize) -> Result<(), OutOfMemory>
+        requires me { self.old.me < vec_len links.old.queues }
+        requires rows { links.old.registry.setup ≡ rows_of self.old.setup.now }
+        ensures acted { OnOk result (Acted self.old links.old self.new links.new) }
+        ensures tickets { OnOk result (KeepsTickets self.old → KeepsTickets self.new) }
+        ensures quiet { OnOk result (entries ≡ length links.old.entries → Idles (StandsAsked None) self.old links.old self.new links.new) }
+    {
+        if entries != links.entries.len() {
+            self.call_all(links)?;
+        }
+        Ok(())
+    }
+
+    /// Asks the registry for what the first noted request waits for, where the turn added no entry since there were this
+    /// many, and for what all of them do once it added some.
     pub(crate) fn call_noted(
         &mut self,
         links: &mut Links,
@@ -229,9 +266,8 @@ impl<'a> Thread<'a> {
         ensures tickets { OnOk result (KeepsTickets self.old → KeepsTickets self.new) }
         ensures quiet { OnOk result (entries ≡ length links.old.entries → Idles (StandsAsked None) self.old links.old self.new links.new) }
     {
-        if entries != links.entries.len() {
-            self.call_all(links)?;
-        }
+        self.call_first(links, entries)?;
+        self.call_rest(links, entries)?;
         Ok(())
     }
 

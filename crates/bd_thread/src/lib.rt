@@ -14,6 +14,7 @@ mod lines;
 mod links;
 mod messages;
 mod requests;
+mod resets;
 mod resting;
 mod retries;
 mod steps;

@@ -3,7 +3,7 @@
 ghost use Rattle.std.specs.Prelude.{◌≡◌, ◌<◌, true, vec_len, IfOk, IfSome, OnOk};
 ghost use Rattle.bd_rule_effects.specs.Begun.{with_walk};
 ghost use Rattle.bd_machine.specs.Events.{change_reg};
-ghost use Rattle.bd_steps.specs.Served.{is_served_event};
+ghost use Rattle.bd_steps.specs.Resetting.{is_asked_alone};
 ghost use Rattle.bd_machine.specs.View.{View};
 ghost use Rattle.bd_registry.specs.State.{rows_of};
 ghost use Rattle.bd_rule_view.specs.Came.{came_shut};
@@ -19,7 +19,7 @@ use bd_base::{Act, Answer, Boxed, DevId, Job, OutOfMemory, RegEvent, WalkId};
 use bd_links::next_stamp;
 use bd_machine::{Between, Handle, OpenWalk};
 use bd_rule_effects::{closed, decide, line_done};
-use bd_rule_events::{dropped, freed, got, put_down};
+use bd_rule_events::{dropped, freed, got, put_down, reset_begun, reset_finishes, reset_thaws};
 use bd_rule_script::{asks_event, bound_to, next_line, outcome_of, undecided_job};
 use bd_rule_view::{Records, Sees};
 use bd_steps::{begin_walk, close_due, get_due, made_by, removal_answered};
@@ -68,7 +68,12 @@ impl<'a> Thread<'a> {
     }
 
     // Whether the rules let the thread ask the event, where this has to follow at the registry.
-    fn may_ask_after(&self, links: &Links, between: Option<Between>, event: &RegEvent) -> bool
+    pub(crate) fn may_ask_after(
+        &self,
+        links: &Links,
+        between: Option<Between>,
+        event: &RegEvent,
+    ) -> bool
         ensures { result ≡ may_ask_after self.now links.now between event.now }
     {
         asks_event(
@@ -90,7 +95,7 @@ impl<'a> Thread<'a> {
         event: &RegEvent,
         answer: &Answer,
     ) -> Result<Option<(WalkId, OpenWalk)>, OutOfMemory>
-        requires { is_served_event event.now ≡ true }
+        requires { is_asked_alone event.now ≡ true }
         ensures thread { OnOk result (self.new ≡ record self.old { part = self.new.part }) }
         ensures change { IfOk result (λ walk. (v : View) → v.part ≡ self.old.part → made.now ≡ made_by self.old.setup.now v event.now
             → with_walk self.new.part walk ≡ change_reg self.old.setup.now self.old.me v (came_shut shut) event.now answer.now) }
@@ -124,18 +129,26 @@ impl<'a> Thread<'a> {
             RegEvent::BeginRemove { name } => {
                 removal_answered(&mut self.part, setup, me, shut, name, answer)
             }
+            RegEvent::BeginReset { dev, req } => {
+                reset_begun(&mut self.part, me, *dev, *req, answer)
+            }
+            RegEvent::EndReset { dev } => reset_thaws(&mut self.part, me, *dev, answer),
+            RegEvent::FinishReset { dev } => {
+                reset_finishes(&mut self.part, *dev, answer)?;
+                Ok(None)
+            }
             RegEvent::Destructed { dev } => {
                 freed(&mut self.part, *dev, answer)?;
                 Ok(None)
             }
-            _ => unreachable!(),
+            RegEvent::TakeInjection { .. } => unreachable!(),
         }
     }
 
     // The registry answers an event, and the part is as the answer leaves it; a walk that begins by it is
     // here, and to be put. Where stamps run out it answers out of memory.
     pub(crate) fn ask(&mut self, links: &mut Links, event: RegEvent) -> Result<(), OutOfMemory>
-        requires built { is_served_event event ≡ true }
+        requires built { is_asked_alone event ≡ true }
         requires asked { may_ask self.old links.old event ≡ true }
         requires rows { links.old.registry.setup ≡ rows_of self.old.setup.now }
         ensures acted { OnOk result (Acted self.old links.old self.new links.new) }
@@ -162,7 +175,7 @@ impl<'a> Thread<'a> {
 
     // Asks at once for what has to follow, where anything has.
     fn follow(&mut self, links: &mut Links, due: Option<RegEvent>) -> Result<(), OutOfMemory>
-        requires built { IfSome due (λ event. is_served_event event ≡ true) }
+        requires built { IfSome due (λ event. is_asked_alone event ≡ true) }
         requires asked { IfSome due (λ event. may_ask self.old links.old event ≡ true) }
         requires rows { links.old.registry.setup ≡ rows_of self.old.setup.now }
         ensures acted { OnOk result (Acted self.old links.old self.new links.new) }

@@ -11,18 +11,17 @@ use bd_links::{pop, push};
 use bd_machine::Id;
 use bd_rule_effects::{arrived, took};
 use bd_rule_requests::{count_at, id_of, may_go};
-use bd_steps::{copy_of, is_served_token, leave, may_take};
+use bd_steps::{begin_walk, copy_of, leave, may_take};
 use bd_turns::Message;
 
 impl<'a> Thread<'a> {
-    /// Takes the first message, where it brings the token that it names, and that is one that threads
-    /// take. A walk that is back on the thread that began it ends. None, and nothing changes, where the
-    /// message doesn't, or there is none.
+    /// Takes the first message, where it brings the token that it names. A walk that is back on the thread that began it
+    /// ends; one that begins then, or by news that a reset may begin, is here and to be put, after all else. None, and
+    /// nothing changes, where the message doesn't bring its token, or there is none.
     pub(crate) fn take(&mut self, links: &mut Links) -> Result<Option<Id>, OutOfMemory>
         requires { self.old.me < vec_len links.old.queues }
         ensures acted { OnOk result (Acted self.old links.old self.new links.new) }
         ensures tickets { OnOk result (KeepsTickets self.old → KeepsTickets self.new) }
-        ensures keeps { OnOk result (KeepsRequests self.old links.old self.new links.new) }
         ensures takes { IfOk result (Takes self.old links.old self.new links.new) }
     {
         let me = self.me as usize;
@@ -45,7 +44,7 @@ impl<'a> Thread<'a> {
         )?;
         let id = id_of(sender, self.me, number, &what);
         self.held.land(self.me, id, &what, kept)?;
-        self.held.hold_begun(begun)?;
+        begin_walk(&mut self.held, &mut self.outbox, begun)?;
         self.note(
             links,
             Act::Took {
@@ -57,12 +56,11 @@ impl<'a> Thread<'a> {
         Ok(Some(id))
     }
 
-    /// Whether there is a queue to the thread, and the token is one that threads put and may go there.
+    /// Whether there is a queue to the thread, and the token may go there.
     pub(crate) fn may_put(&self, links: &Links, to: u32, what: &Token) -> bool
         ensures { result ≡ may_put self.now links.now to what.now }
     {
         (to as usize) < links.queues.len()
-            && is_served_token(what)
             && may_go(&self.seen(links), self.setup, self.me, to, what)
     }
 

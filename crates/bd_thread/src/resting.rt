@@ -4,15 +4,15 @@ ghost use Rattle.std.specs.List.{list_all};
 ghost use Rattle.bd_machine.specs.declared.state.Id.TheVariants as ids;
 ghost use Rattle.bd_machine.specs.Kept.{as_request};
 ghost use Rattle.bd_tokens.specs.Tokens.{here_in};
-ghost use Rattle.bd_thread.specs.Resting.{has_destructed_all, is_blocked, is_done, is_line_empty, is_moving, is_own, limited_for, rests, rests_but_for_time};
+ghost use Rattle.bd_thread.specs.Resting.{has_destructed_all, is_blocked, is_done, is_line_empty, is_moving, is_own, is_under_way, limited_for, rests, rests_but_for_time};
 
 use crate::links::Links;
 use crate::thread::Thread;
 use bd_base::ReqId;
 use bd_machine::{Id, Kept, Limited};
-use bd_rule_requests::is_at_own;
+use bd_rule_requests::{is_at_own, is_reset};
 use bd_rule_script::is_script_blocked;
-use bd_steps::{are_done_with, are_settled};
+use bd_steps::{are_done_with, are_settled, reset_event};
 
 // Whether no request waits in the line.
 fn is_line_empty(l: &Limited) -> bool
@@ -64,11 +64,25 @@ impl<'a> Thread<'a> {
         }
     }
 
-    // Whether the request is here on its own thread, and isn't kept without an answer.
+    // Whether it is a reset that asks the registry for nothing: a walk of it is under way, or it waits for others.
+    fn is_under_way(&self, req: ReqId) -> bool
+        ensures { result ≡ is_under_way self.now req (as_request (here_in self.now.held.items (ids.Request req))) }
+    {
+        match self.held.get(Id::Request(req)) {
+            Some(Kept::Request(r)) => {
+                is_reset(r.op) && reset_event(&self.part, req, Some(*r)).is_none()
+            }
+            _ => false,
+        }
+    }
+
+    // Whether the request is here on its own thread, isn't kept without an answer, and is no reset under way.
     fn is_moving(&self, req: ReqId) -> bool
         ensures { result ≡ is_moving self.now req }
     {
-        self.is_own(req) && !self.held.is_pended(self.setup, &self.part, req)
+        self.is_own(req)
+            && !self.held.is_pended(self.setup, &self.part, req)
+            && !self.is_under_way(req)
     }
 
     // How many of its open requests are here and may get their answer without a removal.
@@ -83,8 +97,9 @@ impl<'a> Thread<'a> {
             .count()
     }
 
-    /// Whether each of its open requests is held, kept without an answer, or away at the home of a limited device, and
-    /// nothing is still to be put or done: nothing goes on by itself here but its holds, its lines and its script.
+    /// Whether each of its open requests is held, kept without an answer, away at the home of a limited device, or a reset
+    /// under way, and nothing is still to be put or done: nothing goes on by itself here but its holds, its lines, walks
+    /// that wait for these, and its script.
     pub fn rests_but_for_time(&self, links: &Links) -> bool
         ensures { result ≡ rests_but_for_time self.now links.now }
     {

@@ -4,7 +4,8 @@ ghost use Rattle.bd_machine.specs.declared.state.Id.TheVariants as ids;
 ghost use Rattle.bd_tokens.specs.Tokens.{here_in};
 ghost use Rattle.bd_thread.specs.Acted.{Acted};
 ghost use Rattle.bd_thread.specs.Requests.{KeepsTickets};
-ghost use Rattle.bd_thread.specs.Injections.{is_inject, next_found};
+ghost use Rattle.bd_thread.specs.Calls.{next_found};
+ghost use Rattle.bd_thread.specs.Injections.{is_inject};
 ghost use Rattle.bd_thread.specs.Waits.{Idles, StandsBut, StandsOf};
 ghost use Rattle.bd_thread.specs.Work.{AsksNothing};
 
@@ -14,11 +15,11 @@ use bd_base::{OutOfMemory, ReqId};
 use bd_flight::{Step, next_step};
 use bd_machine::Id;
 
-// Whether it is a decision of an error device.
-fn is_inject(step: Step) -> bool
-    ensures { result ≡ is_inject step }
+// Whether this step asks the registry, a decision of an error device, or the request is a reset that does.
+fn asks(step: Step, as_reset: bool) -> bool
+    ensures { result ≡ is_inject step || as_reset }
 {
-    matches!(step, Step::Inject(_))
+    matches!(step, Step::Inject(_)) || as_reset
 }
 
 // The first that was found, or else this one, where it asks.
@@ -48,7 +49,7 @@ impl<'a> Thread<'a> {
 
     /// Takes the next step of the request, where that is one that threads take as yet and that asks the registry for
     /// nothing: it is aborted by a mark, cut, kept without an answer, released, held, completed, or put on its way to
-    /// the home of a limited device. Whether its next step is a decision of an error device.
+    /// the home of a limited device. Whether it asks the registry next: for a decision of an error device, or as a reset.
     pub(crate) fn carry(&mut self, links: &mut Links, req: ReqId) -> Result<bool, OutOfMemory>
         requires { self.old.me < vec_len links.old.queues }
         ensures acted { OnOk result (Acted self.old links.old self.new links.new) }
@@ -74,9 +75,11 @@ impl<'a> Thread<'a> {
                 Ok(false)
             }
             _ => {
+                self.stop_named(links, req)?;
                 self.go_on(links, req)?;
                 self.go_out(links, req, step)?;
-                Ok(is_inject(step))
+                let as_reset = self.asks_reset(links, req);
+                Ok(asks(step, as_reset))
             }
         }
     }
@@ -84,7 +87,7 @@ impl<'a> Thread<'a> {
     /// Carries the open requests on, in order of acceptance, up to the first that can take a step, and only where there
     /// are still as many entries as there were: in a turn that did nothing else. A request is cut as it is accepted,
     /// aborted as the mark comes, held or completed as its last piece comes back, and released in the turn whose moment
-    /// it is held until, so there is hardly ever one. The first of them that waits for a decision of an error device.
+    /// it is held until, so there is hardly ever one. The first of them that asks the registry for something next.
     pub(crate) fn carry_all(
         &mut self,
         links: &mut Links,

@@ -2,6 +2,7 @@
 //! still to be put.
 ghost use Rattle.std.specs.Prelude.{◌≡◌, ◌<◌, ◌≤◌, Some, true, vec_len, IfOk, OnOk};
 ghost use Rattle.bd_thread.specs.Acted.{Acted};
+ghost use Rattle.bd_thread.specs.Begins.{Begins, CutsOrSetsOut, Submits, SubmitsThrough};
 ghost use Rattle.bd_thread.specs.Seen.{number_of, setup_of};
 ghost use Rattle.bd_thread.specs.Requests.{IsAsked, IsFresh, KeepsTickets};
 ghost use Rattle.bd_machine.specs.declared.state.Id.TheVariants as ids;
@@ -16,11 +17,10 @@ ghost use Rattle.bd_registry.specs.State.{rows_of};
 use crate::links::Links;
 use crate::requests::Refused;
 use crate::thread::Thread;
-use bd_base::{DevId, Errno, HandleId, Job, OutOfMemory, ReqId, Token};
+use bd_base::{DevId, Errno, HandleId, Job, Op, OutOfMemory, ReqId, Token};
 use bd_machine::{Id, Progress};
 use bd_rule_lines::has_room;
-use bd_rule_requests::has_range;
-use bd_rule_script::{bound_to, undecided_job};
+use bd_rule_script::{bound_to, op_asked, undecided_job};
 use bd_rule_view::{Submission, as_piece};
 use bd_steps::{first_due, next_ticket};
 
@@ -56,6 +56,7 @@ impl<'a> Thread<'a> {
         requires { self.old.me < vec_len links.old.queues }
         ensures acted { OnOk result (Acted self.old links.old self.new links.new) }
         ensures tickets { OnOk result (KeepsTickets self.old → KeepsTickets self.new) }
+        ensures begins { OnOk result (CutsOrSetsOut req self.old links.old self.new links.new) }
         ensures alone { OnOk result (AsksNothing links.old links.new) }
     {
         let pieces = self.cut(links, req)?;
@@ -65,7 +66,23 @@ impl<'a> Thread<'a> {
         Ok(())
     }
 
-    // Submits through a handle, and cuts what was accepted; where it can't be cut yet, it is set out or noted.
+    // Begins a request that was accepted: one on a range is cut, set out or noted; an abort stops the request that it
+    // names, and completes; and a reset is noted.
+    fn begin_request(&mut self, links: &mut Links, req: ReqId, op: Op) -> Result<(), OutOfMemory>
+        requires { self.old.me < vec_len links.old.queues }
+        ensures acted { OnOk result (Acted self.old links.old self.new links.new) }
+        ensures tickets { OnOk result (KeepsTickets self.old → KeepsTickets self.new) }
+        ensures begins { OnOk result (Begins op req self.old links.old self.new links.new) }
+        ensures alone { OnOk result (AsksNothing links.old links.new) }
+    {
+        match op {
+            Op::Abort(_) => self.end_abort(links, req),
+            Op::Reset => self.note_call(req),
+            _ => self.cut_or_note(links, req),
+        }
+    }
+
+    // Submits through a handle, and begins what was accepted.
     #[tactic(auto, using(crate::proofs::Alone::alone_none))]
     fn submit_through(
         &mut self,
@@ -78,6 +95,7 @@ impl<'a> Thread<'a> {
         ensures acted { OnOk result (Acted self.old links.old self.new links.new) }
         ensures tickets { OnOk result (KeepsTickets self.old → KeepsTickets self.new) }
         ensures quiet { OnOk result (Idles IsFilled self.old links.old self.new links.new) }
+        ensures submits { IfOk result (SubmitsThrough handle asked self.old links.old self.new links.new) }
         ensures alone { OnOk result (AsksNothing links.old links.new) }
     {
         let Some(ticket) = next_ticket(self.me, self.part.next_request) else {
@@ -85,7 +103,7 @@ impl<'a> Thread<'a> {
         };
         match self.submit(links, handle, asked, ticket) {
             Ok(req) => {
-                self.cut_or_note(links, req)?;
+                self.begin_request(links, req, asked.op)?;
                 Ok(true)
             }
             Err((refused, ticket)) => {
@@ -106,6 +124,7 @@ impl<'a> Thread<'a> {
         ensures acted { OnOk result (Acted self.old links.old self.new links.new) }
         ensures tickets { OnOk result (KeepsTickets self.old → KeepsTickets self.new) }
         ensures quiet { OnOk result (Idles NoSubmission self.old links.old self.new links.new) }
+        ensures submits { IfOk result (Submits self.old links.old self.new links.new) }
         ensures alone { OnOk result (AsksNothing links.old links.new) }
     {
         if links.shut || !has_room(self.part.requests.len()) {
@@ -122,15 +141,13 @@ impl<'a> Thread<'a> {
         else {
             return Ok(false);
         };
+        let bound = bound_to(&self.part, handle);
         let asked = Submission {
-            op: *op,
+            op: op_asked(&self.part, bound, *op),
             lba: *lba,
             count: *count,
         };
-        if !has_range(asked.op) {
-            return Ok(false);
-        }
-        match bound_to(&self.part, handle) {
+        match bound {
             Some(id) => self.submit_through(links, id, asked),
             None => {
                 self.refuse(links, None, asked, Errno::BadDesc)?;
@@ -162,7 +179,8 @@ impl<'a> Thread<'a> {
 
     // What a token that came brings about: a request waits in a device's line, or is back and goes on; a piece goes
     // back from a full home, or is back and completes its request where it was the last of its pieces; and a walk
-    // visits this thread, where the mark of a removal stops what waits.
+    // visits this thread, where the mark of a removal or of a reset stops what waits. What a walk's end or the news that
+    // a reset may begin lets resets ask of the registry is noted.
     fn came(&mut self, links: &mut Links, id: Id) -> Result<(), OutOfMemory>
         requires { self.old.me < vec_len links.old.queues }
         ensures acted { OnOk result (Acted self.old links.old self.new links.new) }
@@ -174,9 +192,13 @@ impl<'a> Thread<'a> {
             Id::Piece(req, k) => self.piece_came(links, req, k),
             Id::Walk(walk) => {
                 self.visit(links, walk)?;
+                self.note_resets()?;
                 Ok(())
             }
-            _ => Ok(()),
+            Id::Notice { .. } => {
+                self.note_resets()?;
+                Ok(())
+            }
         }
     }
 
@@ -405,6 +427,7 @@ impl<'a> Thread<'a> {
         self.serve_all(links)?;
         self.limit_all(links)?;
         self.release_all(links)?;
+        self.walk_all(links)?;
         self.command_all(links)?;
         self.call_noted(links, before)?;
         self.end_all(links)?;

@@ -2,7 +2,9 @@
 ghost use Rattle.std.specs.Prelude.{◌≡◌, ◌<◌, vec_len, IfOk, OnOk, Some};
 ghost use Rattle.bd_thread.specs.Acted.{Acted};
 ghost use Rattle.bd_thread.specs.Requests.{KeepsTickets};
-ghost use Rattle.bd_thread.specs.Walking.{visit_due, IsVisited, StopsFor, Visits};
+ghost use Rattle.bd_thread.specs.Waits.{Idles};
+ghost use Rattle.bd_thread.specs.Walking.{visit_due, IsVisited, NoVisit, NoVisitOf, StopsFor, Visits};
+ghost use Rattle.bd_thread.specs.Work.{AsksNothing};
 
 use crate::links::Links;
 use crate::thread::Thread;
@@ -41,7 +43,7 @@ impl<'a> Thread<'a> {
         Ok(())
     }
 
-    // Where a walk of this kind set the mark of a removal, what waits here is aborted.
+    // Where a walk of this kind set the mark of a removal or of a reset, what waits here is aborted.
     fn stop_for(&mut self, links: &mut Links, kind: WalkKind, dev: DevId) -> Result<(), OutOfMemory>
         requires { self.old.me < vec_len links.old.queues }
         ensures acted { OnOk result (Acted self.old links.old self.new links.new) }
@@ -50,13 +52,14 @@ impl<'a> Thread<'a> {
     {
         match kind {
             WalkKind::Removal => self.stop_all(links, AbortCause::Removed(dev)),
-            _ => Ok(()),
+            WalkKind::Freeze => self.stop_all(links, AbortCause::Frozen(dev)),
+            WalkKind::Drain | WalkKind::Thaw => Ok(()),
         }
     }
 
     /// A walk that is here visits this thread, where that is the next one it visits and, for a drain, no
     /// request stands against it: true, the marks of its device are set or taken, it ends, or is to be put
-    /// to where it goes next, and what the mark of a removal stops is aborted. Else nothing changes.
+    /// to where it goes next, and what the mark of a removal or of a reset stops is aborted. Else nothing changes.
     pub(crate) fn visit(&mut self, links: &mut Links, id: WalkId) -> Result<bool, OutOfMemory>
         requires { self.old.me < vec_len links.old.queues }
         ensures acted { OnOk result (Acted self.old links.old self.new links.new) }
@@ -69,5 +72,40 @@ impl<'a> Thread<'a> {
         self.pass(links, id, walk)?;
         self.stop_for(links, walk.kind, walk.dev)?;
         Ok(true)
+    }
+
+    // A walk that is here visits this thread, where it may: then the resets that ask the registry for something next
+    // are noted. Else nothing changes.
+    fn walk(&mut self, links: &mut Links, id: WalkId) -> Result<(), OutOfMemory>
+        requires { self.old.me < vec_len links.old.queues }
+        ensures acted { OnOk result (Acted self.old links.old self.new links.new) }
+        ensures tickets { OnOk result (KeepsTickets self.old → KeepsTickets self.new) }
+        ensures quiet { OnOk result (Idles (NoVisitOf id) self.old links.old self.new links.new) }
+        ensures alone { OnOk result (AsksNothing links.old links.new) }
+    {
+        let visited = self.visit(links, id)?;
+        if !visited {
+            return Ok(());
+        }
+        self.note_resets()?;
+        Ok(())
+    }
+
+    /// Each walk that is here and waits visits this thread, where it may: a drain does once no request stands against
+    /// it any more.
+    pub(crate) fn walk_all(&mut self, links: &mut Links) -> Result<(), OutOfMemory>
+        requires { self.old.me < vec_len links.old.queues }
+        ensures acted { OnOk result (Acted self.old links.old self.new links.new) }
+        ensures tickets { OnOk result (KeepsTickets self.old → KeepsTickets self.new) }
+        ensures quiet { OnOk result (Idles NoVisit self.old links.old self.new links.new) }
+        ensures alone { OnOk result (AsksNothing links.old links.new) }
+    {
+        for place in 0..self.held.walk_count() {
+            let Some(id) = self.held.walk_at(place) else {
+                return Ok(());
+            };
+            self.walk(links, id)?;
+        }
+        Ok(())
     }
 }

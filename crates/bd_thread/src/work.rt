@@ -70,6 +70,7 @@ impl<'a> Thread<'a> {
         self.serve_all(links)?;
         self.limit_all(links)?;
         self.release_all(links)?;
+        self.walk_all(links)?;
         self.submit_all(links)?;
         self.destruct_all(links)?;
         self.put_outbox(links)?;

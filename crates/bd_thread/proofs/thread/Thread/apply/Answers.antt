@@ -18,6 +18,7 @@ use Rattle.bd_steps.specs.Serving.{may_hold}
 use Rattle.bd_thread.proofs.Applies.{apply_steps, at_home, serves_own}
 use Rattle.bd_thread.proofs.Going.{acted_by, carried}
 use Rattle.bd_thread.proofs.Tickets.{same_tickets}
+use Rattle.bd_thread.proofs.Timing.{untimed}
 use Rattle.bd_thread.proofs.thread.Thread.apply.Goals as goal
 
 pub returns-clause-acted : goal.returns-clause-acted
@@ -42,7 +43,7 @@ returns-clause-acted c =
     ∙ next.ready.serves in
     let stepped = apply_steps t.setup.now t.me t.part here links.registry.state links.shut (length links.entries) (queues_of links.queues.items) n.req n.k dev ends.Done n.piece.now size c.in_ok-piece.piece c.serve.new.bases (here_in c.hold.new.self.items)
     home-is c.size_of-size.ensures first next.ready.here (serves_own size dev (find (is_base dev) t.part.bases) n.piece.now ready) holds refl c.in_ok-piece.ensures.bases c.in_ok-piece.ensures.piece c.in_ok-hold.ensures.ok in
-    carried (Acted t links) new after _ _ c.in_ok-note.ensures.thread c.in_ok-note.ensures.links (acted_by t links new after act refl refl refl refl refl stepped own)
+    carried (Acted t links) new after _ _ c.in_ok-note.ensures.thread c.in_ok-note.ensures.links (acted_by t links new after act refl refl refl refl refl stepped own (untimed act t new refl refl))
 
 pub returns-clause-tickets : goal.returns-clause-tickets
 returns-clause-tickets c = λ keeps.

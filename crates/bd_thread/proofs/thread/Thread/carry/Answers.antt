@@ -1,8 +1,13 @@
-use Rattle.std.proofs.Common.{◌≡◌, ◌&&◌, Bool, true, false, refl, sym, ◌∙◌, ap, subst}
+use Rattle.std.proofs.Common.{◌≡◌, ◌&&◌, ◌||◌, Bool, true, false, refl, sym, ◌∙◌, ap, ap₂, subst}
 use Rattle.bd_flight.specs.declared.next.Step.{Step}
 use Rattle.bd_flight.specs.declared.next.Step.TheVariants as steps
 use Rattle.bd_flight.specs.Next.{may_take, next_step}
 use Rattle.bd_machine.specs.View.{View}
+use Rattle.bd_thread.specs.declared.links.Links.{Links}
+use Rattle.bd_thread.specs.declared.thread.Thread.{Thread}
+use Rattle.bd_thread.specs.Aborts.{NoneNamed}
+use Rattle.bd_thread.specs.Acted.{Acted}
+use Rattle.bd_thread.specs.Calls.{asks_reset}
 use Rattle.bd_thread.specs.Injections.{asks_decision, is_inject}
 use Rattle.bd_thread.specs.Seen.{view_of}
 use Rattle.bd_thread.specs.Delays.{StandsStill}
@@ -13,6 +18,7 @@ use Rattle.bd_thread.proofs.Carried.{abort_is_due, cut_is_due, other_step}
 use Rattle.bd_thread.proofs.Going.{acted_none, acted_then}
 use Rattle.bd_thread.proofs.Idle.{cuts_more, idle_here, idle_then, stops_more}
 use Rattle.bd_thread.proofs.Limiting.{not_here}
+use Rattle.bd_thread.proofs.Naming.{stops_named_alone, stops_named_idle}
 use Rattle.bd_thread.proofs.Injecting.{pend_is_due, pends_alone, pends_more}
 use Rattle.bd_thread.proofs.thread.Thread.carry.Goals as goal
 
@@ -81,6 +87,7 @@ returns-in_ok-go_out-in_default c =
     let links = c.args.links.now in
     let req = c.args.req in
     let step = c.next_step-step.result in
+    let stops = c.in_ok-stop_named-in_default.ensures in
     let gone = c.in_ok-go_on-in_default.ensures in
     let out = c.in_ok-go_out-in_default.ensures in
     let step-is = c.next_step-step.ensures.step ∙ ap (λ (v : View). next_step t.setup.now t.me v req) c.seen.ensures in
@@ -88,14 +95,28 @@ returns-in_ok-go_out-in_default c =
     let may : may_take t.setup.now t.me (view_of t links) req (next_step t.setup.now t.me (view_of t links) req) ≡ true =
     sym (ap (may_take t.setup.now t.me (view_of t links) req) step-is) ∙ ap (λ (v : View). may_take t.setup.now t.me v req step) (sym c.seen.ensures) ∙ c.next_step-step.ensures.allowed in
     let asks : is_inject step ≡ asks_decision t links req = ap is_inject step-is ∙ asks_as (next_step t.setup.now t.me (view_of t links) req) (may_take t.setup.now t.me (view_of t links) req (next_step t.setup.now t.me (view_of t links) req)) may in
-    let both : Idles (λ t links. StandsStill req t links × NoWayOut req step t links) t links c.go_out.new.self c.go_out.new.links =
-    idle_then {P = StandsStill req} {Q = NoWayOut req step} t links c.go_on.new.self c.go_on.new.links c.go_out.new.self c.go_out.new.links gone.acted out.acted (λ still no_way. (still, no_way)) gone.quiet out.quiet in
+    let first-acted : Acted t links c.go_on.new.self c.go_on.new.links = acted_then _ _ _ _ _ _ stops.acted gone.acted in
+    let first : Idles (λ t links. NoneNamed req t links × StandsStill req t links) t links c.go_on.new.self c.go_on.new.links =
+    idle_then {P = NoneNamed req} {Q = StandsStill req} t links c.stop_named.new.self c.stop_named.new.links c.go_on.new.self c.go_on.new.links stops.acted gone.acted (λ named still. (named, still))
+    (stops_named_idle req t links c.stop_named.new.self c.stop_named.new.links stops.stops) gone.quiet in
+    let all : Idles (λ t links. NoneNamed req t links × StandsStill req t links × NoWayOut req step t links) t links c.go_out.new.self c.go_out.new.links =
+    idle_then {P = λ t links. NoneNamed req t links × StandsStill req t links} {Q = NoWayOut req step} t links c.go_on.new.self c.go_on.new.links c.go_out.new.self c.go_out.new.links first-acted out.acted
+    (λ both no_way. (both.0, both.1, no_way)) first out.quiet in
+    let stops-alone = stops_named_alone req t links c.stop_named.new.self c.stop_named.new.links stops.stops in
     record {
-      acted = acted_then _ _ _ _ _ _ gone.acted out.acted;
-      tickets = λ keeps. out.tickets (gone.tickets keeps);
+      acted = acted_then _ _ _ _ _ _ first-acted out.acted;
+      tickets = λ keeps. out.tickets (gone.tickets (stops.tickets keeps));
       quiet = λ few.
-          let i = both few in
-          let no_way : NoWayOut req (next_step t.setup.now t.me (view_of t links) req) t links = subst (λ (s : Step). NoWayOut req s t links) step-is i.waits.1 in
-          record { thread = i.thread; links = i.links; waits = record { none = record { step = stays; still = i.waits.0; out = no_way }; asks_is = c.is_inject.ensures ∙ asks } };
-      alone = alone_then _ _ _ gone.alone out.alone;
+          let i = all few in
+          let no_way : NoWayOut req (next_step t.setup.now t.me (view_of t links) req) t links = subst (λ (s : Step). NoWayOut req s t links) step-is i.waits.2 in
+          let as_reset : c.asks_reset-as_reset.result ≡ asks_reset t links req = c.asks_reset-as_reset.ensures ∙ ap₂ (λ (n : Thread) (l : Links). asks_reset n l req) i.thread i.links in
+          record {
+            thread = i.thread;
+            links = i.links;
+            waits = record {
+              none = record { step = stays; named = i.waits.0; still = i.waits.1; out = no_way };
+              asks_is = c.asks.ensures ∙ ap (λ b. is_inject step || b) as_reset ∙ ap (λ b. b || asks_reset t links req) asks;
+            };
+          };
+      alone = alone_then _ _ _ (alone_then _ _ _ stops-alone gone.alone) out.alone;
     }

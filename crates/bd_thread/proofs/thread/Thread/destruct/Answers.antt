@@ -20,6 +20,7 @@ use Rattle.bd_thread.specs.Seen.{untaken}
 use Rattle.bd_thread.proofs.Destructs.{destruct_steps}
 use Rattle.bd_thread.proofs.Going.{acted_by, carried}
 use Rattle.bd_thread.proofs.Tickets.{same_tickets}
+use Rattle.bd_thread.proofs.Timing.{untimed}
 use Rattle.bd_thread.proofs.thread.Thread.destruct.Goals as goal
 
 pub returns-clause-acted : goal.returns-clause-acted
@@ -37,7 +38,7 @@ returns-clause-acted c =
     let due : digest_due (is_malloc setup dev) (find (is_base dev) t.part.bases) ≡ Some digest =
     ap (λ (bs : List Base). digest_due (is_malloc setup dev) (find (is_base dev) bs)) (sym c.as_slice.ensures) ∙ sym c.digest_due.ensures ∙ c.in-Some.is in
     let stepped = destruct_steps setup t.me t.part c.destructed.new.part (here_in t.held.items) links.registry.state links.shut (length links.entries) (queues_of links.queues.items) dev digest may due c.in_ok-destructed.ensures in
-    carried (Acted t links) new after _ _ c.in_ok-note.ensures.thread c.in_ok-note.ensures.links (acted_by t links new after act refl refl refl refl refl stepped refl)
+    carried (Acted t links) new after _ _ c.in_ok-note.ensures.thread c.in_ok-note.ensures.links (acted_by t links new after act refl refl refl refl refl stepped refl (untimed act t new refl refl))
 
 pub returns-clause-tickets : goal.returns-clause-tickets
 returns-clause-tickets c = λ keeps.

@@ -3,7 +3,7 @@ use Rattle.std.specs.Option.{option_copied}
 use Rattle.bd_base.specs.declared.event.RegEvent.{RegEvent}
 use Rattle.bd_base.specs.declared.event.RegEvent.TheVariants as events
 use Rattle.bd_machine.specs.Asked.{undecided_job}
-use Rattle.bd_steps.specs.Served.{is_served_event}
+use Rattle.bd_steps.specs.Resetting.{is_asked_alone}
 use Rattle.bd_steps.specs.Following.{get_due}
 use Rattle.bd_thread.specs.Lines.{job_now, may_ask, open_of, Follows}
 use Rattle.bd_thread.proofs.Going.{acted_then}
@@ -20,7 +20,7 @@ returns-then-not-may_ask-clause-opened c =
     unopened_by t links (events.Open c.in_ok-copy.field-0 c.in-Some-Open.write) (open_of (job_now t links)) named (sym c.may_ask.ensures ∙ c.if-not-may_ask.true)
 
 pub follow-requires-clause-built : goal.follow-requires-clause-built
-follow-requires-clause-built c = subst (λ (o : Option RegEvent). IfSome o (λ event. is_served_event event ≡ true)) (sym c.get_due-due.ensures) (get_built c.ask.new.self.me c.between.result)
+follow-requires-clause-built c = subst (λ (o : Option RegEvent). IfSome o (λ event. is_asked_alone event ≡ true)) (sym c.get_due-due.ensures) (get_built c.ask.new.self.me c.between.result)
 
 pub follow-requires-clause-asked : goal.follow-requires-clause-asked
 follow-requires-clause-asked c = subst (λ (o : Option RegEvent). IfSome o (λ event. may_ask c.ask.new.self c.ask.new.links event ≡ true)) (sym (c.get_due-due.ensures ∙ ap (get_due c.ask.new.self.me) c.between.ensures)) (get_asked c.ask.new.self c.ask.new.links)

@@ -53,6 +53,7 @@ returns c =
     let entries = c.in_ok-note.ensures.links in
     let is : IsVisited id w t links new shared = record {
       next = c.in_ok-next.next;
+      begins = sym moves ∙ ap (λ (x : OpenWalk). walk_moved me id x ++ begun c.in_ok-next.next) c.visited-after.ensures;
       thread = refl;
       held = held;
       outbox = c.in_ok-send_on.ensures

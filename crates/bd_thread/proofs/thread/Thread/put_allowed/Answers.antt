@@ -18,6 +18,7 @@ use Rattle.bd_steps.specs.Sending.{kept_on_way}
 use Rattle.bd_thread.proofs.Going.{acted_by, carried}
 use Rattle.bd_thread.proofs.Put.{put_steps, may_parts}
 use Rattle.bd_thread.proofs.Tickets.{same_tickets}
+use Rattle.bd_thread.proofs.Timing.{untimed}
 use Rattle.bd_thread.proofs.thread.Thread.put_allowed.Goals as goal
 
 pub returns-clause-acted : goal.returns-clause-acted
@@ -36,11 +37,11 @@ returns-clause-acted c =
     (acted_by t links new after (acts.Put to number what) refl refl c.in_ok-push.ensures.len refl refl
     (put_steps t.setup.now t.me t.part c.put.new.part here (here_in c.leave.new.tokens.items) links.registry.state links.shut (length links.entries) queues (queues_of c.push.new.queues.items) to number what c.in_ok-kept.kept
     (c.count_at-number.ensures ∙ ap (λ (counts : List (ℕ × ℕ)). count_at counts to) c.as_slice.ensures)
-    may.1 may.2
+    may.1
     (ap (λ (id : Id). kept_on_way what (here id)) (sym c.id_of-id.ensures) ∙ c.in_ok-kept.ensures.kept)
     c.in_ok-put.ensures
     (c.in_ok-kept.ensures.gone ∙ ap (λ (id : Id). λ j. cond (same_id id j) None (here j)) c.id_of-id.ensures)
-    (c.in_ok-push.ensures.ok ∙ ap (λ (w : Token). let m : Message = record { sender = t.me; what = w; kept = c.in_ok-kept.kept } in λ r. cond (r == to) (queues r ++ m ∷ []) (queues r)) c.in_ok-told.ensures)) refl)
+    (c.in_ok-push.ensures.ok ∙ ap (λ (w : Token). let m : Message = record { sender = t.me; what = w; kept = c.in_ok-kept.kept } in λ r. cond (r == to) (queues r ++ m ∷ []) (queues r)) c.in_ok-told.ensures)) refl (untimed (acts.Put to number what) t new refl refl))
 
 pub returns-clause-tickets : goal.returns-clause-tickets
 returns-clause-tickets c = λ keeps.

@@ -1,7 +1,7 @@
 use Rattle.std.proofs.Common.{◌≡◌, true, Option, IfSome, sym, ◌∙◌, ap, subst}
 use Rattle.std.proofs.lemmas.Result.{on_ok_weaker}
 use Rattle.bd_base.specs.declared.event.RegEvent.{RegEvent}
-use Rattle.bd_steps.specs.Served.{is_served_event}
+use Rattle.bd_steps.specs.Resetting.{is_asked_alone}
 use Rattle.bd_steps.specs.Following.{close_due}
 use Rattle.bd_thread.specs.Lines.{may_ask, Follows}
 use Rattle.bd_thread.proofs.Going.{acted_then}
@@ -9,7 +9,7 @@ use Rattle.bd_thread.proofs.Registering.{close_built, close_follows}
 use Rattle.bd_thread.proofs.thread.Thread.put_and_close.Goals as goal
 
 pub follow-requires-clause-built : goal.follow-requires-clause-built
-follow-requires-clause-built c = subst (λ (o : Option RegEvent). IfSome o (λ event. is_served_event event ≡ true)) (sym c.close_due-due.ensures) (close_built c.args.handle.id c.ask.new.self.me c.between.result)
+follow-requires-clause-built c = subst (λ (o : Option RegEvent). IfSome o (λ event. is_asked_alone event ≡ true)) (sym c.close_due-due.ensures) (close_built c.args.handle.id c.ask.new.self.me c.between.result)
 
 pub follow-requires-clause-asked : goal.follow-requires-clause-asked
 follow-requires-clause-asked c =

@@ -18,10 +18,10 @@ returns-clause-quiet c = λ few.
 
 pub returns-clause-alone : goal.returns-clause-alone
 returns-clause-alone c =
-    alone_then _ _ _ (takes_alone _ _ _ _ _ c.in_ok-id.ensures.keeps c.in_ok-id.ensures.takes) (comes_alone c.in-Some.id c.take.new.self c.take.new.links c.came.new.self c.came.new.links c.in_ok-came.ensures.came)
+    alone_then _ _ _ (takes_alone _ _ _ _ _ c.in_ok-id.ensures.takes) (comes_alone c.in-Some.id c.take.new.self c.take.new.links c.came.new.self c.came.new.links c.in_ok-came.ensures.came)
 
 pub returns-in_default-clause-alone : goal.returns-in_default-clause-alone
-returns-in_default-clause-alone c = takes_alone _ _ _ _ _ c.in_ok-id.ensures.keeps c.in_ok-id.ensures.takes
+returns-in_default-clause-alone c = takes_alone _ _ _ _ _ c.in_ok-id.ensures.takes
 
 pub returns-clause-receives : goal.returns-clause-receives
 returns-clause-receives c = record {

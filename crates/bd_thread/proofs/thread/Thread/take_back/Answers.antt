@@ -12,7 +12,7 @@ returns c =
     let middle : Thread = record old { retries = c.piece_back.new.retries } in
     let own : (c.args.req.thread == old.me) ≡ true = eq-eqb c.args.req.thread old.me c.if-req-self.false in
     record {
-      acted = acted_then old links middle links c.hold_or_complete.new.self c.hold_or_complete.new.links (acted_still old links middle links refl refl refl refl refl refl) c.in_ok-hold_or_complete.ensures.acted;
+      acted = acted_then old links middle links c.hold_or_complete.new.self c.hold_or_complete.new.links (acted_still old links middle links refl refl refl refl refl refl refl) c.in_ok-hold_or_complete.ensures.acted;
       tickets = λ keeps. c.in_ok-hold_or_complete.ensures.tickets (same_tickets old middle refl refl refl keeps);
       back = subst (λ (b : Bool). ComesOwn b c.args.req c.args.k old links c.hold_or_complete.new.self c.hold_or_complete.new.links) (sym own)
           (record {
