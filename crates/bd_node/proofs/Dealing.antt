@@ -1,5 +1,5 @@
 -- Seats that were dealt to reactors, had their turns, and were put in the order of their numbers, are at their places again.
-use Rattle.std.proofs.Common.{◌≡◌, ℕ, zero, suc, ◌+◌, ◌<◌, ◌≤◌, Bool, true, false, cond, nat_lt, List, [], ◌∷◌, length, sum_by, All, IsPermutation, ◌⊎◌, inl, inr, None, refl, sym, ◌∙◌, ap, subst, lt-ltb, ltb-true, arith}
+use Rattle.std.proofs.Common.{◌≡◌, ℕ, zero, suc, ◌+◌, ◌<◌, ◌≤◌, Bool, true, false, cond, nat_lt, List, [], ◌∷◌, length, sum_by, All, IsPermutation, ◌⊎◌, inl, inr, Option, None, refl, sym, ◌∙◌, ap, subst, lt-ltb, ltb-true, arith}
 use Rattle.std.specs.List.{list_all}
 use Rattle.std.specs.List.Sorted.{IsNonDecreasingBy}
 use Rattle.std.specs.Prelude.{slice_index_or}
@@ -12,9 +12,11 @@ use Rattle.bd_base.specs.declared.setup.Setup.{Setup}
 use Rattle.bd_law_threads.specs.Course.{Phase}
 use Rattle.bd_wires.specs.declared.wires.Wires.{Wires}
 use Rattle.bd_worker.specs.declared.seat.Seat.{Seat}
+use Rattle.bd_outside.specs.Clock.{Moments}
 use Rattle.bd_outside.specs.Disk.{DiskState}
 use Rattle.bd_node.specs.Disks.{disks_at}
-use Rattle.bd_worker.specs.Seats.{AllWentOn, Continues, Past, number_in}
+use Rattle.bd_worker.specs.Seats.{AllWentOn, Continues, HasTimesWithin, Past, number_in}
+use Rattle.bd_node.specs.Times.{HaveTimesWithin}
 use Rattle.bd_node.specs.Whole.{seat_goes, AreSeated, IsIn}
 use Rattle.bd_worker.proofs.Places.{all_at}
 use Rattle.bd_node.proofs.Rounds.{no_halt}
@@ -141,7 +143,7 @@ module _ {X : Type 0} (n : X → ℕ) where
 
 -- ---- seats
 
-module _ {D : Type 0} {state : D → DiskState} (w : Wires) (old dealt turned new : List (Seat D)) (as-dealt : IsPermutation old dealt) (len : length turned ≡ length dealt) (on : AllWentOn state w dealt turned) (gathered : IsPermutation turned new)
+module _ {D : Type 0} {state : D → DiskState} (w : Wires) (range : Option Moments) (old dealt turned new : List (Seat D)) (as-dealt : IsPermutation old dealt) (len : length turned ≡ length dealt) (on : AllWentOn state w range dealt turned) (gathered : IsPermutation turned new)
     (sorted : IsNonDecreasingBy number_in new) (go : list_all seat_goes new ≡ true) (setup : Setup) (starts : List (List (DevId × D))) (pasts : ℕ → Past) (shut : Bool) (phases : ℕ → Phase) (a : AreSeated state setup w starts pasts old shut phases) where
   -- a thread sits as that which it says it is
   abbrev IsOwn : Seat D → Type 0
@@ -203,3 +205,30 @@ module _ {D : Type 0} {state : D → DiskState} (w : Wires) (old dealt turned ne
         let me : s.worker.me ≡ i = ap number_in (sym is) ∙ numbered_by_count number_in new sorted counts i s lt in
         subst (λ (k : ℕ). IsIn state setup w starts pasts shut phases k s) me own;
   }
+
+-- ---- the moments of their threads
+
+pub still_within : {D : Type 0} {state : D → DiskState} (w : Wires) (range : Option Moments) (old dealt turned new : List (Seat D))
+    → IsPermutation old dealt
+    → length turned ≡ length dealt
+    → AllWentOn state w range dealt turned
+    → IsPermutation turned new
+    → list_all seat_goes new ≡ true
+    → HaveTimesWithin range old
+    → HaveTimesWithin range new
+still_within {D} {state} w range old dealt turned new as-dealt len on gathered go within =
+    λ i s k. subst (λ (x : Seat D). HasTimesWithin range x) (get_or_from_slice_get new i s s k) (new_within i s (slice_get_within new i s k))
+  where
+    all_go : All (λ s. s.halted ≡ None) turned
+    all_go = All-permutation (λ s. s.halted ≡ None) new turned (IsPermutation-sym turned new gathered) (λ i d lt. no_halt (slice_index_or new i d).halted (all_at seat_goes new i (slice_index_or new i d) go (slice_get-get_or new i d lt)))
+
+    dealt_within : All (HasTimesWithin range) dealt
+    dealt_within = All-permutation (HasTimesWithin range) old dealt as-dealt (λ i d lt. within i (slice_index_or old i d) (slice_get-get_or old i d lt))
+
+    turned_within : All (HasTimesWithin range) turned
+    turned_within i d lt =
+        let below : i < length dealt = subst (λ (n : ℕ). i < n) len lt in
+        (on i d below).times (all_go i d lt) (dealt_within i d below)
+
+    new_within : All (HasTimesWithin range) new
+    new_within = All-permutation (HasTimesWithin range) turned new gathered turned_within

@@ -34,6 +34,7 @@ use Rattle.bd_worker.proofs.Places.{has_at, is_below, set_else, set_here}
 use Rattle.bd_node.proofs.Resting.{seat_at}
 use Rattle.bd_node.proofs.Settling.{map_at, parts_many, part_thread}
 use Rattle.bd_node.proofs.Telling.{none_made}
+use Rattle.bd_thread.specs.Timely.{IsOnTime}
 
 -- ---- lists, place by place
 
@@ -222,6 +223,11 @@ module _ {D : Type 0} (stamp : ℕ) (seats news : List (Seat D)) (len : length n
               log_last = refl;
               later = tt;
               met = omega arith;
+              times =
+                  subst (IsOnTime s.worker.thread)
+                  (sym (append-nil (entries_of i (trace ++ merged))
+                  ∙ filter-append (λ e. e.thread == i) trace merged
+                  ∙ ap (λ (es : List Entry). entries_of i trace ++ es) own)) at.times;
               once = at.once;
               replica = at.replica;
               course = λ lowest. stamps_are_met setup i p c (seen_over setup contents s.worker) stamp le (at.course lowest);
@@ -297,7 +303,7 @@ module _ {D : Type 0} (stamp : ℕ) (seats news : List (Seat D)) (len : length n
 -- ---- a node of which all was gathered
 
 -- no sum of none
-none_of_sum : {X : Type 0} (f : X → ℕ) (xs : List X) → sum_by f xs ≡ 0 → (i : ℕ) (x : X) → slice_get xs i ≡ Some x → f x ≡ 0
+pub none_of_sum : {X : Type 0} (f : X → ℕ) (xs : List X) → sum_by f xs ≡ 0 → (i : ℕ) (x : X) → slice_get xs i ≡ Some x → f x ≡ 0
 none_of_sum f [] none i x h = absurd (omega (arith, is_below [] i x h))
 none_of_sum f (y ∷ ys) none zero x h =
     let both : sum_by f (y ∷ ys) ≡ f y + sum_by f ys = sum_by-cons f y ys in

@@ -6,6 +6,7 @@ use Rattle.std.proofs.lemmas.List.Sorted.{IsPermutation-append_comm, IsPermutati
 use Rattle.bd_base.specs.declared.id.DevId.{DevId}
 use Rattle.bd_disks.specs.Rows.{places}
 use Rattle.bd_disks.specs.Shelf.{places_of, AreAllThere}
+use Rattle.bd_outside.specs.Clock.{Moments}
 use Rattle.bd_outside.specs.Disk.{DiskState}
 use Rattle.bd_wires.specs.declared.wires.Wires.{Wires}
 use Rattle.bd_wires.proofs.Lists.{map-set_same}
@@ -101,13 +102,13 @@ module _ {D : Type 0} (state : D → DiskState) where
       map_twice (x ∷ xs) = ap (λ (ps : List (List (DevId × Option ℕ))). places state x.disks ∷ ps) (map_twice xs)
 
   -- all went on, or had to halt
-  pub seats_kept : (w : Wires) (old new : List (Seat D)) → length new ≡ length old → AllWentOn state w old new → places_of state (disks_of new) ≡ places_of state (disks_of old)
-  seats_kept w [] [] len on = refl
-  seats_kept w [] (y ∷ ys) len on = absurd (omega (arith, len))
-  seats_kept w (x ∷ xs) [] len on = absurd (omega (arith, len))
-  seats_kept w (x ∷ xs) (y ∷ ys) len on =
+  pub seats_kept : (w : Wires) (range : Option Moments) (old new : List (Seat D)) → length new ≡ length old → AllWentOn state w range old new → places_of state (disks_of new) ≡ places_of state (disks_of old)
+  seats_kept w range [] [] len on = refl
+  seats_kept w range [] (y ∷ ys) len on = absurd (omega (arith, len))
+  seats_kept w range (x ∷ xs) [] len on = absurd (omega (arith, len))
+  seats_kept w range (x ∷ xs) (y ∷ ys) len on =
       ap₂ (λ (p : List (DevId × Option ℕ)) (ps : List (List (DevId × Option ℕ))). p ∷ ps) (on 0 x (omega arith)).kept
-      (seats_kept w xs ys (omega (arith, len)) (λ i d lt. on (suc i) d (omega arith)))
+      (seats_kept w range xs ys (omega (arith, len)) (λ i d lt. on (suc i) d (omega arith)))
 
   -- ---- a node
 

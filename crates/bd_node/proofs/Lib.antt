@@ -14,3 +14,4 @@ pub mod Learning
 pub mod Marks
 pub mod Advancing
 pub mod Gathered
+pub mod Times

@@ -38,6 +38,8 @@ use Rattle.bd_report.specs.Counter.{HasCounted}
 use Rattle.bd_node.specs.Disks.{disks_at, disks_of, told_of}
 use Rattle.bd_node.proofs.Opened.{opened_view}
 use Rattle.bd_worker.proofs.Places.{has_at, is_below}
+use Rattle.bd_thread.specs.Timely.{IsOnTime}
+use Rattle.bd_thread.proofs.OnTime.{on_time_at_start}
 
 -- ---- seats, one after the other
 
@@ -116,6 +118,7 @@ seat_begins {D} state setup disks w i s q within new own linked unused =
         log_last = new.log_last;
         later = subst (λ (es : List Entry). AllByRecursion (λ x. 0 < x.stamp) es) (sym new.log_entries) tt;
         met = omega arith;
+        times = subst (IsOnTime s.worker.thread) (sym new.log_entries) (on_time_at_start i setup s.worker.thread new.thread);
         once = λ dev. subst (λ (l : Local). IsOnce dev l.view.part.bases) (sym begun) (start_is_once setup [] i dev);
         replica = ap (λ (l : Local). l.shared.registry) begun;
         course = λ lowest.

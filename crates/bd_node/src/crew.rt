@@ -1,5 +1,5 @@
 //! A reactor's turns in a round: its seats have turns until all reactors are quiet at the same moment.
-ghost use Rattle.std.specs.Prelude.{◌<◌, All, length};
+ghost use Rattle.std.specs.Prelude.{◌≡◌, ◌<◌, All, length};
 ghost use Rattle.bd_worker.specs.Seats.{AllWentOn, SitsOrHalts};
 
 use crate::outside::Outside;
@@ -28,7 +28,9 @@ pub(crate) struct Watch<'g, C, G> {
 
 impl<'g, C: Clock, G: Gate> Watch<'g, C, G> {
     /// Before the reactors of the round begin.
-    pub fn new(outside: &'g Outside<'g, C, G>, round: u64, deal: Deal) -> Self {
+    pub fn new(outside: &'g Outside<'g, C, G>, round: u64, deal: Deal) -> Self
+        ensures { result.outside.now ≡ outside.now }
+    {
         Watch {
             outside,
             round,
@@ -64,14 +66,18 @@ struct Crew<'w, 'g, C, G> {
 }
 
 impl<'w, 'g, C: Clock, G: Gate> Crew<'w, 'g, C, G> {
-    fn begin(&mut self) {
+    fn begin(&mut self)
+        ensures { self.new.watch ≡ self.old.watch }
+    {
         if !self.working {
             self.watch.working.fetch_add(1, Ordering::SeqCst);
             self.working = true;
         }
     }
 
-    fn rest(&mut self) {
+    fn rest(&mut self)
+        ensures { self.new.watch ≡ self.old.watch }
+    {
         if self.working {
             self.watch.working.fetch_sub(1, Ordering::SeqCst);
             self.working = false;
@@ -90,7 +96,8 @@ impl<'w, 'g, C: Clock, G: Gate> Crew<'w, 'g, C, G> {
     ) -> bool
         requires within { place < length seats.old }
         requires sit { All (SitsOrHalts D.state wires.now) seats.old }
-        ensures { AllWentOn D.state wires.now seats.old seats.new }
+        ensures seats { AllWentOn D.state wires.now (C.range self.old.watch.now.outside.now.clock.now) seats.old seats.new }
+        ensures watch { self.new.watch ≡ self.old.watch }
     {
         self.turns = self.turns.saturating_add(1);
         let watch = self.watch;
@@ -118,7 +125,8 @@ impl<'w, 'g, C: Clock, G: Gate> Crew<'w, 'g, C, G> {
     ) -> bool
         requires within { place < length seats.old }
         requires sit { All (SitsOrHalts D.state wires.now) seats.old }
-        ensures { AllWentOn D.state wires.now seats.old seats.new }
+        ensures seats { AllWentOn D.state wires.now (C.range self.old.watch.now.outside.now.clock.now) seats.old seats.new }
+        ensures watch { self.new.watch ≡ self.old.watch }
     {
         let moved = self.turn(rt, alloc, wires, seats, place);
         if moved {
@@ -137,7 +145,8 @@ impl<'w, 'g, C: Clock, G: Gate> Crew<'w, 'g, C, G> {
         seats: &mut [Seat<D>],
     ) -> bool
         requires { All (SitsOrHalts D.state wires.now) seats.old }
-        ensures { AllWentOn D.state wires.now seats.old seats.new }
+        ensures seats { AllWentOn D.state wires.now (C.range self.old.watch.now.outside.now.clock.now) seats.old seats.new }
+        ensures watch { self.new.watch ≡ self.old.watch }
     {
         let mut moved = false;
         for place in 0..seats.len() {
@@ -156,7 +165,8 @@ impl<'w, 'g, C: Clock, G: Gate> Crew<'w, 'g, C, G> {
         seats: &mut [Seat<D>],
     ) -> bool
         requires { All (SitsOrHalts D.state wires.now) seats.old }
-        ensures { AllWentOn D.state wires.now seats.old seats.new }
+        ensures seats { AllWentOn D.state wires.now (C.range self.old.watch.now.outside.now.clock.now) seats.old seats.new }
+        ensures watch { self.new.watch ≡ self.old.watch }
     {
         if self.pass(rt, alloc, wires, seats) {
             return self.moves < MOVES;
@@ -175,7 +185,7 @@ impl<'w, 'g, C: Clock, G: Gate> Crew<'w, 'g, C, G> {
         seats: &mut [Seat<D>],
     )
         requires { All (SitsOrHalts D.state wires.now) seats.old }
-        ensures { AllWentOn D.state wires.now seats.old seats.new }
+        ensures { AllWentOn D.state wires.now (C.range self.old.watch.now.outside.now.clock.now) seats.old seats.new }
     {
         for _ in rt.forever() {
             if !self.pass_once(rt, alloc, wires, seats) {
@@ -197,7 +207,7 @@ pub(crate) fn give_turns<W: Wait, C: Clock, G: Gate, D: Disk>(
     seats: &mut [Seat<D>],
 )
     requires { All (SitsOrHalts D.state wires.now) seats.old }
-    ensures { AllWentOn D.state wires.now seats.old seats.new }
+    ensures { AllWentOn D.state wires.now (C.range watch.now.outside.now.clock.now) seats.old seats.new }
 {
     let mut crew = Crew {
         watch,

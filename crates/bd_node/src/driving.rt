@@ -1,15 +1,17 @@
 //! What a node does: its turns and rounds, its shutdown, and its end.
-ghost use Rattle.std.specs.Prelude.{◌≡◌, ◌<◌, ◌≤◌, ◌+◌, List, [], None, false, length, sum_by, vec_len, IfErr, IfOk, IsPermutation, MatchBool, OnErr, OnOk};
+ghost use Rattle.std.specs.Prelude.{◌≡◌, ◌<◌, ◌≤◌, ◌+◌, List, Option, [], None, false, length, sum_by, vec_len, IfErr, IfOk, IsPermutation, MatchBool, OnErr, OnOk};
 ghost use Rattle.std.specs.List.{list_all};
 ghost use Rattle.bd_law_threads.specs.Steps.{first_phase};
 ghost use Rattle.bd_log.specs.Merge.{IsMerge};
 ghost use Rattle.bd_machine.specs.Run.{IsCompleteRun};
+ghost use Rattle.bd_outside.specs.Clock.{Moments};
 ghost use Rattle.bd_base.specs.declared.id.DevId.{DevId};
 ghost use Rattle.bd_law_disks.specs.Told.{AreBasesLowest};
 ghost use Rattle.bd_node.specs.Disks.{disks_of, told_of, SaysOfDisks};
 ghost use Rattle.bd_node.specs.Schedule.{advance, advance_by};
 ghost use Rattle.bd_worker.specs.Seats.{has_moved, made_by, HasMoved, Tells};
 ghost use Rattle.bd_node.specs.Shutting.{AddsShutdown, IsUnchanged};
+ghost use Rattle.bd_node.specs.Times.{AreMomentsWithin, AreStartsWithin, HaveTimesWithin, KeepsTimes};
 ghost use Rattle.bd_node.specs.Waits.{TurnsQuietly};
 ghost use Rattle.bd_report.specs.Stats.{stats_of};
 ghost use Rattle.bd_node.specs.Whole.{disks_in, AreSeated, HasAllDisks, HasSameFlag, HasSameLogs, KeepsDisks, HasSameSetup, IsNode, IsNodeOf, are_all_taken, entries_left, entries_made, halt_of, has_taken, is_spent, is_at_rest, is_idle, is_over, logs_of, past_of, seat_goes, seat_has_destructed, seat_has_stamps, seat_is_blocked, seat_is_done, seat_rests, seed_of, setup_in, state_of};
@@ -154,6 +156,7 @@ fn seat_all<'a, R: Wait, D: Disk>(
     requires room { setup.now.threads ≤ shelf.old.capacity }
     ensures seated { IfOk result (λ made. AreSeated D.state setup.now made.0 shelf.old.items (past_of 0 []) made.1.items false
         (first_phase setup.now (told_of D.state setup.now shelf.old.items))) }
+    ensures times { IfOk result (λ made. (range : Option Moments) → HaveTimesWithin range made.1.items) }
     ensures none { IfOk result (λ made. sum_by made_by made.1.items ≡ 0) }
     ensures disks { IfOk result (λ made. disks_of made.1.items ≡ shelf.old.items) }
     ensures empty { IfOk result (λ _made. shelf.new.items ≡ []) }
@@ -181,6 +184,7 @@ impl<'a, D: Disk> Node<'a, D> {
         requires room { setup.now.threads ≤ disks.capacity }
         ensures node { IfOk result (IsNode D.state) }
         ensures opened { IfOk result (IsNodeOf D.state disks.items) }
+        ensures times { IfOk result (λ node. (range : Option Moments) → HaveTimesWithin range node.seats.items) }
         ensures setup { IfOk result (λ node. setup_in node ≡ setup.now) }
         ensures seed { IfOk result (λ node. seed_of node ≡ seed) }
         ensures none { IfOk result (λ node. entries_made node ≡ 0) }
@@ -225,6 +229,7 @@ impl<'a, D: Disk> Node<'a, D> {
         ensures quiet { IfOk result (TurnsQuietly (C.range clock.now) thread self.old self.new) }
         ensures none { (setup_in self.old).threads ≤ thread → OnOk result (self.new ≡ self.old) }
         ensures disks { OnOk result (KeepsDisks D.state self.old self.new) }
+        ensures times { OnOk result (KeepsTimes (C.range clock.now) self.old self.new) }
         ensures kept { HasAllDisks D.state self.old self.new }
     {
         let place = thread as usize;
@@ -244,6 +249,7 @@ impl<'a, D: Disk> Node<'a, D> {
         ensures flag { OnOk result (HasSameFlag self.old self.new) }
         ensures schedule { OnOk result (seed_of self.new ≡ advance (seed_of self.old)) }
         ensures disks { OnOk result (KeepsDisks D.state self.old self.new) }
+        ensures times { OnOk result (KeepsTimes (C.range clock.now) self.old self.new) }
         ensures kept { HasAllDisks D.state self.old self.new }
         ensures moved { IfOk result (HasMoved (entries_made self.old) (entries_made self.new)) }
     {
@@ -260,6 +266,7 @@ impl<'a, D: Disk> Node<'a, D> {
         ensures flag { OnOk result (HasSameFlag self.old self.new) }
         ensures schedule { OnOk result (seed_of self.new ≡ advance_by 256 (seed_of self.old)) }
         ensures disks { OnOk result (KeepsDisks D.state self.old self.new) }
+        ensures times { OnOk result (KeepsTimes (C.range clock.now) self.old self.new) }
         ensures kept { HasAllDisks D.state self.old self.new }
         ensures moved { IfOk result (HasMoved (entries_made self.old) (entries_made self.new)) }
     {
@@ -280,6 +287,7 @@ impl<'a, D: Disk> Node<'a, D> {
         ensures flag { OnOk result (HasSameFlag self.old self.new) }
         ensures schedule { OnOk result (seed_of self.new ≡ advance_by 256 (seed_of self.old)) }
         ensures disks { OnOk result (KeepsDisks D.state self.old self.new) }
+        ensures times { OnOk result (KeepsTimes (C.range clock.now) self.old self.new) }
         ensures moved { IfOk result (HasMoved (entries_made self.old) (entries_made self.new)) }
         ensures gathered { OnOk result (entries_left self.new ≡ 0) }
         ensures kept { HasAllDisks D.state self.old self.new }
@@ -304,6 +312,7 @@ impl<'a, D: Disk + Send> Node<'a, D> {
         ensures flag { OnOk result (HasSameFlag self.old self.new) }
         ensures schedule { OnOk result (seed_of self.new ≡ seed_of self.old) }
         ensures disks { OnOk result (KeepsDisks D.state self.old self.new) }
+        ensures times { OnOk result (KeepsTimes (C.range outside.now.clock.now) self.old self.new) }
         ensures kept { HasAllDisks D.state self.old self.new }
     {
         self.rounds = self.rounds.saturating_add(1);
@@ -343,6 +352,7 @@ impl<'a, D: Disk + Send> Node<'a, D> {
         ensures flag { OnOk result (HasSameFlag self.old self.new) }
         ensures schedule { OnOk result (seed_of self.new ≡ seed_of self.old) }
         ensures disks { OnOk result (KeepsDisks D.state self.old self.new) }
+        ensures times { OnOk result (KeepsTimes (C.range outside.now.clock.now) self.old self.new) }
         ensures gathered { OnOk result (entries_left self.new ≡ 0) }
         ensures kept { HasAllDisks D.state self.old self.new }
     {
@@ -428,6 +438,7 @@ impl<'a, D: Disk> Node<'a, D> {
         ensures shut { IfOk result (λ shut. self.new.shut ≡ shut) }
         ensures logs { IfOk result (λ shut. MatchBool shut (AddsShutdown self.old self.new) (IsUnchanged self.old self.new)) }
         ensures disks { OnOk result (KeepsDisks D.state self.old self.new) }
+        ensures times { OnOk result ((range : Option Moments) → KeepsTimes range self.old self.new) }
         ensures kept { HasAllDisks D.state self.old self.new }
     {
         let above = greatest(self.seats.as_slice());
@@ -452,6 +463,9 @@ impl<'a, D: Disk> Node<'a, D> {
         ensures disks { (starts : List (List (DevId × D))) → self.entry.shelf.items ≡ []
             → IsNodeOf D.state starts self.entry → AreBasesLowest (setup_in self.entry)
             → IfOk result.0 (λ run. SaysOfDisks D.state (setup_in self.entry) run.history starts result.1.items) }
+        ensures moments { (range : Option Moments) → HaveTimesWithin range self.entry.seats.items → IfOk result.0 (λ run. AreMomentsWithin range run.history) }
+        ensures starts { (range : Option Moments) → HaveTimesWithin range self.entry.seats.items → AreBasesLowest (setup_in self.entry)
+            → IfOk result.0 (λ run. AreStartsWithin range run.history) }
         ensures kept { IsPermutation (disks_in self.entry) result.1.items }
     {
         let mut node = self;
@@ -467,6 +481,7 @@ impl<'a, D: Disk> Node<'a, D> {
         ensures node { OnOk result (IsNode D.state self.new) }
         ensures same { OnOk result (HasSameLogs self.old self.new) }
         ensures disks { OnOk result (KeepsDisks D.state self.old self.new) }
+        ensures times { OnOk result ((range : Option Moments) → KeepsTimes range self.old self.new) }
         ensures left { OnOk result (entries_left self.new ≡ 0) }
         ensures stats { IfOk result (λ stats. stats ≡ stats_of (setup_in self.new) self.new.trace.items) }
         ensures kept { disks_in self.new ≡ disks_in self.old }
@@ -487,6 +502,9 @@ impl<'a, D: Disk> Node<'a, D> {
         ensures disks { (starts : List (List (DevId × D))) → self.entry.shelf.items ≡ []
             → IsNodeOf D.state starts self.entry → AreBasesLowest (setup_in self.entry)
             → IfOk result.0 (λ run. SaysOfDisks D.state (setup_in self.entry) run.history starts result.1.items) }
+        ensures moments { (range : Option Moments) → HaveTimesWithin range self.entry.seats.items → IfOk result.0 (λ run. AreMomentsWithin range run.history) }
+        ensures starts { (range : Option Moments) → HaveTimesWithin range self.entry.seats.items → AreBasesLowest (setup_in self.entry)
+            → IfOk result.0 (λ run. AreStartsWithin range run.history) }
         ensures kept { IsPermutation (disks_in self.entry) result.1.items }
     {
         let Node {

@@ -1,9 +1,11 @@
 //! What the threads of a node did, gathered: merged after the trace, counted, and gone from their logs.
-ghost use Rattle.std.specs.Prelude.{◌≡◌, ◌≤◌, ◌+◌, ◌++◌, ℕ, Some, All, [], length, map, sum_by, vec_len, vec_capacity, slice_get, IfOk, SomeIff, IsOk, OnOk, OnErr};
+ghost use Rattle.std.specs.Prelude.{◌≡◌, ◌≤◌, ◌+◌, ◌++◌, ℕ, Option, Some, All, [], length, map, sum_by, vec_len, vec_capacity, slice_get, IfOk, SomeIff, IsOk, OnOk, OnErr};
 ghost use Rattle.bd_log.specs.Merge.{AreOfDifferentThreads};
 ghost use Rattle.bd_node.specs.Gathering.{Gathers};
+ghost use Rattle.bd_outside.specs.Clock.{Moments};
 ghost use Rattle.bd_worker.specs.Seats.{part_in, IsHandedOut, made_by};
 ghost use Rattle.bd_node.specs.Shutting.{IsUnchanged};
+ghost use Rattle.bd_node.specs.Times.{KeepsTimes};
 ghost use Rattle.bd_node.specs.Whole.{disks_in, CountsTheSame, HasSameLogs, IsNode, KeepsDisks, entries_left};
 
 use crate::node::Node;
@@ -93,6 +95,7 @@ impl<'a, D: Disk> Node<'a, D> {
         ensures node { OnOk result (IsNode D.state self.new) }
         ensures same { HasSameLogs self.old self.new }
         ensures disks { OnOk result (KeepsDisks D.state self.old self.new) }
+        ensures times { OnOk result ((range : Option Moments) → KeepsTimes range self.old self.new) }
         ensures left { OnOk result (entries_left self.new ≡ 0) }
         ensures none { entries_left self.old ≡ 0 → IsOk result × (self.new ≡ self.old) }
         ensures err { OnErr result (CountsTheSame self.old self.new) }

@@ -4,6 +4,7 @@ ghost use Rattle.std.specs.List.Sorted.{IsNonDecreasingBy};
 ghost use Rattle.bd_disks.specs.Shelf.{AreAllThere};
 ghost use Rattle.bd_node.specs.Disks.{disks_of};
 ghost use Rattle.bd_worker.specs.Seats.{AllWentOn, IsSitting, number_in};
+ghost use Rattle.bd_node.specs.Times.{StayWithin};
 ghost use Rattle.bd_node.specs.Whole.{StaySeated};
 
 use crate::crew::{Watch, give_turns};
@@ -81,7 +82,7 @@ fn turn_each<R: Threads + Wait + Sync, C: Clock + Sync, G: Gate + Sync, D: Disk 
     requires some { 0 < each }
     requires sits { All (IsSitting D.state wires.now) seats.old }
     ensures len { length seats.new ≡ length seats.old }
-    ensures each { AllWentOn D.state wires.now seats.old seats.new }
+    ensures each { AllWentOn D.state wires.now (C.range watch.now.outside.now.clock.now) seats.old seats.new }
 {
     thread::for_each_chunk_mut(
         rt,
@@ -104,6 +105,7 @@ pub(crate) fn turn_all<R: Threads + Wait + Sync, C: Clock + Sync, G: Gate + Sync
     requires sits { All (IsSitting D.state wires.now) seats.old }
     ensures len { length seats.new ≡ length seats.old }
     ensures seats { StaySeated D.state wires.now seats.old seats.new }
+    ensures times { StayWithin (C.range watch.now.outside.now.clock.now) seats.old seats.new }
     ensures kept { AreAllThere D.state (disks_of seats.old) (disks_of seats.new) }
 {
     deal_out(&deal, seats);

@@ -1,6 +1,7 @@
 pub mod Places
 pub mod Lowest
 pub mod Over
+pub mod Times
 pub mod Workers
 pub mod Seats
 pub mod Departing

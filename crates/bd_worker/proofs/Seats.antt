@@ -20,6 +20,8 @@ use Rattle.bd_thread.specs.declared.links.Links.{Links}
 use Rattle.bd_disks.specs.Contents.{contents_of}
 use Rattle.bd_thread.specs.Asleep.{begun_at}
 use Rattle.bd_thread.specs.Seen.{local}
+use Rattle.bd_thread.specs.Timely.{IsOnTime}
+use Rattle.bd_thread.proofs.OnTime.{on_time_begun}
 use Rattle.bd_thread.proofs.Tickets.{same_tickets}
 use Rattle.bd_law_disks.specs.Told.{told_local, AreBasesLowest}
 use Rattle.bd_wires.specs.declared.wires.Wires.{Wires}
@@ -47,7 +49,7 @@ sitting_then w a b s f = record { setup = s.setup; t = s.t; p = s.p; past = s.pa
 
 -- ---- a turn begins
 
--- nothing of a thread's course goes by its moments
+-- nothing of a thread's course goes by its moments, and what it did went with them
 begun_worker : (setup : Setup) (t : ℕ) (p : Phase) (c : Course) (past : Past) (contents : DevId → Content) (now : ℕ) (w : Worker)
     → IsAt setup t p c past contents w → IsAt setup t p c past contents (record w { thread = begun_at now w.thread })
 begun_worker setup t p c past contents now w a = record {
@@ -64,6 +66,7 @@ begun_worker setup t p c past contents now w a = record {
   log_last = a.log_last;
   later = a.later;
   met = a.met;
+  times = on_time_begun w.thread now (past.entries ++ w.log.entries) a.times;
   once = a.once;
   replica = a.replica;
   course = a.course;
@@ -139,6 +142,7 @@ module _ {D : Type 0} (state : D → DiskState) (w : Wires) (s : Seat D) (take :
           log_last = refl;
           later = subst (λ (es : List Entry). AllByRecursion (λ x. past.met < x.stamp) es) (sym entries-are) a.later;
           met = (let n : s.worker.log.last ≤ log.last = f.later in let m : past.met ≤ s.worker.log.last = a.met in omega (arith, n, m));
+          times = subst (λ (es : List Entry). IsOnTime s.worker.thread (past.entries ++ es)) (sym entries-are) a.times;
           once = a.once;
           replica = ap (λ (x : Links). x.registry.state) links-is ∙ a.replica;
           course = λ lowest.

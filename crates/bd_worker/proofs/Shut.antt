@@ -44,6 +44,8 @@ use Rattle.bd_worker.specs.Seats.{seen_over, IsAt, IsLent, IsSeat, Past}
 use Rattle.bd_worker.specs.Shutting.{IsShutAt, LearnsShut, Shuts, ShutsWith, ShutWith}
 use Rattle.bd_worker.proofs.Borrowing.{lent_is, own_rows}
 use Rattle.bd_worker.proofs.Workers.{caught_up_at, rest_of_others, with_replica}
+use Rattle.bd_thread.specs.Timely.{IsOnTime}
+use Rattle.bd_thread.proofs.OnTime.{on_time_still}
 
 -- ---- what a thread sees in a registry that follows
 
@@ -164,6 +166,9 @@ shut_with setup p c past contents w seen lent r log stamp lent' left setup-is st
             (all_append (λ x. past.met < x.stamp) w.log.entries (record { stamp = stamp; thread = w.log.thread; act = acts.Shutdown } ∷ []) a.later
             (let m : past.met ≤ w.log.last = a.met in omega (arith, m, above), tt));
         met = (let m : past.met ≤ w.log.last = a.met in omega (arith, m, above, logged.last));
+        times =
+            subst (IsOnTime w.thread) (append_assoc past.entries w.log.entries (record { stamp = stamp; thread = w.log.thread; act = acts.Shutdown } ∷ []) ∙ ap (λ (xs : List Entry). past.entries ++ xs) (sym logged.entries))
+            (on_time_still w.thread (past.entries ++ w.log.entries) (record { stamp = stamp; thread = w.log.thread; act = acts.Shutdown }) a.times refl);
         once = a.once;
         replica =
             caught.replica
@@ -239,6 +244,7 @@ module _ {D : Type 0} (state : D → DiskState) (w : Wires) (s : Seat D) (lent l
   seat_shuts stamp above worker first thread shut = record {
     flag = shut.flag;
     halted = refl;
+    thread = shut.thread;
     later = shut.later;
     entries =
         shut.entries
@@ -272,6 +278,7 @@ pub learns_shut : {D : Type 0} → (stamp : ℕ) (s : Seat D) → s.worker.me �
 learns_shut stamp s other above state w = record {
   flag = refl;
   halted = refl;
+  thread = refl;
   later = above;
   entries = sym (append-nil s.worker.log.entries) ∙ ap (λ b. s.worker.log.entries ++ cond b (shutdown_at stamp ∷ []) []) (sym (ne_eqb s.worker.me 0 other));
   sits = λ setup t p c past opened q.
@@ -303,6 +310,7 @@ learns_shut stamp s other above state w = record {
             log_last = (let e : max s.worker.log.last stamp ≡ stamp = omega arith in e);
             later = a.later;
             met = (let m : past.met ≤ s.worker.log.last = a.met in omega (arith, m));
+            times = a.times;
             once = a.once;
             replica = a.replica ∙ ap (λ (js : List Entry). registry_by setup (registry_at_start setup) js) same;
             course = λ lowest. shutdown_begins_a_phase setup t p c l stamp later (a.course lowest);

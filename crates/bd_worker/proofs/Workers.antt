@@ -37,6 +37,9 @@ use Rattle.bd_thread.specs.declared.thread.Thread.{Thread}
 use Rattle.bd_thread.specs.Over.{WentOver}
 use Rattle.bd_thread.specs.Requests.{KeepsTickets}
 use Rattle.bd_thread.specs.Seen.{local, number_of, setup_of}
+use Rattle.bd_thread.specs.Timely.{AreTimely, HasBegun, IsOnTime}
+use Rattle.bd_thread.proofs.OnTime.{on_time_then}
+use Rattle.bd_worker.proofs.Times.{timely_restamped}
 use Rattle.bd_law_disks.specs.Over.{LeadsOver}
 use Rattle.bd_law_disks.specs.Told.{told_local, AreBasesLowest}
 use Rattle.bd_law_disks.proofs.Over.{over_is_told, over_keeps_bases}
@@ -66,6 +69,7 @@ met_at setup t p c past contents w last le a = record {
   log_last = refl;
   later = a.later;
   met = (let m : past.met ≤ w.log.last = a.met in let n : w.log.last ≡ c.last = a.log_last in omega (arith, le, m, n));
+  times = a.times;
   once = a.once;
   replica = a.replica;
   course = λ lowest. stamps_are_met setup t p c (seen_over setup contents w) last le (a.course lowest);
@@ -116,6 +120,7 @@ caught_up_at setup t p c past contents w seen lent r a lends left setup-is state
       log_last = a.log_last;
       later = a.later;
       met = a.met;
+      times = a.times;
       once = a.once;
       replica = state-is ∙ left;
       course = λ lowest.
@@ -211,11 +216,12 @@ pub record Acts (setup : Setup) (t : ℕ) (p : Phase) (c : Course) (past : Past)
 
 pub acted_at : (setup : Setup) (t : ℕ) (p : Phase) (c : Course) (past : Past) (before after : DevId → Content) (w : Worker) (thread : Thread) (links : Links) (log : Written)
     → IsAt setup t p c past before w
+    → HasBegun w.thread
     → (acted : WentOver before after w.thread w.links thread links)
     → KeepsTickets thread
     → Appends w.log (restamped w.log.thread w.log.last (acts_of links.entries)) log
     → Acts setup t p c past after links (serves setup t before w acted.entries) (after_turn w thread links log)
-acted_at setup t p c past before after w thread links log a acted tickets appends =
+acted_at setup t p c past before after w thread links log a begun acted tickets appends =
     let es : List Entry = acted.entries in
     let es-are : links.entries ≡ es = acted.added ∙ ap (λ (xs : List Entry). xs ++ es) a.empty in
     let setup-is : setup_of w.thread ≡ setup = a.given in
@@ -258,6 +264,10 @@ acted_at setup t p c past before after w thread links log a acted tickets append
             (all_append (λ x. past.met < x.stamp) w.log.entries (restamped w.log.thread w.log.last (acts_of links.entries)) a.later
             (restamped_later past.met w.log.thread w.log.last (acts_of links.entries) a.met));
         met = (let m : past.met ≤ w.log.last = a.met in omega (arith, m, last));
+        times =
+            subst (IsOnTime thread) (append_assoc past.entries w.log.entries (restamped w.log.thread w.log.last (acts_of links.entries)) ∙ ap (λ (xs : List Entry). past.entries ++ xs) (sym appends.entries))
+            (on_time_then (past.entries ++ w.log.entries) (restamped w.log.thread w.log.last (acts_of links.entries)) w.thread thread a.times begun
+            (timely_restamped w.log.thread w.log.last links.entries w.thread thread (subst (λ (xs : List Entry). AreTimely xs w.thread thread) (sym es-are) acted.timely)));
         once = λ dev. subst (λ (n : ℕ). n ≤ 1) (sym (over_keeps_bases setup before t l es after l' over dev)) (a.once dev);
         replica =
             over_registry setup t before l es after l' over
@@ -304,11 +314,12 @@ all_own t last (act ∷ acts) = one (is_event e) (all_own t (last + 1) acts)
 
 -- **without the registry it went on**
 pub goes_alone : {D : Type 0} (state : D → DiskState) (before after : List (DevId × D)) (w : Worker) (thread : Thread) (links : Links) (log : Written)
+    → HasBegun w.thread
     → WentAloneWithDisks state before w.thread w.links after thread links
     → (KeepsTickets w.thread → KeepsTickets thread)
     → AppendsAlone w.log (restamped w.log.thread w.log.last (acts_of links.entries)) log
     → GoesAlone state before after w (after_turn w thread links log)
-goes_alone {D} state before after w thread links log acted keeps appends = (
+goes_alone {D} state before after w thread links log begun acted keeps appends = (
   over_shut w.thread.setup.now w.thread.me (contents_of state before) (local w.thread w.links) over.entries (contents_of state after) (local thread links) over.leads,
   λ setup t p c past a. on setup t p c past a,
 )
@@ -319,7 +330,7 @@ goes_alone {D} state before after w thread links log acted keeps appends = (
     on : (setup : Setup) (t : ℕ) (p : Phase) (c : Course) (past : Past) → IsAt setup t p c past (contents_of state before) w → WentAlone state setup t p c past before after (after_turn w thread links log)
     on setup t p c past a =
         let acts : Acts setup t p c past (contents_of state after) links (serves setup t (contents_of state before) w over.entries) (after_turn w thread links log) =
-        acted_at setup t p c past (contents_of state before) (contents_of state after) w thread links log a over (keeps a.tickets) appends.log_is in
+        acted_at setup t p c past (contents_of state before) (contents_of state after) w thread links log a begun over (keeps a.tickets) appends.log_is in
         record {
           course = acts.course;
           at = acts.at;
@@ -359,10 +370,10 @@ module _ {D : Type 0} (state : D → DiskState) (before after : List (DevId × D
       (record { start = lends.start; begins = lends.begins; own = lends.own; count = lends.count })
       (sym (leaves setup lends.start)) setup-is state-is
 
-  pub goes_with : WentWithDisks state before w.thread caught_up.links after thread links → (KeepsTickets w.thread → KeepsTickets thread)
+  pub goes_with : HasBegun w.thread → WentWithDisks state before w.thread caught_up.links after thread links → (KeepsTickets w.thread → KeepsTickets thread)
       → TakesOver caught_up.log lent (restamped caught_up.log.thread caught_up.log.last (acts_of links.entries)) log lent'
       → GoesWith state before after seen w lent (after_turn caught_up thread links log) lent'
-  goes_with acted keeps takes = (
+  goes_with begun acted keeps takes = (
     over_shut w.thread.setup.now w.thread.me (contents_of state before) (local w.thread caught_up.links) acted.went.entries (contents_of state after) (local thread links) acted.went.leads,
     λ setup t p c past a lends. on setup t p c past a lends,
   )
@@ -372,7 +383,7 @@ module _ {D : Type 0} (state : D → DiskState) (before after : List (DevId × D
       on setup t p c past a lends =
           let c1 : Course = record c { seen = lent.journal; last = max w.log.last lent.last } in
           let acts : Acts setup t p c1 past (contents_of state after) links (serves setup t (contents_of state before) caught_up acted.went.entries) (after_turn caught_up thread links log) =
-          acted_at setup t p c1 past (contents_of state before) (contents_of state after) caught_up thread links log (caught_up_then setup t p c past a lends) acted.went (keeps a.tickets) takes.log_is in
+          acted_at setup t p c1 past (contents_of state before) (contents_of state after) caught_up thread links log (caught_up_then setup t p c past a lends) begun acted.went (keeps a.tickets) takes.log_is in
           let added : List Entry = events (restamped t c1.last (acts_of links.entries)) in
           let added-is : events (restamped caught_up.log.thread caught_up.log.last (acts_of links.entries)) ≡ added = ap (λ (n : ℕ). events (restamped n c1.last (acts_of links.entries))) a.log_thread in
           let journal : lent'.journal ≡ lent.journal ++ added = takes.journal ∙ ap (λ (es : List Entry). lent.journal ++ es) added-is in

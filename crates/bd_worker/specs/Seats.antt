@@ -9,6 +9,7 @@ use Rattle.bd_log.specs.Log.{log_part, IsWithin}
 use Rattle.bd_log.specs.Merge.{entries_of, Part}
 use Rattle.bd_machine.specs.declared.state.Content.{Content}
 use Rattle.bd_machine.specs.Start.{registry_at_start}
+use Rattle.bd_outside.specs.Clock.{IsWithin as IsWithinClock, Moments}
 use Rattle.bd_outside.specs.Disk.{DiskState}
 use Rattle.bd_registry.specs.State.{Registered, rows_of, start_of}
 use Rattle.bd_law_logs.specs.Rows.{entries}
@@ -21,7 +22,8 @@ use Rattle.bd_disks.specs.Done.{AreDoneBy}
 use Rattle.bd_thread.specs.Requests.{KeepsTickets}
 use Rattle.bd_thread.specs.declared.turn.Turned.{Turned}
 use Rattle.bd_thread.specs.declared.turn.Turned.TheVariants.{Moved, Quiet}
-use Rattle.bd_thread.specs.Seen.{local, number_of, setup_of}
+use Rattle.bd_thread.specs.Seen.{local, number_of, setup_of, time_of}
+use Rattle.bd_thread.specs.Timely.{HasSameTime, IsOnTime}
 use Rattle.bd_law_disks.specs.Told.{told_local, AreBasesLowest, IsOnce}
 use Rattle.bd_turns.specs.Local.{Local}
 use Rattle.bd_wires.specs.declared.wires.Wires.{Wires}
@@ -66,6 +68,8 @@ pub record IsAt (setup : Setup) (t : ℕ) (p : Phase) (c : Course) (past : Past)
   pub log_last : w.log.last ≡ c.last
   pub later : AllByRecursion (λ x. past.met < x.stamp) w.log.entries
   pub met : past.met ≤ w.log.last
+  -- the moments and timeslices of all that it did are those of its turns
+  pub times : IsOnTime w.thread (past.entries ++ w.log.entries)
   -- each device has one base at most, and the registry is what the journal leaves of which it saw the rows
   pub once : (dev : DevId) → IsOnce dev w.thread.part.bases
   pub replica : w.links.registry.state ≡ registry_by setup (registry_at_start setup) c.seen
@@ -211,6 +215,18 @@ pub record IsSitting {D : Type 0} (state : D → DiskState) (w : Wires) (s : Sea
 abbrev pub SitsOrHalts : {D : Type 0} → (D → DiskState) → Wires → Seat D → Type 0
 SitsOrHalts state w s = s.halted ≡ None → IsSitting state w s
 
+-- its thread's time is as before, but for when the next line was met
+abbrev pub SeatHasSameTime : {D : Type 0} → Seat D → Seat D → Type 0
+SeatHasSameTime old new = HasSameTime old.worker.thread new.worker.thread
+
+-- the moments of a thread's first turn and of its last lie between those that a clock tells, if it tells them; before any turn there is none
+abbrev pub AreTimesWithin : Option Moments → Bool → ℕ → ℕ → Type 0
+AreTimesWithin range true start moment = IsWithinClock range start × IsWithinClock range moment
+AreTimesWithin range false start moment = moment ≡ 0
+
+abbrev pub HasTimesWithin : {D : Type 0} → Option Moments → Seat D → Type 0
+HasTimesWithin range s = AreTimesWithin range (time_of s.worker.thread).given (time_of s.worker.thread).start (time_of s.worker.thread).moment
+
 -- whoever sat there, whatever was handed out and whatever its disks were at their opening, sits there still, further on its course
 pub record Continues {D : Type 0} (state : D → DiskState) (w : Wires) (old new : Seat D) : Type 0 where
   pub flag : new.worker.links.shut ≡ old.worker.links.shut
@@ -226,13 +242,14 @@ KeepsOn state old new = (w : Wires) → Continues state w old new
 abbrev pub HasSameDisks : {D : Type 0} → (D → DiskState) → Seat D → Seat D → Type 0
 HasSameDisks state old new = places state new.disks ≡ places state old.disks
 
--- the same disks are there however it went, and it went on unless it has to halt
-pub record WentOn {D : Type 0} (state : D → DiskState) (w : Wires) (old new : Seat D) : Type 0 where
+-- the same disks are there however it went, and it went on, at moments that a clock may tell, unless it has to halt
+pub record WentOn {D : Type 0} (state : D → DiskState) (w : Wires) (range : Option Moments) (old new : Seat D) : Type 0 where
   pub kept : HasSameDisks state old new
   pub on : new.halted ≡ None → Continues state w old new
+  pub times : new.halted ≡ None → HasTimesWithin range old → HasTimesWithin range new
 
-abbrev pub AllWentOn : {D : Type 0} → (D → DiskState) → Wires → List (Seat D) → List (Seat D) → Type 0
-AllWentOn {D} state w old new = (i : ℕ) (d : Seat D) → i < length old → WentOn state w (slice_index_or old i d) (slice_index_or new i d)
+abbrev pub AllWentOn : {D : Type 0} → (D → DiskState) → Wires → Option Moments → List (Seat D) → List (Seat D) → Type 0
+AllWentOn {D} state w range old new = (i : ℕ) (d : Seat D) → i < length old → WentOn state w range (slice_index_or old i d) (slice_index_or new i d)
 
 -- ---- what is handed out
 

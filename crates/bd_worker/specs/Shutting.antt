@@ -33,6 +33,7 @@ pub record ShutsWith (seen met : ℕ) (old : Worker) (lent : Registered) (stamp 
   pub flag : new.links.shut ≡ true
   pub above : met < stamp
   pub later : old.log.last < stamp
+  pub thread : new.thread ≡ old.thread
   pub entries : new.log.entries ≡ old.log.entries ++ record { stamp = stamp; thread = old.log.thread; act = acts.Shutdown } ∷ []
   pub at : (setup : Setup) (p : Phase) (c : Course) (past : Past) (contents : DevId → Content) → IsAt setup 0 p c past contents old → IsLent setup 0 c seen lent
       → ShutWith setup p c past contents stamp old lent new lent'
@@ -51,6 +52,7 @@ pub record IsShutAt {D : Type 0} (state : D → DiskState) (setup : Setup) (t : 
 pub record Shuts {D : Type 0} (state : D → DiskState) (w : Wires) (stamp : ℕ) (old new : Seat D) : Type 0 where
   pub flag : new.worker.links.shut ≡ true
   pub halted : new.halted ≡ old.halted
+  pub thread : new.worker.thread ≡ old.worker.thread
   pub later : old.worker.log.last < stamp
   pub entries : entries_in new ≡ entries_in old ++ shutdown_by stamp old.worker.me
   pub sits : (setup : Setup) (t : ℕ) (p : Phase) (c : Course) (past : Past) (opened : List (DevId × D)) → IsSeat state setup t p c past w opened old

@@ -1,6 +1,8 @@
 //! A seat's turns.
-ghost use Rattle.std.specs.Prelude.{◌≡◌, IfOk, OnOk};
-ghost use Rattle.bd_worker.specs.Seats.{made_by, Continues, HasSameDisks, HasSameEntries, IsSitting, IsWorking, KeepsOn, SitsOrHalts, Tells, TellsIfAny, WentOn};
+ghost use Rattle.std.specs.Prelude.{◌≡◌, IfOk, OnOk, Option};
+ghost use Rattle.bd_outside.specs.Clock.{IsWithin, Moments};
+ghost use Rattle.bd_thread.specs.Timely.{HadTurn, HasBegun};
+ghost use Rattle.bd_worker.specs.Seats.{made_by, Continues, HasSameDisks, HasSameEntries, IsSitting, IsWorking, KeepsOn, SeatHasSameTime, SitsOrHalts, Tells, TellsIfAny, WentOn};
 ghost use Rattle.bd_worker.specs.Waits.{begun_seat, Idles, IdlesAlone, IdlesIfLent, QuietTurns, Receives, Sends};
 
 use crate::seat::Seat;
@@ -62,15 +64,17 @@ impl<'a, D: Disk> Seat<'a, D> {
         Ok(())
     }
 
-    // A turn with the registry, where it is in its slot.
+    // A turn with the registry, where it is in its slot; the turn began.
     fn borrow<W: Wait>(
         &mut self,
         rt: &W,
         alloc: Global,
         wires: &Wires,
     ) -> Result<Option<Turned>, SeatError>
-        requires { IsSitting D.state wires.now self.old }
+        requires sits { IsSitting D.state wires.now self.old }
+        requires begun { HasBegun self.old.worker.thread }
         ensures goes { OnOk result (Continues D.state wires.now self.old self.new) }
+        ensures time { OnOk result (SeatHasSameTime self.old self.new) }
         ensures turned { IfOk result (TellsIfAny (made_by self.old) (made_by self.new)) }
         ensures quiet { IfOk result (IdlesIfLent self.old self.new) }
         ensures kept { HasSameDisks D.state self.old self.new }
@@ -86,10 +90,12 @@ impl<'a, D: Disk> Seat<'a, D> {
         Ok(Some(turned))
     }
 
-    // A turn without the registry.
+    // A turn without the registry; the turn began.
     fn work(&mut self, alloc: Global) -> Result<Turned, SeatError>
-        requires { IsWorking self.old.worker }
+        requires works { IsWorking self.old.worker }
+        requires begun { HasBegun self.old.worker.thread }
         ensures goes { OnOk result (KeepsOn D.state self.old self.new) }
+        ensures time { OnOk result (SeatHasSameTime self.old self.new) }
         ensures turned { IfOk result (Tells (made_by self.old) (made_by self.new)) }
         ensures quiet { IfOk result (IdlesAlone self.old.worker self.new.worker) }
         ensures kept { HasSameDisks D.state self.old self.new }
@@ -97,10 +103,12 @@ impl<'a, D: Disk> Seat<'a, D> {
         self.worker.work(alloc, &mut self.disks)
     }
 
-    // A turn with the registry, where the thread wants it and it is in its slot; else one without.
+    // A turn with the registry, where the thread wants it and it is in its slot; else one without. The turn began.
     fn act<W: Wait>(&mut self, rt: &W, alloc: Global, wires: &Wires) -> Result<Turned, SeatError>
-        requires { IsSitting D.state wires.now self.old }
+        requires sits { IsSitting D.state wires.now self.old }
+        requires begun { HasBegun self.old.worker.thread }
         ensures goes { OnOk result (Continues D.state wires.now self.old self.new) }
+        ensures time { OnOk result (SeatHasSameTime self.old self.new) }
         ensures turned { IfOk result (Tells (made_by self.old) (made_by self.new)) }
         ensures quiet { IfOk result (Idles self.old self.new) }
         ensures kept { HasSameDisks D.state self.old self.new }
@@ -127,6 +135,7 @@ impl<'a, D: Disk> Seat<'a, D> {
         ensures goes { OnOk result (Continues D.state wires.now self.old self.new) }
         ensures turned { IfOk result (Tells (made_by self.old) (made_by self.new)) }
         ensures quiet { IfOk result (QuietTurns now self.old self.new) }
+        ensures time { OnOk result (HadTurn now self.old.worker.thread self.new.worker.thread) }
         ensures kept { HasSameDisks D.state self.old self.new }
     {
         self.receive(rt, wires)?;
@@ -140,7 +149,7 @@ impl<'a, D: Disk> Seat<'a, D> {
     /// moved. What halts it is kept.
     pub fn step<W: Wait>(&mut self, rt: &W, alloc: Global, wires: &Wires, now: u64) -> bool
         requires { SitsOrHalts D.state wires.now self.old }
-        ensures { WentOn D.state wires.now self.old self.new }
+        ensures { (range : Option Moments) → IsWithin range now → WentOn D.state wires.now range self.old self.new }
     {
         if self.halted.is_some() {
             return false;

@@ -1,6 +1,7 @@
 //! What a worker does in a turn.
 ghost use Rattle.std.specs.Prelude.{◌≡◌, [], IfOk, OnOk};
 ghost use Rattle.bd_disks.specs.Rows.{places};
+ghost use Rattle.bd_thread.specs.Timely.{HasBegun, HasSameTime};
 ghost use Rattle.bd_thread.specs.Work.{wants_registry};
 ghost use Rattle.bd_worker.specs.Seats.{made_in, GoesAlone, GoesWith, IsLentTo, IsWorking, Tells};
 ghost use Rattle.bd_worker.specs.Waits.{IdlesAlone, IdlesWith};
@@ -32,15 +33,17 @@ impl<'a> Worker<'a> {
         mem::replace(&mut self.links.entries, Rows::new(alloc))
     }
 
-    /// A turn with the thread's disks that asks the registry for nothing. What it did is in the log; the list that it was
+    /// A turn, which began, with the thread's disks that asks the registry for nothing. What it did is in the log; the list that it was
     /// in stays with its memory, for the next turn.
     pub fn work<D: Disk>(
         &mut self,
         alloc: Global,
         disks: &mut Disks<D>,
     ) -> Result<Turned, SeatError>
-        requires { IsWorking self.old }
+        requires works { IsWorking self.old }
+        requires begun { HasBegun self.old.thread }
         ensures goes { OnOk result (GoesAlone D.state disks.old disks.new self.old self.new) }
+        ensures time { OnOk result (HasSameTime self.old.thread self.new.thread) }
         ensures turned { IfOk result (Tells (made_in self.old) (made_in self.new)) }
         ensures quiet { IfOk result (IdlesAlone self.old self.new) }
         ensures kept { places D.state disks.new ≡ places D.state disks.old }
@@ -52,7 +55,7 @@ impl<'a> Worker<'a> {
         Ok(turned)
     }
 
-    /// A turn with the registry, of whose journal the thread saw this number of rows, and with the thread's disks. What it did is in the
+    /// A turn, which began, with the registry, of whose journal the thread saw this number of rows, and with the thread's disks. What it did is in the
     /// log, and its events are in the registry.
     pub fn work_with<D: Disk>(
         &mut self,
@@ -61,8 +64,10 @@ impl<'a> Worker<'a> {
         lent: &mut Registry,
         seen: usize,
     ) -> Result<Turned, SeatError>
-        requires { IsLentTo self.old seen lent.old }
+        requires lent { IsLentTo self.old seen lent.old }
+        requires begun { HasBegun self.old.thread }
         ensures goes { OnOk result (GoesWith D.state disks.old disks.new seen self.old lent.old self.new lent.new) }
+        ensures time { OnOk result (HasSameTime self.old.thread self.new.thread) }
         ensures turned { IfOk result (Tells (made_in self.old) (made_in self.new)) }
         ensures quiet { IfOk result (IdlesWith lent.old self.old self.new) }
         ensures kept { places D.state disks.new ≡ places D.state disks.old }

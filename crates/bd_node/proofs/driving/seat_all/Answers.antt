@@ -4,6 +4,7 @@ use Rattle.bd_registry.specs.State.{Registered, start_of}
 use Rattle.bd_wires.specs.Wires.{AreNew}
 use Rattle.bd_node.proofs.Starts.{seated_at_start}
 use Rattle.bd_node.proofs.Telling.{new_made_none}
+use Rattle.bd_node.proofs.Times.{times_new}
 use Rattle.bd_node.proofs.driving.seat_all.Goals as goal
 
 pub returns-clause-seated : goal.returns-clause-seated
@@ -17,3 +18,7 @@ returns-clause-seated g c =
 pub returns-clause-none : goal.returns-clause-none
 returns-clause-none g c =
     new_made_none c.args.setup.now c.in_ok-wires.passes.items c.in_ok-seats.seats.items (c.in_ok-seats.ensures.len ∙ sym c.in_ok-wires.ensures.new.len) c.in_ok-seats.ensures.each
+
+pub returns-clause-times : goal.returns-clause-times
+returns-clause-times g c range =
+    times_new range c.args.setup.now c.in_ok-wires.passes.items c.in_ok-seats.seats.items (c.in_ok-seats.ensures.len ∙ sym c.in_ok-wires.ensures.new.len) c.in_ok-seats.ensures.each

@@ -46,3 +46,15 @@ pub returns-in-Err-play_out-clause-kept : goal.returns-in-Err-play_out-clause-ke
 returns-in-Err-play_out-clause-kept g c =
     let state = g.D.Disk.state in
     played_back state c.args.disks.items c.in-Ok.node c.play_out.new.node _ c.in-Ok.ensures.shelf c.in-Ok.ensures.disks c.play_out.ensures.kept c.abandon.ensures
+
+pub returns-in-Ok-play_out-clause-moments : goal.returns-in-Ok-play_out-clause-moments
+returns-in-Ok-play_out-clause-moments g c =
+    let range = g.C.Clock.range c.args.outside.now.clock.now in
+    c.settle.ensures.moments range (c.in-Ok-play_out.ensures.times (c.in-Ok.ensures.times range))
+
+pub returns-in-Ok-play_out-clause-starts : goal.returns-in-Ok-play_out-clause-starts
+returns-in-Ok-play_out-clause-starts g c lowest =
+    let range = g.C.Clock.range c.args.outside.now.clock.now in
+    let turned = c.in-Ok-play_out.ensures in
+    let setup-is : setup_in c.play_out.new.node ≡ c.args.setup.now = ap (λ s. s.now) turned.setup ∙ c.in-Ok.ensures.setup in
+    c.settle.ensures.starts range (turned.times (c.in-Ok.ensures.times range)) (subst (λ (s : Setup). AreBasesLowest s) (sym setup-is) lowest)

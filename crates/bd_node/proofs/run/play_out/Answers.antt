@@ -10,6 +10,7 @@ loop-preserved-in_ok-shut-in-Idle g c =
     record {
       node = shut.node;
       disks = keeps_disks_then g.D.Disk.state c.args.node.now c.loop.node c.shut.new.self i.disks shut.disks;
+      times = λ within. shut.times _ (i.times within);
       kept = node_then g.D.Disk.state c.args.node.now c.loop.node c.shut.new.self i.kept c.shut.ensures.kept;
       setup = shut.setup ∙ i.setup;
     }
@@ -21,6 +22,7 @@ loop-preserved-in_ok-round_by-in-Schedule g c =
     record {
       node = turns.node;
       disks = keeps_disks_then g.D.Disk.state c.args.node.now c.loop.node c.round_by.new.self i.disks turns.disks;
+      times = λ within. turns.times (i.times within);
       kept = node_then g.D.Disk.state c.args.node.now c.loop.node c.round_by.new.self i.kept c.round_by.ensures.kept;
       setup = turns.setup ∙ i.setup;
     }
@@ -32,6 +34,7 @@ loop-preserved g c =
     record {
       node = turns.node;
       disks = keeps_disks_then g.D.Disk.state c.args.node.now c.loop.node c.round.new.self i.disks turns.disks;
+      times = λ within. turns.times (i.times within);
       kept = node_then g.D.Disk.state c.args.node.now c.loop.node c.round.new.self i.kept c.round.ensures.kept;
       setup = turns.setup ∙ i.setup;
     }

@@ -5,5 +5,6 @@ use Rattle.bd_node.proofs.crew.Crew.work.Given as goal
 abbrev pub invariant-loop : goal.invariant-loop
 invariant-loop g l = record {
   len : length l.seats ≡ length l.initial.seats;
-  on : AllWentOn g.D.Disk.state l.wires l.initial.seats l.seats;
+  on : AllWentOn g.D.Disk.state l.wires (g.C.Clock.range l.initial.self.watch.now.outside.now.clock.now) l.initial.seats l.seats;
+  watch : l.self.watch ≡ l.initial.self.watch;
 }

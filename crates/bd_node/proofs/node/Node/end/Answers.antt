@@ -3,10 +3,12 @@ use Rattle.std.proofs.Common.{◌≡◌, List, ◌++◌, length, ap, vec_len, sy
 use Rattle.bd_base.specs.declared.act.Entry.{Entry}
 use Rattle.bd_machine.specs.Run.{IsCompleteRun}
 use Rattle.bd_node.specs.Disks.{disks_of, told_of, SaysOfDisks}
+use Rattle.bd_node.specs.Times.{AreMomentsWithin, AreStartsWithin}
 use Rattle.bd_node.specs.Whole.{setup_in}
 use Rattle.bd_node.proofs.Gathered.{trace_is_merge}
 use Rattle.bd_node.proofs.Histories.{node_settles}
 use Rattle.bd_node.proofs.Settling.{passes_fit}
+use Rattle.bd_node.proofs.Times.{moments_within, starts_within}
 use Rattle.bd_node.proofs.node.Node.end.Goals as goal
 
 pub disconnect-registry-requires-clause-linked : goal.disconnect-registry-requires-clause-linked
@@ -36,3 +38,21 @@ returns-clause-disks g c =
     (node_settles state starts n node lowest c.requires.done c.in-Ok.taken.items c.in-Ok.ensures.passes
     c.disconnect-registry.ensures.delivered c.disconnect-registry.result c.disconnect-registry.ensures.journal c.journal-journal.ensures.ordered c.journal-journal.ensures.replay
     n.trace.items (trace_is_merge state starts n node c.requires.left)).says)
+
+pub returns-clause-moments : goal.returns-clause-moments
+returns-clause-moments g c range within =
+    let n = c.args.self in
+    subst (λ (es : List Entry). AreMomentsWithin range es) (sym (c.of-history.ensures ∙ c.from_vec.ensures))
+    (moments_within g.D.Disk.state c.requires.node.starts n c.requires.node.node c.requires.left range within)
+
+pub returns-clause-starts : goal.returns-clause-starts
+returns-clause-starts g c range within lowest =
+    let n = c.args.self in
+    let state = g.D.Disk.state in
+    let starts = c.requires.node.starts in
+    let node = c.requires.node.node in
+    subst (λ (es : List Entry). AreStartsWithin range es) (sym (c.of-history.ensures ∙ c.from_vec.ensures))
+    (starts_within state starts n node c.requires.left range within (told_of state (setup_in n) starts)
+    (node_settles state starts n node lowest c.requires.done c.in-Ok.taken.items c.in-Ok.ensures.passes
+    c.disconnect-registry.ensures.delivered c.disconnect-registry.result c.disconnect-registry.ensures.journal c.journal-journal.ensures.ordered c.journal-journal.ensures.replay
+    n.trace.items (trace_is_merge state starts n node c.requires.left)).complete.0)

@@ -13,6 +13,7 @@ use Rattle.bd_node.proofs.Gathered.{any_room, counts_all, gathered_all, gathered
 use Rattle.bd_node.proofs.Kept.{gathers_disks, unchanged_disks}
 use Rattle.bd_node.proofs.Settling.{parts_apart}
 use Rattle.bd_node.proofs.Telling.{ok_of}
+use Rattle.bd_node.proofs.Times.{times_gathered}
 use Rattle.bd_node.proofs.node.Node.gather.Goals as goal
 
 pub merge_logs-requires-clause-apart : goal.merge_logs-requires-clause-apart
@@ -81,3 +82,10 @@ returns-clause-kept g c =
 
 pub returns-in_err-parts-clause-kept : goal.returns-in_err-parts-clause-kept
 returns-in_err-parts-clause-kept g c = unchanged_disks _ c.make_room.new.self c.make_room.ensures.same
+
+pub returns-clause-times : goal.returns-clause-times
+returns-clause-times g c =
+    let n = c.args.self.now in
+    let left = c.merge_logs.new.self in
+    let all : Gathers n left = gathers_so n c.make_room.new.self left _ _ c.make_room.ensures.same c.merge_logs.ensures in
+    ok_of c.add.result (λ range within. times_gathered range n left all within)

@@ -56,3 +56,11 @@ returns-in-Ok-clause-kept g c =
 pub returns-in-Err-clause-kept : goal.returns-in-Err-clause-kept
 returns-in-Err-clause-kept g c =
     subst (λ (ds : List (List (DevId × g.row.D.Denot))). IsPermutation ds c.abandon.result.items) c.gather_and_count.ensures.kept c.abandon.ensures
+
+pub returns-in-Ok-clause-moments : goal.returns-in-Ok-clause-moments
+returns-in-Ok-clause-moments g c range within = c.end.ensures.moments range (c.in-Ok.ensures.times range within)
+
+pub returns-in-Ok-clause-starts : goal.returns-in-Ok-clause-starts
+returns-in-Ok-clause-starts g c range within lowest =
+    let setup-is : setup_in c.gather_and_count.new.self ≡ setup_in c.args.self = ap (λ s. s.now) c.in-Ok.ensures.same.setup in
+    c.end.ensures.starts range (c.in-Ok.ensures.times range within) (subst (λ (s : Setup). AreBasesLowest s) (sym setup-is) lowest)

@@ -8,10 +8,12 @@ use Rattle.bd_disks.specs.Rows.{places}
 use Rattle.bd_disks.specs.Shelf.{places_of, AreAllThere}
 use Rattle.bd_node.specs.Disks.{disks_at, disks_of}
 use Rattle.bd_node.specs.Shutting.{AreToLearn}
+use Rattle.bd_node.specs.Times.{HaveTimesWithin}
 use Rattle.bd_worker.specs.Shutting.{Shuts}
 use Rattle.bd_node.specs.Whole.{disks_in, past_of, AreSeated}
 use Rattle.bd_node.proofs.Kept.{all_same, node_seats, seat_kept}
 use Rattle.bd_node.proofs.Marks.{each_adds, first_at, node_shuts, others_learn, AreAllShut}
+use Rattle.bd_node.proofs.Times.{times_shut}
 use Rattle.bd_node.proofs.node.Node.shut.Goals as goal
 
 pub shut-requires-clause-sits : goal.shut-requires-clause-sits
@@ -180,3 +182,25 @@ returns-in_err-stamp-clause-kept g c =
     let a = c.index_mut-first.result.now in
     node_seats state o (set o.seats.items 0 c.shut.new.self)
     (all_same state (disks_of o.seats.items) (disks_of (set o.seats.items 0 c.shut.new.self)) (seat_kept state o.seats.items 0 a c.shut.new.self (first_at o a c.requires.node c.index_mut-first.ensures.value) (ap (places state) c.shut.ensures.disks)))
+
+pub returns-clause-times : goal.returns-clause-times
+returns-clause-times g c range within =
+    let o = c.args.self.now in
+    let a = c.index_mut-first.result.now in
+    let news = c.learn_all.new.seats in
+    let shut = subst (λ (s : Option ℕ). MatchOption s (c.shut.new.self ≡ a) (λ k. (c.greatest-above.result < k) × Shuts g.D.Disk.state o.wires k a c.shut.new.self)) c.in-Some.is c.in_ok-stamp.ensures.shut in
+    let v = with_item o.seats 0 c.shut.new.self in
+    let many : vec_len o.seats ≡ length o.seats.items = search rules in
+    let len : length news ≡ vec_len o.seats =
+    c.learn_all.ensures.len ∙ ap (λ (ss : List (Seat g.row.D.Denot)). length ss) c.as_mut_slice.ensures.value ∙ length-set o.seats.items 0 c.shut.new.self ∙ sym many in
+    subst (λ (ss : List (Seat g.row.D.Denot)). HaveTimesWithin range ss) (sym (with_items_is v news len))
+    (times_shut g.D.Disk.state o.wires range c.in-Some.stamp o.seats.items c.as_mut_slice.result.now news a c.shut.new.self (first_at o a c.requires.node c.index_mut-first.ensures.value) shut.1.thread
+    c.as_mut_slice.ensures.value c.learn_all.ensures.len c.learn_all.ensures.first c.learn_all.ensures.others within)
+
+pub returns-in_default-clause-times : goal.returns-in_default-clause-times
+returns-in_default-clause-times g c range within =
+    let o = c.args.self.now in
+    let a = c.index_mut-first.result.now in
+    let same : c.shut.new.self ≡ a =
+    subst (λ (s : Option ℕ). MatchOption s (c.shut.new.self ≡ a) (λ k. (c.greatest-above.result < k) × Shuts g.D.Disk.state o.wires k a c.shut.new.self)) c.in_default.is c.in_ok-stamp.ensures.shut in
+    subst (λ (ss : List (Seat g.row.D.Denot)). HaveTimesWithin range ss) (sym (ap (λ (s : Seat g.row.D.Denot). set o.seats.items 0 s) (same ∙ c.index_mut-first.ensures.value) ∙ set-get_or o.seats.items 0 a)) within

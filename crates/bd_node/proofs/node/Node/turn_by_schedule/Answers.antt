@@ -10,7 +10,7 @@ use Rattle.bd_node.proofs.node.Node.turn_by_schedule.Goals as goal
 use Rattle.bd_node.proofs.node.Node.turn_by_schedule.Goals.{then-moved, else-moved}
 
 pub loop-init : goal.loop-init
-loop-init g c = record { node = c.requires; setup = refl; flag = refl; disks = keeps_disks_still g.D.Disk.state c.args.self.now; kept = node_still g.D.Disk.state c.args.self.now; moved = refl; schedule = advance_none c.args.self.now.schedule.state }
+loop-init g c = record { node = c.requires; setup = refl; flag = refl; disks = keeps_disks_still g.D.Disk.state c.args.self.now; kept = node_still g.D.Disk.state c.args.self.now; times = λ within. within; moved = refl; schedule = advance_none c.args.self.now.schedule.state }
 
 pub loop-preserved : goal.loop-preserved
 loop-preserved g c =
@@ -24,6 +24,7 @@ loop-preserved g c =
       flag = c.in_ok-turned.ensures.flag ∙ i.flag;
       disks = keeps_disks_then g.D.Disk.state c.args.self.now c.loop.self c.next_turn.new.self i.disks c.in_ok-turned.ensures.disks;
       kept = node_then g.D.Disk.state c.args.self.now c.loop.self c.next_turn.new.self i.kept c.next_turn.ensures.kept;
+      times = λ within. c.in_ok-turned.ensures.times (i.times within);
       moved = elim c.if-moved.branch [
         | then-moved w ↦
             subst (λ (b : Bool). HasMoved first after b) (sym (w.moved-is ∙ w.if-moved.true))

@@ -7,6 +7,7 @@ use Rattle.bd_worker.specs.Seats.{IsSitting}
 use Rattle.bd_node.specs.Whole.{disks_in, past_of, seat_goes, AreSeated, StaySeated}
 use Rattle.bd_disks.specs.Shelf.{AreAllThere}
 use Rattle.bd_node.specs.Disks.{disks_of}
+use Rattle.bd_node.specs.Times.{HaveTimesWithin, StayWithin}
 use Rattle.bd_node.proofs.Kept.{node_seats}
 use Rattle.bd_node.proofs.Rounds.{all_sit}
 use Rattle.bd_node.proofs.node.Node.turn_in_round.Goals as goal
@@ -84,3 +85,17 @@ returns-clause-kept g c =
     let items-are : (with_items o.seats news).items ≡ news = with_items_is o.seats news (same ∙ sym many) in
     let there : AreAllThere state (disks_of o.seats.items) (disks_of news) = subst (λ (ss : List (Seat g.row.D.Denot)). AreAllThere state (disks_of ss) (disks_of news)) c.as_mut_slice.ensures.value c.turn_all.ensures.kept in
     subst (λ (ss : List (Seat g.row.D.Denot)). AreAllThere state (disks_in o) (o.shelf.items ++ disks_of ss)) (sym items-are) (node_seats state o news there)
+
+pub returns-then-all_go-clause-times : goal.returns-then-all_go-clause-times
+returns-then-all_go-clause-times g c = λ within.
+    let o = c.args.self.now in
+    let news = c.turn_all.new.seats in
+    let many : vec_len o.seats ≡ length o.seats.items = search rules in
+    let same : length news ≡ length o.seats.items = c.turn_all.ensures.len ∙ ap (λ (ss : List (Seat g.row.D.Denot)). length ss) c.as_mut_slice.ensures.value in
+    let items-are : (with_items o.seats news).items ≡ news = with_items_is o.seats news (same ∙ sym many) in
+    let go : list_all seat_goes news ≡ true =
+    ap (list_all seat_goes) (sym (c.as_slice.ensures.value ∙ items-are)) ∙ sym c.all_go.ensures ∙ c.if-all_go.true in
+    let range = g.C.Clock.range c.args.outside.now.clock.now in
+    let stay = subst (λ r. StayWithin r o.seats.items news) (ap (λ x. g.C.Clock.range x.clock.now) c.new-watch.ensures)
+    (subst (λ (ss : List (Seat g.row.D.Denot)). StayWithin (g.C.Clock.range c.new-watch.result.outside.now.clock.now) ss news) c.as_mut_slice.ensures.value c.turn_all.ensures.times) in
+    subst (λ (ss : List (Seat g.row.D.Denot)). HaveTimesWithin range ss) (sym items-are) (stay go within)

@@ -3,11 +3,13 @@ use Rattle.std.specs.Coded.{le_prop}
 use Rattle.std.specs.List.{slice_get}
 use Rattle.std.proofs.lemmas.Option.{slice_get_read}
 use Rattle.std.proofs.lemmas.Result.{on_ok_weaker, IfOk-weaker}
+use Rattle.bd_worker.proofs.Times.{turn_within}
 use Rattle.bd_node.specs.Disks.{disks_of}
 use Rattle.bd_node.specs.Whole.{past_of}
 use Rattle.bd_node.proofs.Kept.{all_same, node_seats, seat_kept}
 use Rattle.bd_node.proofs.Rounds.{log_thread_stays, one_sits, one_turned}
 use Rattle.bd_node.proofs.Telling.{both_ok, tells_among}
+use Rattle.bd_node.proofs.Times.{times_set}
 use Rattle.bd_node.proofs.Waiting.{turns_at}
 use Rattle.bd_node.proofs.node.Node.turn_of.Goals as goal
 
@@ -88,3 +90,13 @@ returns-clause-kept g c =
     let at : slice_get o.seats.items c.args.thread ≡ Some a = slice_get_read o.seats.items (length o.seats.items) c.args.thread a refl lt c.index_mut-seat.ensures.value in
     node_seats state o (set o.seats.items c.args.thread c.turn.new.self)
     (all_same state (disks_of o.seats.items) (disks_of (set o.seats.items c.args.thread c.turn.new.self)) (seat_kept state o.seats.items c.args.thread a c.turn.new.self at c.turn.ensures.kept))
+
+pub returns-clause-times : goal.returns-clause-times
+returns-clause-times g c =
+    let o = c.args.self.now in
+    let a = c.index_mut-seat.result.now in
+    let lt : c.args.thread < length o.seats.items = search rules in
+    let at : slice_get o.seats.items c.args.thread ≡ Some a = slice_get_read o.seats.items (length o.seats.items) c.args.thread a refl lt c.index_mut-seat.ensures.value in
+    let range = g.C.Clock.range c.args.clock.now in
+    on_ok_weaker c.turn.result (λ turned within.
+    times_set range o.seats.items c.args.thread a c.turn.new.self at (turn_within range c.now-now.result a.worker.thread c.turn.new.self.worker.thread turned c.now-now.ensures (within c.args.thread a at)) within) c.turn.ensures.time

@@ -12,8 +12,8 @@ use Rattle.bd_worker.proofs.seat.Seat.act.Goals as goal
 pub returns-then-not-wants_registry-clause-goes : goal.returns-then-not-wants_registry-clause-goes
 returns-then-not-wants_registry-clause-goes g c = on_ok_weaker c.work.result (λ keeps. keeps c.args.wires.now) c.work.ensures.goes
 
-pub work-requires-in-None : goal.work-requires-in-None
-work-requires-in-None g c = works c.args.wires.now c.borrow.new.self (sitting_then c.args.wires.now c.args.self.now c.borrow.new.self c.requires c.in_ok-turned.ensures.goes)
+pub work-requires-in-None-clause-works : goal.work-requires-in-None-clause-works
+work-requires-in-None-clause-works g c = works c.args.wires.now c.borrow.new.self (sitting_then c.args.wires.now c.args.self.now c.borrow.new.self c.requires.sits c.in_ok-turned.ensures.goes)
 
 pub returns-in-None-clause-goes : goal.returns-in-None-clause-goes
 returns-in-None-clause-goes g c =

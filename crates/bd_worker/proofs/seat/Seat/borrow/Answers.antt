@@ -23,8 +23,8 @@ returns-clause-quiet g c = (c.in-Some.lent, c.in_ok-turned.ensures.quiet)
 -- what the slot gave was lent as the worker wants it, so what the worker left may be given back
 pub give-requires-clause-start : goal.give-requires-clause-start
 give-requires-clause-start g c =
-    gives_start g.D.Disk.state c.args.wires.now c.args.self.now c.work_with.new.self c.work_with.new.disks c.in-Some.lent c.work_with.new.lent c.try_take.new.pass c.in-Some.ensures.take c.in_ok-turned.ensures.goes c.requires
+    gives_start g.D.Disk.state c.args.wires.now c.args.self.now c.work_with.new.self c.work_with.new.disks c.in-Some.lent c.work_with.new.lent c.try_take.new.pass c.in-Some.ensures.take c.in_ok-turned.ensures.goes c.requires.sits
 
 pub give-requires-clause-own : goal.give-requires-clause-own
 give-requires-clause-own g c =
-    gives_own g.D.Disk.state c.args.wires.now c.args.self.now c.work_with.new.self c.work_with.new.disks c.in-Some.lent c.work_with.new.lent c.try_take.new.pass c.in-Some.ensures.take c.in_ok-turned.ensures.goes c.requires
+    gives_own g.D.Disk.state c.args.wires.now c.args.self.now c.work_with.new.self c.work_with.new.disks c.in-Some.lent c.work_with.new.lent c.try_take.new.pass c.in-Some.ensures.take c.in_ok-turned.ensures.goes c.requires.sits

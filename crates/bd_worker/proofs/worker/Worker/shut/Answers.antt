@@ -18,6 +18,7 @@ returns c =
       flag = refl;
       above = log.second;
       later = log.later;
+      thread = refl;
       entries = log.has.entries;
       at = λ setup p d past contents a lends.
           shut_with setup p d past contents old c.args.seen lent c.catch_up.new.replica c.push.new.self stamp c.shut.new.self (sym (c.journal-journal.ensures.leaves setup lends.start))

@@ -14,6 +14,8 @@ use Rattle.bd_law_threads.specs.Course.{acts_of, restamped}
 use Rattle.bd_seat.specs.Taking.{TakesOver}
 use Rattle.bd_disks.specs.Contents.{contents_of}
 use Rattle.bd_thread.specs.Moves.{turned_of}
+use Rattle.bd_thread.specs.Timely.{HasSameTime}
+use Rattle.bd_thread.specs.declared.thread.Thread.{Thread}
 use Rattle.bd_thread.specs.Seen.{local}
 use Rattle.bd_worker.specs.declared.worker.Worker.{Worker}
 use Rattle.bd_worker.specs.Seats.{GoesWith, Tells}
@@ -29,22 +31,22 @@ catch_up-requires g c =
     let w = c.args.self.now in
     let lent = c.args.lent.now in
     record {
-      start = begins_alike w c.args.seen lent c.requires;
-      seen = seen_within w c.args.seen lent c.requires;
-      state = replica_left w c.args.seen lent c.requires;
+      start = begins_alike w c.args.seen lent c.requires.lent;
+      seen = seen_within w c.args.seen lent c.requires.lent;
+      state = replica_left w c.args.seen lent c.requires.lent;
     }
 
 pub turn_with_disks-requires : goal.turn_with_disks-requires
 turn_with_disks-requires g c = record {
-  me = has_queue c.requires.setup c.requires.t c.requires.p c.requires.c c.requires.past c.requires.contents c.args.self.now c.requires.at;
-  rows = c.in_ok-catch_up.ensures.setup ∙ c.requires.at.rows ∙ ap rows_of (sym c.requires.at.given);
+  me = has_queue c.requires.lent.setup c.requires.lent.t c.requires.lent.p c.requires.lent.c c.requires.lent.past c.requires.lent.contents c.args.self.now c.requires.lent.at;
+  rows = c.in_ok-catch_up.ensures.setup ∙ c.requires.lent.at.rows ∙ ap rows_of (sym c.requires.lent.at.given);
 }
 
 pub take_over-requires : goal.take_over-requires
 take_over-requires g c =
     let w = c.args.self.now in
     let lent = c.args.lent.now in
-    let h = c.requires in
+    let h = c.requires.lent in
     let s = c.take_entries-entries.new.self in
     let entries = c.take_entries-entries.result in
     let left = c.take_entries-entries.ensures.left in
@@ -93,7 +95,7 @@ returns-clause-goes g c =
     (λ takes. goes_with state before after w c.args.seen lent now c.catch_up.new.replica c.turn_with_disks.new.thread links log
     (λ setup start. c.journal-rows.ensures.leaves setup start)
     c.in_ok-catch_up.ensures.setup c.in_ok-catch_up.ensures.state
-    c.in_ok-turned.ensures.over c.in_ok-turned.ensures.tickets
+    c.requires.begun c.in_ok-turned.ensures.over c.in_ok-turned.ensures.tickets
     (subst (λ (x : Written). TakesOver x lent (restamped x.thread x.last (acts_of links.entries)) log now) met-is
     (subst (λ (es : List Entry). TakesOver c.meet.new.self lent (restamped c.meet.new.self.thread c.meet.new.self.last (acts_of es)) log now) c.take_entries-entries.ensures.entries takes)))
     c.in_ok-take_over.ensures.taken
@@ -106,7 +108,7 @@ returns-clause-turned g c =
     let log = c.take_over.new.log in
     let turned = c.in_ok-turned.turned in
     let is : turned ≡ turned_of 0 (length entries) =
-    c.in_ok-turned.ensures.turned ∙ ap₂ (λ (es fs : List Entry). turned_of (length es) (length fs)) c.requires.at.empty (sym c.take_entries-entries.ensures.entries) in
+    c.in_ok-turned.ensures.turned ∙ ap₂ (λ (es fs : List Entry). turned_of (length es) (length fs)) c.requires.lent.at.empty (sym c.take_entries-entries.ensures.entries) in
     let many : length x.log.entries ≡ length w.log.entries =
     ap (λ (y : Worker). length y.log.entries) c.take_entries-entries.ensures.left ∙ ap (λ (l : Written). length l.entries) c.meet.ensures in
     subst (λ (n : ℕ). Tells n (length log.entries) turned) many (tells_appended x.log log entries turned is c.in_ok-take_over.ensures.taken.log_is)
@@ -116,6 +118,11 @@ returns-clause-quiet g c =
     let w = c.args.self.now in
     let x = c.take_entries-entries.new.self in
     let log = c.take_over.new.log in
-    idles_with c.args.lent.now w (record x { log = log }) c.catch_up.new.replica c.turn_with_disks.new.thread c.turn_with_disks.new.links c.in_ok-turned.turned c.requires.at.empty
+    idles_with c.args.lent.now w (record x { log = log }) c.catch_up.new.replica c.turn_with_disks.new.thread c.turn_with_disks.new.links c.in_ok-turned.turned c.requires.lent.at.empty
     c.in_ok-catch_up.ensures.state c.in_ok-turned.ensures.quiet
     (ap (λ (y : Worker). y.thread) c.take_entries-entries.ensures.left) (ap (λ (y : Worker). y.links) c.take_entries-entries.ensures.left)
+
+pub returns-clause-time : goal.returns-clause-time
+returns-clause-time g c =
+    let w = c.args.self.now in
+    subst (λ (t : Thread). HasSameTime w.thread t) (sym (ap (λ (y : Worker). y.thread) c.take_entries-entries.ensures.left)) c.in_ok-turned.ensures.over.went.timely.time
