@@ -27,7 +27,7 @@ use Rattle.bd_top.specs.Disks.{AreDisksOf, BeginsWith, IsNamed, MayHave, MayGive
 use Rattle.bd_top.specs.Fault.{IsFaultOf, IsScriptFault, config_fault}
 use Rattle.bd_top.specs.Files.{IsRead, IsTooLong, ReadCause}
 use Rattle.bd_top.specs.Opening.{AreDone, DoingCause, IsBuildFault, IsStep, IsStepRefused}
-use Rattle.bd_top.specs.Run.{AreCommands, FileCause, IsConfigured, IsDevices, IsDue, IsNoText, IsNotSupported, IsWanted, ScriptCause}
+use Rattle.bd_top.specs.Run.{AreCommands, FileCause, IsConfigured, IsDevices, IsDue, IsNoText, IsWanted, ScriptCause}
 use Rattle.bd_top.proofs.ConfigureLemmas.{cause_by}
 use Rattle.bd_top.proofs.FileLemmas.{later_same, fails_from, misses_from}
 
@@ -151,8 +151,7 @@ of_config old new config jobs threads bytes why read cause = go why (cause_by (I
 module _ (old mid end new : HostState) (config jobs : List ℕ) (threads : ℕ) (made : IsConfigured threads old.told (old.told config)) (later : IsLater old mid) (kept : KeepsCounts end new) where
   pub of_script : (why : ScriptError) (fault : Fault) → ScriptCause mid end jobs threads why → IsScriptFault jobs why fault → FileCause old new config jobs threads fault
   of_script (script_nos.File why) fault cause is = of_read old mid end new jobs config jobs threads (inr (refl, made)) later kept why fault cause is
-  of_script (script_nos.Text line) fault cause is = subst (FileCause old new config jobs threads) (sym is) (made, inl (subst (λ (t : Told). IsNoText threads t line) (later.told jobs) cause))
-  of_script (script_nos.NotBuilt line) fault cause is = subst (FileCause old new config jobs threads) (sym is) (made, inr (subst (λ (t : Told). IsNotSupported threads t line) (later.told jobs) cause))
+  of_script (script_nos.Text line) fault cause is = subst (FileCause old new config jobs threads) (sym is) (made, subst (λ (t : Told). IsNoText threads t line) (later.told jobs) cause)
   of_script script_nos.OutOfMemory fault cause is = subst (FileCause old new config jobs threads) (sym is) tt
 
 -- ---- commands that weren't done

@@ -1,10 +1,7 @@
 -- Where what the words name is in form and nothing fails, a call ends well unless it is out of memory.
-use Rattle.std.proofs.Common.{◌≡◌, ℕ, ◌+◌, ◌≤◌, ◌<◌, Bool, true, false, ◌==◌, not, ◌||◌, inl, inr, List, [], ◌∷◌, ◌++◌, length, take, drop, None, Some, refl, sym, ◌∙◌, ap, subst, arith, string_bytes}
+use Rattle.std.proofs.Common.{◌≡◌, ℕ, ◌+◌, ◌≤◌, ◌<◌, inl, inr, List, [], ◌∷◌, ◌++◌, length, take, drop, None, Some, refl, sym, ◌∙◌, ap, subst, arith, string_bytes}
 use Rattle.std.specs.Prelude.{ℤ, option_map}
-use Rattle.std.specs.List.{list_all, list_any}
-use Rattle.std.proofs.lemmas.Bool.{and_parts}
 use Rattle.std.proofs.lemmas.List.{take-append-drop}
-use Rattle.bd_base.specs.declared.job.Line.{Line}
 use Rattle.bd_base.specs.declared.job.Script.{Script}
 use Rattle.bd_jobs.specs.ScriptGrammar.{commands_from, commands_of, scripts_below, scripts_of, IsFirstOutside, text_lines}
 use Rattle.bd_jobs.proofs.ReadLemmas.{from-append, from-none}
@@ -15,10 +12,9 @@ use Rattle.bd_top.specs.declared.configure.ConfigureError.{ConfigureError}
 use Rattle.bd_top.specs.declared.configure.ConfigureError.TheVariants as config_nos
 use Rattle.bd_top.specs.declared.fault.Fault.{Fault}
 use Rattle.bd_top.specs.declared.fault.Fault.TheVariants as faults
-use Rattle.bd_top.specs.Built.{lines_in, AreBuilt, is_built_line, is_not_built_at, IsFirstNotBuilt}
 use Rattle.bd_top.specs.Configure.{ConfiguresAnyhow, ConfigureCause, IsRefused}
 use Rattle.bd_top.specs.Files.{IsRead, IsTooLong, max_file}
-use Rattle.bd_top.specs.Run.{AreInForm, AreFilesInForm, IsAskedInForm, Cause, FileCause, IsDue, IsNoScript, IsNoText, IsNotSupported, IsOutside, NothingFails}
+use Rattle.bd_top.specs.Run.{AreInForm, AreFilesInForm, IsAskedInForm, Cause, FileCause, IsDue, IsNoText, IsOutside, NothingFails}
 use Rattle.bd_top.specs.Words.{Arguments, Asked, Run, asked_of}
 use Rattle.bd_top.proofs.ConfigureLemmas.{nothing_wrong, not_refused}
 
@@ -54,7 +50,7 @@ not_too_long t file e short long =
     omega arith
 
 -- no line of a script in the grammar is the first outside
-pub none_outside : (threads : ℕ) (bytes : List ℕ) (scripts : List Script) (line : ℕ) → scripts_of threads bytes ≡ Some scripts → IsFirstOutside threads bytes line → ⊥
+none_outside : (threads : ℕ) (bytes : List ℕ) (scripts : List Script) (line : ℕ) → scripts_of threads bytes ≡ Some scripts → IsFirstOutside threads bytes line → ⊥
 none_outside threads bytes scripts line mean first =
     let lines : List (List ℕ) = text_lines bytes in
     let parted : commands_of threads (take line lines ++ drop line lines) ≡ commands_of threads lines = ap (commands_of threads) (take-append-drop line lines) in
@@ -71,29 +67,6 @@ script_inside threads t file scripts line e mean out =
     let P : List ℕ → Type 0 = λ bytes. IsFirstOutside threads bytes line in
     none_outside threads file scripts line mean (subst P (read_told t file out.bytes e out.read) out.outside)
 
-not_both : (b : Bool) → b ≡ true → not b ≡ true → ⊥
-not_both true h k = cc
-not_both false h k = cc
-
--- where every command is carried out, none is not
-none_at : (number : ℕ) (lines : List Line) → list_all is_built_line lines ≡ true → list_any (is_not_built_at number) lines ≡ true → ⊥
-none_at number [] all some = absurd (cc)
-none_at number (line ∷ lines) all some = go (is_not_built_at number line) refl (and_parts (is_built_line line) (list_all is_built_line lines) all) (none_at number lines)
-  where
-    go : (here : Bool) → is_not_built_at number line ≡ here → (is_built_line line ≡ true) × (list_all is_built_line lines ≡ true)
-        → (list_all is_built_line lines ≡ true → list_any (is_not_built_at number) lines ≡ true → ⊥) → ⊥
-    go true e built later = not_both (is_built_line line) built.0 (and_parts (line.number == number) (not (is_built_line line)) e).1
-    go false e built later = later built.1 (ap (λ b. b || list_any (is_not_built_at number) lines) (sym e) ∙ some)
-
-pub script_supported : (threads : ℕ) (t : Told) (file : List ℕ) (scripts : List Script) (line : ℕ) → t ≡ Content file → scripts_of threads file ≡ Some scripts → AreBuilt (lines_in scripts) → IsNotSupported threads t line → ⊥
-script_supported threads t file scripts line e mean built out =
-    let same : scripts_of threads out.bytes ≡ scripts_of threads file = ap (scripts_of threads) (read_told t file out.bytes e out.read) in
-    let both : Some out.scripts ≡ Some scripts = sym out.means ∙ same ∙ mean in
-    let one : out.scripts ≡ scripts = cc in
-    let P : List Script → Type 0 = λ s. IsFirstNotBuilt (lines_in s) line in
-    let first : IsFirstNotBuilt (lines_in scripts) line = subst P one out.first in
-    none_at line (lines_in scripts) built first.here
-
 module _ (asked : Arguments) (old new : HostState) (before after : SinkState) (form : AreFilesInForm asked old) (quiet : NothingFails old new before after) where
   -- neither of the two files is too long
   none_too_long : (name : List ℕ) → IsDue old asked.config asked.jobs asked.playing.threads name → IsTooLong (old.told name) → ⊥
@@ -105,9 +78,8 @@ module _ (asked : Arguments) (old new : HostState) (before after : SinkState) (f
   config_gives_none why out = config_inside asked.playing.threads old.told (old.told asked.config) form.config why form.config_told form.config_means out
 
   -- nor with those of the script
-  script_gives_none : (line : ℕ) → IsNoScript asked.playing.threads (old.told asked.jobs) line → ⊥
-  script_gives_none line (inl out) = script_inside asked.playing.threads (old.told asked.jobs) form.jobs form.scripts line form.jobs_told form.jobs_mean out
-  script_gives_none line (inr out) = script_supported asked.playing.threads (old.told asked.jobs) form.jobs form.scripts line form.jobs_told form.jobs_mean form.built out
+  script_gives_none : (line : ℕ) → IsNoText asked.playing.threads (old.told asked.jobs) line → ⊥
+  script_gives_none line out = script_inside asked.playing.threads (old.told asked.jobs) form.jobs form.scripts line form.jobs_told form.jobs_mean out
 
   -- neither file gives a fault
   pub file_gives_none : (fault : Fault) → FileCause old new asked.config asked.jobs asked.playing.threads fault → fault ≡ faults.OutOfMemory

@@ -1,7 +1,6 @@
 pub mod Answers
 pub mod AtHome
 pub mod BuiltIn
-pub mod BuiltLemmas
 pub mod ConfigureLemmas
 pub mod Contents
 pub mod FileCauses

@@ -1,14 +1,10 @@
 -- Where one thing is wrong with two files and nothing fails, a run answers it unless it is out of memory.
-use Rattle.std.proofs.Common.{◌≡◌, ℕ, ◌+◌, ◌-◌, ◌≤◌, ◌<◌, Bool, true, false, ◌==◌, nat_le, not, ◌&&◌, ◌||◌, ◌⊎◌, inl, inr, List, [], ◌∷◌, ◌++◌, length, take, drop, None, Some, refl, sym, ◌∙◌, ap, subst, arith, string_bytes}
+use Rattle.std.proofs.Common.{◌≡◌, ℕ, ◌+◌, ◌-◌, ◌≤◌, ◌<◌, Bool, true, false, nat_le, ◌⊎◌, inl, inr, List, [], ◌∷◌, ◌++◌, length, take, drop, None, Some, refl, sym, ◌∙◌, ap, subst, arith, string_bytes}
 use Rattle.std.specs.Prelude.{Result, Ok, Err, IfErr, MatchResult}
 use Rattle.std.specs.Result.{IsErr}
-use Rattle.std.specs.List.{list_all, list_any}
-use Rattle.std.proofs.lemmas.Bool.{and_parts}
 use Rattle.std.proofs.lemmas.Bool.Decides.{nat_tests}
 use Rattle.std.proofs.lemmas.List.{take-append-drop, take-take}
 use Rattle.bd_base.specs.declared.act.Entry.{Entry}
-use Rattle.bd_base.specs.declared.job.Line.{Line}
-use Rattle.bd_base.specs.declared.job.Script.{Script}
 use Rattle.bd_config.specs.Config.{IsConfig}
 use Rattle.bd_jobs.specs.ScriptGrammar.{commands_from, commands_of, scripts_of, IsFirstOutside, text_lines}
 use Rattle.bd_jobs.proofs.ReadLemmas.{from-append, from-none}
@@ -20,14 +16,13 @@ use Rattle.bd_top.specs.declared.configure.ConfigureError.{ConfigureError}
 use Rattle.bd_top.specs.declared.configure.ConfigureError.TheVariants as config_nos
 use Rattle.bd_top.specs.declared.fault.Fault.{Fault}
 use Rattle.bd_top.specs.declared.fault.Fault.TheVariants as faults
-use Rattle.bd_top.specs.Built.{lines_in, is_built_line, is_not_built_at, is_built_before, IsFirstNotBuilt}
 use Rattle.bd_top.specs.Configure.{ConfigureCause, ConfigureCauseAnyhow, IsRefused, IsRefusedAnyhow}
 use Rattle.bd_top.specs.Fault.{config_fault}
 use Rattle.bd_top.specs.Files.{IsTooLong}
-use Rattle.bd_top.specs.Run.{AreFilesPlayed, Cause, FileCause, IsConfigWrong, IsConfigured, IsDevices, IsDone, IsDue, IsMeant, IsNoScript, IsNoText, IsNotSupported, IsOutside, IsScriptWrong, IsWrong, NothingFails}
+use Rattle.bd_top.specs.Run.{AreFilesPlayed, Cause, FileCause, IsConfigWrong, IsConfigured, IsDevices, IsDone, IsDue, IsMeant, IsNoText, IsOutside, IsScriptWrong, IsWrong, NothingFails}
 use Rattle.bd_top.specs.Words.{Arguments, Asked, Run, asked_of}
 use Rattle.bd_top.proofs.ConfigureLemmas.{nothing_wrong, not_refused, not_refused_anyhow}
-use Rattle.bd_top.proofs.InForm.{not_usage, read_told, not_too_long, none_outside, script_inside, script_supported, text_is_no_memory, shape_is_no_memory, method_is_no_memory}
+use Rattle.bd_top.proofs.InForm.{not_usage, read_told, not_too_long, script_inside, text_is_no_memory, shape_is_no_memory, method_is_no_memory}
 use Rattle.bd_top.proofs.OneCause.{one_cause, refused_once}
 
 -- an error, of which this is known
@@ -62,53 +57,10 @@ outside_once threads m n bytes p q = go (nat_le m n) (nat_le n m) refl refl
     go true false e f = absurd (not_outside_before threads m n bytes (grind (arith, nat_tests, e, f)) p q)
     go false b e f = absurd (not_outside_before threads n m bytes (grind (arith, nat_tests, e, f)) q p)
 
-neither : (b : Bool) → (b && false) ≡ true → ⊥
-neither true h = cc
-neither false h = cc
-
--- the number of a line that isn't carried out isn't below the first
-not_built_from : (m n : ℕ) (lines : List Line) → list_any (is_not_built_at m) lines ≡ true → list_all (is_built_before n) lines ≡ true → n ≤ m
-not_built_from m n [] some all = absurd (cc)
-not_built_from m n (line ∷ lines) some all = go (is_not_built_at m line) refl some (and_parts (is_built_before n line) (list_all (is_built_before n) lines) all) (not_built_from m n lines)
-  where
-    here : (number : ℕ) (built : Bool) → ((number == m) && not built) ≡ true → (built || nat_le n number) ≡ true → n ≤ m
-    here number true h k = absurd (neither (number == m) h)
-    here number false h k = grind (arith, nat_tests, h, k)
-
-    go : (b : Bool) → is_not_built_at m line ≡ b → (b || list_any (is_not_built_at m) lines) ≡ true
-        → (is_built_before n line ≡ true) × (list_all (is_built_before n) lines ≡ true)
-        → (list_any (is_not_built_at m) lines ≡ true → list_all (is_built_before n) lines ≡ true → n ≤ m) → n ≤ m
-    go true e some all later = here line.number (is_built_line line) e all.0
-    go false e some all later = later some all.1
-
-first_once : (m n : ℕ) (lines : List Line) → IsFirstNotBuilt lines m → IsFirstNotBuilt lines n → m ≡ n
-first_once m n lines p q =
-    let up : n ≤ m = not_built_from m n lines p.here q.before in
-    let down : m ≤ n = not_built_from n m lines q.here p.before in
-    omega arith
-
-supported_once : (threads m n : ℕ) (t : Told) (file : List ℕ) → t ≡ Content file → IsNotSupported threads t m → IsNotSupported threads t n → m ≡ n
-supported_once threads m n t file e p q =
-    let same : scripts_of threads p.bytes ≡ scripts_of threads q.bytes = ap (scripts_of threads) (read_told t file p.bytes e p.read ∙ sym (read_told t file q.bytes e q.read)) in
-    let both : Some p.scripts ≡ Some q.scripts = sym p.means ∙ same ∙ q.means in
-    let one : p.scripts ≡ q.scripts = cc in
-    first_once m n (lines_in p.scripts) p.first (subst (λ (s : List Script). IsFirstNotBuilt (lines_in s) n) (sym one) q.first)
-
-text_or_supported : (threads m n : ℕ) (t : Told) (file : List ℕ) → t ≡ Content file → IsNoText threads t m → IsNotSupported threads t n → ⊥
-text_or_supported threads m n t file e p q =
-    let same : scripts_of threads p.bytes ≡ scripts_of threads q.bytes = ap (scripts_of threads) (read_told t file p.bytes e p.read ∙ sym (read_told t file q.bytes e q.read)) in
-    none_outside threads p.bytes q.scripts m (same ∙ q.means) p.outside
-
 text_once : (threads m n : ℕ) (t : Told) (file : List ℕ) → t ≡ Content file → IsNoText threads t m → IsNoText threads t n → m ≡ n
 text_once threads m n t file e p q =
     let same : p.bytes ≡ q.bytes = read_told t file p.bytes e p.read ∙ sym (read_told t file q.bytes e q.read) in
     outside_once threads m n p.bytes p.outside (subst (λ (bytes : List ℕ). IsFirstOutside threads bytes n) (sym same) q.outside)
-
-line_once : (threads m n : ℕ) (t : Told) (file : List ℕ) → t ≡ Content file → IsNoScript threads t m → IsNoScript threads t n → m ≡ n
-line_once threads m n t file e (inl p) (inl q) = text_once threads m n t file e p q
-line_once threads m n t file e (inl p) (inr q) = absurd (text_or_supported threads m n t file e p q)
-line_once threads m n t file e (inr p) (inl q) = absurd (text_or_supported threads n m t file e q p)
-line_once threads m n t file e (inr p) (inr q) = supported_once threads m n t file e p q
 
 -- ---- one thing
 
@@ -165,12 +117,12 @@ module _ (words : List (List ℕ)) (host : HostState) (fault : Fault) (wrong : I
       go (inl bad) = one bad (same_fault threads host.told wrong.config bad.why given bad.cause bad.known (outside_bytes threads host.told config_told wrong.config given wrong.told out))
       go (inr bad) = absurd (some (no_cause given bad out))
 
-  of_script : (line : ℕ) → IsConfigured threads host.told config_told → IsNoScript threads jobs_told line → faults.JobText line ≡ fault
+  of_script : (line : ℕ) → IsConfigured threads host.told config_told → IsNoText threads jobs_told line → faults.JobText line ≡ fault
   of_script line made outside = go wrong.wrong
     where
       go : IsConfigWrong threads host.told wrong.config fault ⊎ IsScriptWrong threads host.told wrong.config jobs_told fault → faults.JobText line ≡ fault
       go (inl bad) = absurd (no_devices made.0 bad made.1)
-      go (inr bad) = ap faults.JobText (line_once threads line bad.line jobs_told bad.bytes bad.told_jobs outside bad.first) ∙ sym bad.is
+      go (inr bad) = ap faults.JobText (text_once threads line bad.line jobs_told bad.bytes bad.told_jobs outside bad.first) ∙ sym bad.is
 
   too_long : (name : List ℕ) → IsDue host wrong.arguments.config wrong.arguments.jobs threads name → IsTooLong (host.told name) → ⊥
   too_long name (inl e) long = not_too_long (host.told name) wrong.config (ap host.told e ∙ wrong.told) wrong.short long
@@ -218,11 +170,9 @@ module _ (words : List (List ℕ)) (host : HostState) (fault : Fault) (wrong : I
     not_played : (trace : List Entry) (report : List ℕ) → AreFilesPlayed wrong.arguments host new trace report → ⊥
     not_played trace report played = go played.meant wrong.wrong
       where
-        of_jobs : (bad : IsScriptWrong threads host.told wrong.config jobs_told fault) (setup : IsMeant threads host.told config_told jobs_told played.setup) → IsNoScript threads jobs_told bad.line → ⊥
-        of_jobs bad meant (inl out) = script_inside threads jobs_told bad.bytes meant.scripts bad.line bad.told_jobs
+        of_jobs : (bad : IsScriptWrong threads host.told wrong.config jobs_told fault) (setup : IsMeant threads host.told config_told jobs_told played.setup) → IsNoText threads jobs_told bad.line → ⊥
+        of_jobs bad meant out = script_inside threads jobs_told bad.bytes meant.scripts bad.line bad.told_jobs
             (ap (scripts_of threads) (sym (read_told jobs_told bad.bytes meant.of_jobs.bytes bad.told_jobs meant.of_jobs.read)) ∙ meant.of_jobs.means) out
-        of_jobs bad meant (inr out) = script_supported threads jobs_told bad.bytes meant.scripts bad.line bad.told_jobs
-            (ap (scripts_of threads) (sym (read_told jobs_told bad.bytes meant.of_jobs.bytes bad.told_jobs meant.of_jobs.read)) ∙ meant.of_jobs.means) meant.of_jobs.built out
 
         go : IsMeant threads host.told config_told jobs_told played.setup → IsConfigWrong threads host.told wrong.config fault ⊎ IsScriptWrong threads host.told wrong.config jobs_told fault → ⊥
         go meant (inl bad) = no_devices meant.devices bad meant.of_config

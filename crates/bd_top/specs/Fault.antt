@@ -47,7 +47,6 @@ IsFaultOf name why _ = ⊥
 abbrev pub IsScriptFault : List ℕ → ScriptError → Fault → Type 0
 IsScriptFault name (script_nos.File why) fault = IsFaultOf name why fault
 IsScriptFault name (script_nos.Text line) fault = fault ≡ JobText line
-IsScriptFault name (script_nos.NotBuilt line) fault = fault ≡ JobText line
 IsScriptFault name script_nos.OutOfMemory fault = fault ≡ OutOfMemory
 
 -- the fault of a configuration whose bytes configure no devices

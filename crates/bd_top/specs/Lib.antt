@@ -1,4 +1,3 @@
-pub mod Built
 pub mod Configure
 pub mod Disks
 pub mod Exercise

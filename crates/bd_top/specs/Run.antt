@@ -30,7 +30,6 @@ use Rattle.bd_top.specs.declared.configure.ConfigureError.{ConfigureError}
 use Rattle.bd_top.specs.declared.configure.ConfigureError.TheVariants as config_nos
 use Rattle.bd_top.specs.declared.inputs.ScriptError.{ScriptError}
 use Rattle.bd_top.specs.declared.inputs.ScriptError.TheVariants as script_nos
-use Rattle.bd_top.specs.Built.{lines_in, AreBuilt, IsFirstNotBuilt}
 use Rattle.bd_top.specs.Configure.{Configures, ConfiguresAnyhow, ConfigureCause, ConfigureCauseAnyhow}
 use Rattle.bd_top.specs.Disks.{AreDisksOf, Opens}
 use Rattle.bd_top.specs.DiskRows.{TellDisks}
@@ -82,12 +81,11 @@ pub record IsDevices (threads : ℕ) (told : List ℕ → Told) (config : Told) 
   pub means : Configures threads bytes disks devices
   pub opened : AreDisksOf told means.commands disks
 
--- the bytes of the script give these scripts of this number of threads, and each of their commands is carried out
+-- the bytes of the script give these scripts of this number of threads
 pub record IsScript (threads : ℕ) (jobs : Told) (scripts : List Script) : Type 0 where
   pub bytes : List ℕ
   pub read : IsRead jobs bytes
   pub means : scripts_of threads bytes ≡ Some scripts
-  pub built : AreBuilt (lines_in scripts)
 
 -- the two files mean this setup: the devices of the one, the scripts of the other
 pub record IsMeant (threads : ℕ) (told : List ℕ → Told) (config jobs : Told) (setup : Setup) : Type 0 where
@@ -102,14 +100,6 @@ pub record IsNoText (threads : ℕ) (jobs : Told) (line : ℕ) : Type 0 where
   pub bytes : List ℕ
   pub read : IsRead jobs bytes
   pub outside : IsFirstOutside threads bytes line
-
--- the bytes of the script give scripts, and the line of this number is the first whose command isn't carried out
-pub record IsNotSupported (threads : ℕ) (jobs : Told) (line : ℕ) : Type 0 where
-  pub bytes : List ℕ
-  pub read : IsRead jobs bytes
-  pub scripts : List Script
-  pub means : scripts_of threads bytes ≡ Some scripts
-  pub first : IsFirstNotBuilt (lines_in scripts) line
 
 -- this setup was played, where its disks told these contents: this is the history, and this its report, with a line for each command
 -- where it is full
@@ -179,10 +169,6 @@ pub record AreCommands (config : Told) (commands : List Command) : Type 0 where
 abbrev pub AsksForDisk : Told → List ℕ → Type 0
 AsksForDisk config name = (commands : List Command) × AreCommands config commands × Opens commands name
 
--- the line of this number is the first of the script outside the grammar; or each is inside, and it is the first whose command isn't carried out
-abbrev pub IsNoScript : ℕ → Told → ℕ → Type 0
-IsNoScript threads jobs line = IsNoText threads jobs line ⊎ IsNotSupported threads jobs line
-
 -- the file of this name was due to be read: the configuration first, and the script only once the configuration makes its devices
 abbrev pub IsDue : HostState → List ℕ → List ℕ → ℕ → List ℕ → Type 0
 IsDue host config jobs threads name = (name ≡ config) ⊎ ((name ≡ jobs) × IsConfigured threads host.told (host.told config))
@@ -195,7 +181,6 @@ IsWanted host config jobs threads name = IsDue host config jobs threads name ⊎
 abbrev pub ScriptCause : HostState → HostState → List ℕ → ℕ → ScriptError → Type 0
 ScriptCause old new jobs threads (script_nos.File why) = ReadCause old new jobs why
 ScriptCause old new jobs threads (script_nos.Text line) = IsNoText threads (old.told jobs) line
-ScriptCause old new jobs threads (script_nos.NotBuilt line) = IsNotSupported threads (old.told jobs) line
 ScriptCause old new jobs threads script_nos.OutOfMemory = Unit {0}
 
 -- the fault comes from one of two files: the configuration, or where that makes its devices the script of this number of threads;
@@ -209,7 +194,7 @@ FileCause old new config jobs threads (ReadFault name) = IsWanted old config job
 FileCause old new config jobs threads ConfigText = IsOutside threads old.told (old.told config) config_nos.Text
 FileCause old new config jobs threads (ConfigShape place) = IsOutside threads old.told (old.told config) (config_nos.Shape place)
 FileCause old new config jobs threads (Method index code) = IsOutside threads old.told (old.told config) (config_nos.Method index code)
-FileCause old new config jobs threads (JobText line) = IsConfigured threads old.told (old.told config) × IsNoScript threads (old.told jobs) line
+FileCause old new config jobs threads (JobText line) = IsConfigured threads old.told (old.told config) × IsNoText threads (old.told jobs) line
 FileCause old new config jobs threads WriteFault = ⊥
 FileCause old new config jobs threads OutOfMemory = Unit {0}
 
@@ -251,7 +236,7 @@ Cause words old new before after (JobText line) = IsOfFiles words old new (JobTe
 -- ---- what is in form
 
 -- the host tells a configuration in the one file, which makes devices whatever blocks its disks may have, and in the other
--- a script that is carried out. Where it tells the disks' files too, their blocks are those of the files
+-- a script in the grammar. Where it tells the disks' files too, their blocks are those of the files
 pub record AreFilesInForm (arguments : Arguments) (host : HostState) : Type 0 where
   pub config : List ℕ
   pub config_told : host.told arguments.config ≡ Content config
@@ -262,7 +247,6 @@ pub record AreFilesInForm (arguments : Arguments) (host : HostState) : Type 0 wh
   pub jobs_short : length jobs ≤ max_file
   pub scripts : List Script
   pub jobs_mean : scripts_of arguments.playing.threads jobs ≡ Some scripts
-  pub built : AreBuilt (lines_in scripts)
 
 -- the files that are named are in form
 abbrev pub IsAskedInForm : Asked → HostState → Type 0
@@ -292,14 +276,14 @@ pub record IsConfigWrong (threads : ℕ) (told : List ℕ → Told) (config : Li
   pub is : fault ≡ config_fault why
 
 -- the bytes of a configuration make devices, whatever blocks its disks may have, the script is told, and the fault names its
--- first line that is wrong
+-- first line outside the grammar
 pub record IsScriptWrong (threads : ℕ) (told : List ℕ → Told) (config : List ℕ) (jobs : Told) (fault : Fault) : Type 0 where
   pub means : ConfiguresAnyhow threads told config
   pub bytes : List ℕ
   pub told_jobs : jobs ≡ Content bytes
   pub short : length bytes ≤ max_file
   pub line : ℕ
-  pub first : IsNoScript threads jobs line
+  pub first : IsNoText threads jobs line
   pub is : fault ≡ JobText line
 
 -- the words name two files, the host tells the configuration, and the fault is the first thing that is wrong with what the two say

@@ -25,8 +25,7 @@ pub enum Fault {
     /// The configuration's command of this index, from 0, is the first that is refused, with this code,
     /// which is below 0.
     Method { index: u32, code: i32 },
-    /// The script's line of this number, from 1, is the first outside the grammar; where each is inside,
-    /// the first whose command isn't carried out today.
+    /// The script's line of this number, from 1, is the first outside the grammar.
     JobText(u32),
     /// The output failed; what was written before is a prefix of the report or the generated script.
     WriteFault,

@@ -9,7 +9,6 @@ ghost use Rattle.bd_top.specs.DiskRows.{AreSetOut, StandOpen};
 ghost use Rattle.bd_top.specs.Fault.{IsScriptFault, config_fault};
 ghost use Rattle.bd_top.specs.Run.{AreCommands, IsDevices, IsScript, IsMeant, ScriptCause, FileCause};
 
-use crate::built::first_not_built;
 use crate::configure::{ConfigureError, commands_of};
 use crate::devices::{Opened, open_devices};
 use crate::fault::Fault;
@@ -80,8 +79,6 @@ pub(crate) enum ScriptError {
     File(ReadError),
     /// The line of this number is the first outside the grammar.
     Text(u32),
-    /// The line of this number is the first whose command isn't carried out.
-    NotBuilt(u32),
     OutOfMemory,
 }
 
@@ -101,14 +98,10 @@ fn scripts<H: Host>(
         Ok(bytes) => bytes,
         Err(error) => return Err(ScriptError::File(error)),
     };
-    let scripts = match read_jobs(alloc, bytes.as_slice(), threads) {
-        Ok(scripts) => scripts,
-        Err(JobError::Line(line)) => return Err(ScriptError::Text(line)),
-        Err(JobError::OutOfMemory) => return Err(ScriptError::OutOfMemory),
-    };
-    match first_not_built(scripts.as_slice()) {
-        None => Ok(scripts),
-        Some(line) => Err(ScriptError::NotBuilt(line)),
+    match read_jobs(alloc, bytes.as_slice(), threads) {
+        Ok(scripts) => Ok(scripts),
+        Err(JobError::Line(line)) => Err(ScriptError::Text(line)),
+        Err(JobError::OutOfMemory) => Err(ScriptError::OutOfMemory),
     }
 }
 
@@ -119,7 +112,6 @@ fn script_fault(alloc: Global, name: &str, error: ScriptError) -> Fault
     match error {
         ScriptError::File(error) => fault_of(alloc, name, error),
         ScriptError::Text(line) => Fault::JobText(line),
-        ScriptError::NotBuilt(line) => Fault::JobText(line),
         ScriptError::OutOfMemory => Fault::OutOfMemory,
     }
 }

@@ -1,7 +1,6 @@
 //! The top call: two files in, a report out; or generated work in their place.
 #![tactic(auto)]
 
-mod built;
 mod configure;
 mod devices;
 mod exercise;

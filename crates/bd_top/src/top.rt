@@ -3,6 +3,7 @@ ghost use Rattle.std.specs.Prelude.{◌≡◌, ◌<◌, ◌≤◌, ◌⊎◌, �
 ghost use Rattle.bd_building.specs.AioDevices.{aio_devices, AreBasesAlone};
 ghost use Rattle.bd_machine.specs.BlockMap.{StandsOnEarlier};
 ghost use Rattle.bd_node.specs.Disks.{told_of};
+ghost use Rattle.bd_node.specs.Times.{AreMomentsWithin, AreStartsWithin};
 ghost use Rattle.bd_disk_pool.specs.Covering.{AreClosed};
 ghost use Rattle.bd_outside.specs.File.{Told};
 ghost use Rattle.bd_outside.specs.declared.opening.Opening.{Opening};
@@ -65,6 +66,8 @@ where
     requires disks { length ready.disks.threads ≡ ready.setup.threads }
     ensures played { AreBasesAlone ready.setup → StandsOnEarlier ready.setup
         → IfOk result (λ done. IsPlayed ready.setup (told_of H.Disk.state ready.setup ready.disks.threads) full done.trace done.text.items) }
+    ensures moments { IfOk result (λ done. AreMomentsWithin (C.range outside.now.clock.now) done.trace) }
+    ensures starts { AreBasesAlone ready.setup → IfOk result (λ done. AreStartsWithin (C.range outside.now.clock.now) done.trace) }
     ensures disks { (told : List ℕ → Told) (base : Option (List Opening)) → AreBasesAlone ready.setup
         → AreSetOut H.Disk.state told (length ready.setup.devices) (aio_devices ready.setup) ready.disks base (H.state host.old).openings
         → IfOk result (λ done. TellDisks told (told_of H.Disk.state ready.setup ready.disks.threads) ready.setup done.trace base
@@ -102,6 +105,8 @@ where
     H::Disk: Send,
     requires { IsThreadCount arguments.playing.threads }
     ensures done { IfOk result (λ done. AreFilesPlayed (seen_arguments arguments.entry) (H.state host.old) (H.state host.new) done.trace done.text.items) }
+    ensures moments { IfOk result (λ done. AreMomentsWithin (C.range outside.now.clock.now) done.trace) }
+    ensures starts { IfOk result (λ done. AreStartsWithin (C.range outside.now.clock.now) done.trace) }
     ensures cause { IfErr result
         (FileCause (H.state host.old) (H.state host.new) arguments.entry.config.now arguments.entry.jobs.now arguments.entry.playing.threads) }
     ensures closed { AreClosed (H.state host.old).openings (H.state host.new).openings }
@@ -128,7 +133,9 @@ fn exercise<R: AllocGlobal + Threads + Wait + Sync, C: Clock + Sync, G: Gate + S
 ) -> Result<Done, OutOfMemory>
     requires numbers { numbers ≤ 500 }
     requires threads { IsThreadCount playing.threads }
-    ensures { IfOk result (λ done. IsExercised numbers playing.threads done.trace done.text.items) }
+    ensures done { IfOk result (λ done. IsExercised numbers playing.threads done.trace done.text.items) }
+    ensures moments { IfOk result (λ done. AreMomentsWithin (C.range outside.now.clock.now) done.trace) }
+    ensures starts { IfOk result (λ done. AreStartsWithin (C.range outside.now.clock.now) done.trace) }
 {
     let alloc = rt.alloc();
     let mut host = MemHost::new(alloc, Vec::new(alloc), 0, Vec::new(alloc))?;
@@ -160,6 +167,8 @@ where
     H::Disk: Send,
     requires { IsInRange (seen asked) }
     ensures done { IfOk result (λ done. IsDone (seen asked.entry) (H.state host.old) (H.state host.new) done.trace done.text.items) }
+    ensures moments { IfOk result (λ done. AreMomentsWithin (C.range outside.now.clock.now) done.trace) }
+    ensures starts { IfOk result (λ done. AreStartsWithin (C.range outside.now.clock.now) done.trace) }
     ensures cause { IfErr result (AskedCause (seen asked.entry) (H.state host.old) (H.state host.new)) }
     ensures closed { AreClosed (H.state host.old).openings (H.state host.new).openings }
     ensures unread { NamesNoFile (seen asked.entry) → H.state host.new ≡ H.state host.old }
@@ -179,8 +188,9 @@ where
 /// Both play on as many threads as `--threads` says (1 to 16, else 1). The threads are driven by as many
 /// reactors as `--reactors` says (1 to 8, else 1), beside each other, each of which passes the gate before
 /// a turn; or they take turns by the schedule that the number of `--schedule` seeds. For each turn the clock is asked
-/// once; where time alone has to pass, it pauses between rounds. `generate N` writes
-/// the generated script for as many threads as `--threads` says, and plays nothing.
+/// once, and all moments that the history names lie between those that it tells, if it tells them; so does the one
+/// since which each limited device's timeslices passed. Where time alone has to pass, it pauses between rounds.
+/// `generate N` writes the generated script for as many threads as `--threads` says, and plays nothing.
 ///
 /// The file of each aio device is opened as a disk just before its command is done, and all disks are
 /// closed before this returns, whatever it returns. After a run, a host that tells its openings has one
@@ -189,11 +199,10 @@ where
 /// that the run leaves the device, and a count of the flushes among them.
 ///
 /// Faults are looked for in this order: the words; the configuration's file, its text, its shape, its
-/// commands as they are read and as they are served; then command after command, the file that it opens
-/// and how it is done; the script's file, its grammar, and commands that aren't carried out; the output.
-/// `cause` says when each comes: a file's fault names a file that was due, and the script is due only
-/// once the configuration makes its devices. A disk that fails while it serves is no fault of this call:
-/// the request that it failed at ends so.
+/// commands as they are read; then command after command, the file that it opens and how it is done;
+/// the script's file and its grammar; the output. `cause` says when each comes: a file's fault names a
+/// file that was due, and the script is due only once the configuration makes its devices. A disk that
+/// fails while it serves is no fault of this call: the request that it failed at ends so.
 #[tactic(auto, using(crate::proofs::Answers::of_asked, crate::proofs::Answers::names_none, crate::proofs::InForm::only_memory, crate::proofs::Wrong::only_this, crate::proofs::Wrong::not_done))]
 pub fn run<
     R: AllocGlobal + Threads + Wait + Sync,
@@ -205,6 +214,8 @@ pub fn run<
 where
     H::Disk: Send,
     ensures run { IfOk result (λ r. IsRun (map string_bytes words.now) (H.state host.old) (H.state host.new) r.trace (K.state out.old) (K.state out.new)) }
+    ensures moments { IfOk result (λ r. AreMomentsWithin (C.range clock.now) r.trace) }
+    ensures starts { IfOk result (λ r. AreStartsWithin (C.range clock.now) r.trace) }
     ensures status { IfOk result (λ r. r.status ≡ 0) }
     ensures usage { asked_of (map string_bytes words.now) ≡ None → result ≡ Err Fault.Usage }
     ensures cause { IfErr result (Cause (map string_bytes words.now) (H.state host.old) (H.state host.new) (K.state out.old) (K.state out.new)) }

@@ -12,6 +12,7 @@ use Rattle.bd_outside.specs.declared.opening.Opening.{Opening}
 use Rattle.bd_machine.specs.Content.{Told}
 use Rattle.bd_machine.specs.Run.{IsCompleteRun}
 use Rattle.bd_node.specs.Disks.{told_of, SaysOfDisks}
+use Rattle.bd_node.specs.Times.{AreStartsWithin}
 use Rattle.bd_base.specs.declared.act.Entry.{Entry}
 use Rattle.bd_report.specs.declared.stats.Stats.{Stats}
 use Rattle.bd_report.specs.Report.{report_with}
@@ -70,3 +71,9 @@ returns-clause-closed g c told base are =
 pub returns-in-Err-clause-closed : goal.returns-in-Err-clause-closed
 returns-in-Err-clause-closed g c told base are =
     closed_after g.H.Disk.Disk.state told _ _ c.args.ready.disks c.in-Err.disks base _ _ _ are c.in-Err.ensures.back (closed_same (g.H.Host.state c.args.host.now).openings) c.close_all.ensures.openings
+
+pub returns-clause-starts : goal.returns-clause-starts
+returns-clause-starts g c alone =
+    let range = g.C.Clock.range c.args.outside.now.clock.now in
+    let run : IfOk c.play-played.result.0 (λ run. AreStartsWithin range run.history) = c.play-played.ensures.starts (bases_lowest c.args.ready.setup alone) in
+    search rules

@@ -21,3 +21,6 @@ pub returns-in-Err-clause-closed : goal.returns-in-Err-clause-closed
 returns-in-Err-clause-closed g c =
     let old = g.H.Host.state c.args.host.now in
     c.play_and_report.ensures.closed old.told old.openings c.in_ok-ready.ensures.opened
+
+pub returns-in-Ok-clause-starts : goal.returns-in-Ok-clause-starts
+returns-in-Ok-clause-starts g c = c.in-Ok.ensures.starts c.in_ok-ready.ensures.alone
