@@ -1,5 +1,5 @@
-//! A thread that holds what it sees, by hand: what the guards of acts that no thread makes yet refuse,
-//! and let pass; which request a mark stops first, and what a drain waits for.
+//! A thread that holds what it sees, by hand: which acts the guards refuse, and which they let
+//! pass; so which requests a mark stops, and what a drain waits for.
 ghost use Rattle.std.specs.Prelude.{filter};
 ghost use Rattle.bd_machine.specs.Registry.{references};
 ghost use Rattle.bd_machine.specs.Same.{same_id};
@@ -17,7 +17,6 @@ use bd_machine::guard::{
     NEXT_VISIT, TICK_DUE, WITHIN_LIMITS,
 };
 use bd_machine::{Handle, Id, Kept, Marking, Open, OpenWalk, Part, Registry, Trip};
-use bd_reset::{first_in_line, first_waiting, may_leave};
 use bd_rule_faults::{
     refused_abort, refused_hold, refused_inject, refused_let, refused_pend, refused_release,
     refused_tick,
@@ -38,6 +37,11 @@ const REQ: ReqId = ReqId { thread: 0, seq: 3 };
 const OTHER: ReqId = ReqId { thread: 0, seq: 4 };
 
 const WALK: WalkId = WalkId { thread: 0, seq: 0 };
+
+// The causes by which a reset and a removal of the device abort.
+const RESET: AbortCause = AbortCause::Frozen(DEV);
+
+const REMOVAL: AbortCause = AbortCause::Removed(DEV);
 
 const READ: Submission = Submission {
     op: Op::Read,
@@ -97,9 +101,9 @@ const RATES: Rates = Rates {
     w_mbytes_per_sec: 0,
 };
 
-// What the thread has: one read, open there or elsewhere, on its own way or out to the limits of its
-// device, where it may wait with so many requests left; a walk that came here for a drain; and a mark of its
-// device, a freeze mark or none.
+// What the thread has: one read, open there or elsewhere, on its own way or out to the limits of
+// its device, where it may wait with so many requests left; a walk that came here for a drain; and
+// the marks of its device: a freeze mark or none, or no marks at all.
 #[derive(Clone, Copy)]
 struct Case {
     open: bool,
@@ -128,6 +132,18 @@ const WAITING: Case = Case {
     left: 1,
     walks: false,
     marked: None,
+};
+
+// It is open, and its device is frozen.
+const FROZEN: Case = Case {
+    marked: Some(true),
+    ..OPEN
+};
+
+// Its device was frozen, and is no more.
+const THAWED: Case = Case {
+    marked: Some(false),
+    ..OPEN
 };
 
 // Puts the read where the case has it.
@@ -219,12 +235,11 @@ enum Deed {
     Pend,
     Hold,
     Release,
-    Abort(ReqId),
+    Abort(ReqId, AbortCause),
     Visit,
 }
 
 fn refused(seen: &Holder, setup: &Setup, deed: Deed) -> Result<Option<u32>, OutOfMemory> {
-    let cause = AbortCause::Removed(DEV);
     match deed {
         Deed::Let => Ok(refused_let(seen, setup, 0, REQ, DEV, 7)),
         Deed::Tick(now) => refused_tick(seen, setup, 0, DEV, now, 1),
@@ -232,7 +247,7 @@ fn refused(seen: &Holder, setup: &Setup, deed: Deed) -> Result<Option<u32>, OutO
         Deed::Pend => Ok(refused_pend(seen, 0, REQ)),
         Deed::Hold => refused_hold(seen, setup, 0, REQ, 9),
         Deed::Release => refused_release(seen, setup, 0, REQ, 9),
-        Deed::Abort(req) => Ok(refused_abort(seen, setup, 0, req, cause)),
+        Deed::Abort(req, cause) => Ok(refused_abort(seen, setup, 0, req, cause)),
         Deed::Visit => { Ok(refused_visit(seen, setup, 0, WALK, DEV, WalkKind::Drain)) }
     }
 }
@@ -248,8 +263,8 @@ fn answer(
     refused(&seen, setup, deed)
 }
 
-const ROWS: [(Case, Deed, Option<u32>); 15] = [
-    // a read that waits for the limits passes them, unless it isn't the first there or nothing is left
+const ROWS: [(Case, Deed, Option<u32>); 21] = [
+    // a read that waits for the limits passes, unless it isn't the first there or nothing is left
     (WAITING, Deed::Let, None),
     (OPEN, Deed::Let, Some(FIRST_IN_LINE)),
     (Case { left: 0, ..WAITING }, Deed::Let, Some(WITHIN_LIMITS)),
@@ -264,8 +279,30 @@ const ROWS: [(Case, Deed, Option<u32>); 15] = [
     (OPEN, Deed::Hold, Some(MAY_HOLD)),
     (OPEN, Deed::Release, Some(HOLD_OVER)),
     // a request that isn't here, and one whose device carries no mark
-    (OPEN, Deed::Abort(OTHER), Some(MAY_ABORT)),
-    (OPEN, Deed::Abort(REQ), Some(ABORT_CAUSE)),
+    (OPEN, Deed::Abort(OTHER, REMOVAL), Some(MAY_ABORT)),
+    (OPEN, Deed::Abort(REQ, REMOVAL), Some(ABORT_CAUSE)),
+    // a freeze mark stops the read while it stands, and is no cause for a removal
+    (FROZEN, Deed::Abort(REQ, RESET), None),
+    (FROZEN, Deed::Abort(REQ, REMOVAL), Some(ABORT_CAUSE)),
+    (THAWED, Deed::Abort(REQ, RESET), Some(ABORT_CAUSE)),
+    // it stops the read too where that waits for the limits, also if it isn't open on this thread
+    (
+        Case {
+            marked: Some(true),
+            ..WAITING
+        },
+        Deed::Abort(REQ, RESET),
+        None,
+    ),
+    (
+        Case {
+            open: false,
+            marked: Some(true),
+            ..WAITING
+        },
+        Deed::Abort(REQ, RESET),
+        None,
+    ),
     // no walk is here; a drain waits for the open read, and goes on without one
     (OPEN, Deed::Visit, Some(NEXT_VISIT)),
     (
@@ -285,6 +322,16 @@ const ROWS: [(Case, Deed, Option<u32>); 15] = [
         Deed::Visit,
         None,
     ),
+    // nor does it wait for a read that waits here for the limits, and isn't open on this thread
+    (
+        Case {
+            open: false,
+            walks: true,
+            ..WAITING
+        },
+        Deed::Visit,
+        None,
+    ),
 ];
 
 fn are_refused(rt: &impl Abort, alloc: Global, setup: &Setup) {
@@ -296,59 +343,8 @@ fn are_refused(rt: &impl Abort, alloc: Global, setup: &Setup) {
 }
 
 #[test]
-fn guards_of_acts_that_no_thread_makes(rt: HostRuntime) -> Result<(), Fail> {
+fn what_the_guards_refuse_and_let_pass(rt: HostRuntime) -> Result<(), Fail> {
     let setup = limited_device(rt.alloc(), RATES)?;
     are_refused(&rt, rt.alloc(), &setup);
-    Ok(())
-}
-
-// In this case, with a freeze mark or without one: which request of the thread the freeze mark stops
-// first, which of those that wait for the limits, and whether a drain may leave.
-const MARKED: [Row; 4] = [
-    (OPEN, true, Some(REQ), None, false),
-    (OPEN, false, None, None, false),
-    (WAITING, true, Some(REQ), Some(REQ), false),
-    // the thread has no open request, and one waits here
-    (
-        Case {
-            open: false,
-            ..WAITING
-        },
-        true,
-        None,
-        Some(REQ),
-        true,
-    ),
-];
-
-// A row of MARKED.
-type Row = (Case, bool, Option<ReqId>, Option<ReqId>, bool);
-
-fn is_stopped(rt: &impl Abort, seen: &Holder, setup: &Setup, (_, _, first, in_line, leaves): Row) {
-    let cause = AbortCause::Frozen(DEV);
-    assert!(rt; first_waiting(seen, setup, cause) == first);
-    assert!(rt; first_in_line(seen, setup, DEV, cause) == in_line);
-    assert!(rt; may_leave(seen, setup, DEV) == leaves);
-    // no removal mark stands
-    let removed = AbortCause::Removed(DEV);
-    assert!(rt; first_waiting(seen, setup, removed).is_none());
-}
-
-fn are_stopped(rt: &impl Abort, alloc: Global, setup: &Setup) -> Result<(), OutOfMemory> {
-    for row in &MARKED {
-        let case = Case {
-            marked: Some(row.1),
-            ..row.0
-        };
-        let seen = seen_in(alloc, setup, case)?;
-        is_stopped(rt, &seen, setup, *row);
-    }
-    Ok(())
-}
-
-#[test]
-fn what_a_mark_stops_and_a_drain_waits_for(rt: HostRuntime) -> Result<(), Fail> {
-    let setup = limited_device(rt.alloc(), RATES)?;
-    are_stopped(&rt, rt.alloc(), &setup)?;
     Ok(())
 }

@@ -1,6 +1,5 @@
-//! Tests of the guards of acts that no thread makes yet, through the public functions of the crates in
-//! which the machine's rules are programs. They stand apart because a crate with tests is proved a second
-//! time together with them.
+//! Tests of guards, through the public functions of the crates in which the machine's rules are
+//! programs. They stand apart because a crate with tests is proved a second time with them.
 #![tactic(auto)]
 
 #[cfg(test)]
