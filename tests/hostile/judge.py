@@ -524,7 +524,6 @@ SHAPES = {
     b"gone": [is_name],
 }
 SUBMITS = (b"read", b"write", b"zeroes", b"unmap", b"flush", b"reset", b"abort")
-UNBUILT = (b"reset", b"abort")
 
 
 def is_command(word, rest, thread, submitted):
@@ -551,7 +550,7 @@ def words_of(line):
 def script_fault(jobs, threads):
     if len(jobs) > MOST_BYTES:
         return "file too long: jobs"
-    submitted, unbuilt = set(), None
+    submitted = set()
     for place, line in enumerate(lines_of(jobs), 1):
         if place > MOST_LINES:
             return "script line %d" % place
@@ -565,9 +564,7 @@ def script_fault(jobs, threads):
             return "script line %d" % place
         if words[1] in SUBMITS:
             submitted.add((thread, place))
-        if words[1] in UNBUILT and unbuilt is None:
-            unbuilt = place
-    return None if unbuilt is None else "script line %d" % unbuilt
+    return None
 
 
 def fault(config, jobs, threads):

@@ -20,7 +20,7 @@ sys.path.insert(0, os.path.dirname(os.path.dirname(os.path.abspath(__file__))))
 
 from executable import executable
 
-SECONDS = 60
+SECONDS = 240
 NUMBERS = (1, 2, 4, 8)
 SIZE = 512
 REQUESTS = ("read", "write", "zeroes", "unmap", "flush")

@@ -89,7 +89,7 @@ def config_faults(config):
 
 def script_faults(jobs, threads):
     """All faults of a script, with the line, the place of the word that is wrong, and the line's number."""
-    wrong, unbuilt, submitted = [], [], set()
+    wrong, submitted = [], set()
     if len(jobs) > judge.MOST_BYTES:
         return [("file too long: jobs", None, None)]
     for place, line in enumerate(judge.lines_of(jobs), 1):
@@ -104,12 +104,9 @@ def script_faults(jobs, threads):
             wrong.append(("script line %d" % place, place, begin_of(line, 0)))
         elif len(words) < 2 or not judge.is_command(words[1], words[2:], thread, submitted):
             wrong.append(("script line %d" % place, place, begin_of(line, wrong_word(words, thread, submitted))))
-        else:
-            if words[1] in judge.SUBMITS:
-                submitted.add((thread, place))
-            if words[1] in judge.UNBUILT:
-                unbuilt.append(("script line %d" % place, place, begin_of(line, 1)))
-    return wrong + unbuilt
+        elif words[1] in judge.SUBMITS:
+            submitted.add((thread, place))
+    return wrong
 
 
 def begin_of(line, place):

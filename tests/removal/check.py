@@ -3,7 +3,8 @@ took them truly beside each other.
 
 `faults(text, threads, devices, report)` gives a list of texts, one for each thing that can't be; it is empty where nothing is
 wrong. It knows nothing of the program but docs/FORMATS.md. Devices is a list of (name, blocks, size), or of (name, blocks, size,
-kind, base, shift, boundary) for one that stands on the device of the name `base`, at its block `shift`.
+kind, base, shift, boundary, faults) for one that stands on the device of the name `base`, at its block `shift`; its faults, if it has
+any, are what stopping.py says.
 
 How it goes: the lines of the threads are partly ordered, each thread's among themselves and the post of a mark before the
 await of it. From the script, the report and this order follows what each thread is certain of at each line: that a removal
@@ -18,6 +19,8 @@ import hashlib
 import itertools
 import re
 
+from stops import Stops
+
 PERM, BADF, BUSY, EXIST, NODEV, INVAL = 1, 9, 16, 17, 19, 22
 MOST_BYTES = 262144
 MOST_OPEN = 1024
@@ -27,7 +30,8 @@ MOST_HASHED = 1 << 26
 # An order of opens, claims and closes is looked for in at most so many steps.
 MOST_STEPS = 20000
 WRITERS = ("write", "zeroes", "unmap")
-REQUESTS = ("read", "write", "zeroes", "unmap", "flush")
+RANGED = ("read", "write", "zeroes", "unmap", "flush")
+REQUESTS = RANGED + ("reset", "abort")
 
 
 # ---- what is read
@@ -44,6 +48,7 @@ class Line:
         self.place = None  # its place among the lines of its thread
         self.hold = None  # the handle to which its name is bound, as the registry has it
         self.clock = None  # for each thread, how many of its lines are certain to come before this one, or are it
+        self.ended = None  # of a request, the line of its thread by which it has ended for certain
 
     def is_(self, *result):
         return self.result == result
@@ -131,8 +136,8 @@ def patterns_of(size):
 # ---- devices, and what is known of them
 
 class Device:
-    def __init__(self, name, blocks, size, kind="malloc", base=None, shift=0, boundary=0):
-        self.name, self.blocks, self.size, self.kind, self.boundary = name, blocks, size, kind, boundary
+    def __init__(self, name, blocks, size, kind="malloc", base=None, shift=0, boundary=0, faults=None):
+        self.name, self.blocks, self.size, self.kind, self.boundary, self.faults = name, blocks, size, kind, boundary, faults or {}
         # From this one down to the one with the content, and where this one begins there; those that stand on this one.
         self.below, self.users = [self] + (base.below if base else []), []
         self.root, self.under, self.shift = self.below[-1], shift + (base.under if base else 0), shift
@@ -542,7 +547,7 @@ class Check:
         for handle in handles:
             for request in handle.open:
                 request.ended = line
-                if request.is_("aborted"):
+                if request.is_("aborted") and not self.stops.causes(request):
                     seat.marked.add(handle.device)
                     seat.learn(going=[handle.device])
             handle.open = []
@@ -641,20 +646,25 @@ class Check:
         results = []
         device = handle.device
         if not (handle.refuses or handle.is_shut or is_over(device, seat.marked) or is_over(device, seat.destructed)):
-            lba, count = int(line.words[1]), int(line.words[2])
-            if line.word != "read" and not handle.writes:
+            lba, count = (0, 0) if line.word in ("reset", "abort") else (int(line.words[1]), int(line.words[2]))
+            if line.word in ("reset", "abort"):
+                results.append(("success",))
+            elif line.word != "read" and not handle.writes:
                 results.append(("errno", BADF))
             elif count == 0 or count * device.size > MOST_BYTES or lba + count > device.blocks:
                 results.append(("errno", INVAL))
             else:
                 results.append(line.result if line.result[0] == "success" else ("success",))
                 results.append(("aborted",))
+                if self.stops.may_fail(line):
+                    results.append(("failed",))
         if self.may_be_removing(line, device):
             results.append(("errno", NODEV))
         if not self.expect(line, *results):
             return
-        if line.is_accepted():
-            line.ended = None
+        if line.is_accepted() and line.word == "abort":
+            line.ended = line
+        elif line.is_accepted():
             handle.open.append(line)
         if line.is_errno(NODEV):
             handle.refuses = True
@@ -716,17 +726,13 @@ class Check:
             self.line(self.seats[line.thread], line)
             if len(self.faults) > 20:
                 return
-        for seat in self.seats:
-            for handle in seat.names.values():
-                for request in handle.open:
-                    request.ended = None
 
     def check_aborts(self):
         for line in self.sorted:
-            if line.is_("aborted"):
+            if line.is_("aborted") and not self.stops.causes(line) and not self.stops.is_kept(line):
                 goings = line.hold.device.goings()
                 if not goings:
-                    self.fault(line, "nothing was removed that could stop it")
+                    self.fault(line, "nothing was removed or asked for that could stop it")
                 elif line.ended is not None and all(self.is_before(line.ended, removal) for removal in goings):
                     self.fault(line, "it had ended before the removal began")
 
@@ -737,6 +743,8 @@ class Check:
             if line is None:
                 continue
             waits = line.word == "await" and line.words[0] not in self.posts
+            if line.word == "wait":
+                waits = any(self.stops.hangs(request) for request in self.of_thread[thread][: line.place])
             if line.word == "gone":
                 handle = self.seats[thread].names.get(line.words[0])
                 waits = handle is not None and not handle.device.goings()
@@ -755,8 +763,8 @@ class Check:
                     ended = len(self.lines) if line.ended is None else line.ended.place
                     of_thread[0].append(line)
                     of_thread[1].append(max(ended, of_thread[1][-1]) if of_thread[1] else ended)
-            elif line.word in WRITERS and line.is_("aborted") and line.hold.device.is_cut(line):
-                # Some of its pieces may have been done.
+            elif line.word in WRITERS and line.is_("aborted") and (line.hold.device.is_cut(line) or self.stops.is_held(line)):
+                # Some of its pieces may have been done, or all, and it was held then.
                 for block in self.blocks_of(line):
                     parts.setdefault((line.hold.device.root, block), []).append(line)
 
@@ -779,7 +787,7 @@ class Check:
 
     def values_at(self, read, writes, parts, block):
         """What a block may hold for a read, or at the end, where `read` is None."""
-        had_ended = lambda line: line.ended is not None and (read is None or self.is_before(line.ended, read))
+        had_ended = lambda line: any(read is None or self.is_before(end, read) for end in self.stops.ends(line))
         is_later = lambda line: read is not None and read.ended is not None and self.is_before(read.ended, line)
         # Of each thread, how many lines had certainly come before a write that had ended before the read.
         covered, is_written = [0] * self.threads, False
@@ -869,12 +877,14 @@ class Check:
             return self.faults
         self.find_removals()
         self.find_holds()
+        self.stops = Stops(self)
         self.play()
         if self.faults:
             return self.faults
         for device in self.devices.values():
             self.check_order_at(device)
         self.check_aborts()
+        self.stops.check_injections()
         self.check_skipped()
         digests = self.check_data()
         self.check_gone_lines()

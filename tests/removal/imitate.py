@@ -5,7 +5,8 @@ code with the program or the checker, and knows malloc and null devices, passthr
 steps; which thread is next, and which of the things that it may do it does, is left to chance.
 
 A device is (name, blocks, size), or with more: (name, blocks, size, kind, base, shift, boundary), where base is the name of the
-device that it stands on, at block `shift` of it, and requests are cut at multiples of `boundary`.
+device that it stands on, at block `shift` of it, and requests are cut at multiples of `boundary`. What a delay device, an error
+device or a limit does to requests, and what resets and aborts do, stopping.py adds.
 """
 
 import hashlib
@@ -20,8 +21,8 @@ STEPS = bytes(7 * i % 256 for i in range(256))
 
 
 class Device:
-    def __init__(self, place, name, blocks, size, kind="malloc", base=None, shift=0, boundary=0):
-        self.place, self.name, self.blocks, self.size, self.kind = place, name, blocks, size, kind
+    def __init__(self, place, name, blocks, size, kind="malloc", base=None, shift=0, boundary=0, faults=None):
+        self.place, self.name, self.blocks, self.size, self.kind, self.faults = place, name, blocks, size, kind, faults or {}
         self.base, self.shift, self.boundary = base, shift, boundary
         # From this one down to the one with the content; and those that stand on this one.
         self.below, self.users = [self] + (base.below if base else []), []
@@ -158,13 +159,17 @@ class Imitation:
                             weights = [self.weights[kind] for kind, _ in choices]
                             if not choices:
                                 break
-            if not moved:
+            if not moved and not self.pass_time():
                 if self.shut:
                     return self.report()
                 self.shut = True
                 for device in reversed(self.devices.values()):
                     if device.standing == "live":
                         self.begin_removal(0, device)
+
+    def pass_time(self):
+        """Whether something goes on that had to wait for time alone."""
+        return False
 
     # ---- messages
 
@@ -176,7 +181,9 @@ class Imitation:
         source = self.random.choice([s for s in range(len(self.threads)) if self.rings[s][t]])
         message = self.rings[source][t].popleft()
         self.waiting[t] -= 1
-        kind, what = message
+        self.came(t, *message)
+
+    def came(self, t, kind, what):
         thread = self.threads[t]
         if kind == "piece":
             what[1].handle.device.root.queue.append(what)

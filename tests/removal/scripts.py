@@ -11,8 +11,9 @@ import random
 from collections import namedtuple
 
 Made = namedtuple("Made", "text threads devices plan")
-# A device stands on the one of the name `base`, at its block `shift`. Requests are cut at multiples of `boundary`.
-Row = namedtuple("Row", "name blocks size kind base shift boundary", defaults=("malloc", None, 0, 0))
+# A device stands on the one of the name `base`, at its block `shift`. Requests are cut at multiples of `boundary`. Its faults, if it has
+# any, are what stopping.py says.
+Row = namedtuple("Row", "name blocks size kind base shift boundary faults", defaults=("malloc", None, 0, 0, None))
 
 DEVICE = "Disk0"
 ABSENT = "Disk1"

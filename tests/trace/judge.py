@@ -9,6 +9,10 @@ import re
 from collections import Counter, defaultdict
 
 LIMITS = ("rw_ios_per_sec", "rw_mbytes_per_sec", "r_mbytes_per_sec", "w_mbytes_per_sec")
+# Types that have no blocks.
+WITHOUT_RANGE = ("reset", "abort")
+# The number by which an abort names no request.
+NOBODY = 2**64 - 1
 # Which limits count a request of a type.
 COUNTS = {"read": LIMITS[:3], "write": (*LIMITS[:2], LIMITS[3])}
 
@@ -90,16 +94,18 @@ def requests(entries):
     for name in accepted:
         if completed[name] != 1:
             yield f"request {name} is completed {completed[name]} times"
-        if status.get(name) == "success" and applied[name] != Counter(range(pieces[name])):
+        wanted = Counter() if accepted[name].get("type") in WITHOUT_RANGE else Counter(range(pieces[name]))
+        if status.get(name) == "success" and applied[name] != wanted:
             yield f"request {name} succeeded with the pieces {dict(applied[name])} of {pieces[name]}"
 
 
 def cuts(entries):
-    """A request is cut once, before its first piece goes; one that is aborted may not be, and one that an injected error fails isn't."""
+    """A request is cut once, before its first piece goes; one that is aborted may not be, and one that an injected error fails isn't. Resets
+    and aborts aren't cut."""
     cut, sent, status, injected = Counter(), set(), {}, set()
     for entry in entries:
         name = entry.get("request")
-        if entry.act == "inject" and entry.get("decision") == "fail":
+        if entry.act == "inject" and entry.get("decision") == "fail" or entry.act == "accept" and entry.get("type") in WITHOUT_RANGE:
             injected.add(name)
         if entry.act == "cut":
             cut[name] += 1
@@ -223,7 +229,7 @@ def registry(entries, kept):
     for entry in entries:
         event, answer, device = entry.get("event"), entry.get("answer"), entry.get("device")
         if entry.act == "visit":
-            visits[device, str(entry.thread)] += 1
+            visits[device, str(entry.thread)] += entry.get("kind") == "removal"
         elif entry.act == "destruct":
             ended[device] += 1
         elif entry.act == "took" and entry.get("message") == "channel":
@@ -250,11 +256,113 @@ def registry(entries, kept):
         yield f"handles are numbered {opened}"
     if any(closed[handle] != 1 for handle in range(opened[-1] + 1 if opened else 0)):
         yield f"handles are closed {dict(closed)} times"
-    for what, one, other in [("channels got and given back", got + kept, back), ("channels kept", put, kept), ("visits", visits, wanted), ("devices that end", ended, told)]:
+    for what, one, other in [("channels got and given back", got + kept, back), ("channels kept", put, kept), ("visits", +visits, wanted), ("devices that end", ended, told)]:
         if one != other:
             yield f"{what}: {dict(one)} and {dict(other)}"
     if any(drops.values()):
         yield f"channels to be dropped: {dict(drops)}"
+
+
+class Reset:
+    """A reset that was accepted: what it covers of what is open then, and the threads that each of its walks has to visit."""
+
+    def __init__(self, entry, older):
+        self.name, self.thread, self.device, self.older = entry.get("request"), entry.thread, int(entry.get("device")), older
+        self.stage, self.left, self.threads = "accepted", [], []
+
+    def begin(self, threads):
+        self.stage, self.left, self.threads = "freeze", list(threads), list(threads)
+        self.go_on()
+
+    def go_on(self):
+        """A walk that visited all is followed by the next one."""
+        if not self.left and self.stage == "freeze":
+            self.stage, self.left = "drain", list(self.threads)
+        if not self.left and self.stage in ("drain", "thaw"):
+            self.stage = {"drain": "drained", "thaw": "thawed"}[self.stage]
+
+
+def resets(entries, devices):
+    """One reset of a device runs at a time, and those that wait for it follow in the order in which they asked. Each freezes and then
+    drains the threads that had a channel as it began, and thaws those that have one then, in rising number; at a drain and at its end
+    nothing of what it covers is open, there or anywhere. A request is aborted by an abort of its thread that is open and names it."""
+    still_open, running, waiting, handles = {}, {}, defaultdict(list), {}
+    for entry in entries:
+        name, line = entry.get("request"), entry.line()
+        is_over = lambda begin, device: begin.get("type") != "reset" and device in devices.below[int(begin.get("device"))]
+        covered = lambda device, thread=None: [other for other, begin in still_open.items() if is_over(begin, device) and thread in (None, begin.thread)]
+        if entry.act == "accept":
+            handles[name] = entry.get("handle")
+            still_open[name] = entry
+            if entry.get("type") == "reset":
+                entry.reset = Reset(entry, covered(int(entry.get("device"))))
+        elif entry.act == "registry" and entry.get("event") in ("begin-reset", "end-reset", "finish-reset") and entry.get("answer") != "refused":
+            device, answer = int(entry.get("device")), entry.get("answer")
+            reset = still_open[name].reset if answer in ("reset-started", "reset-queued") else running.get(device)
+            wanted = {"reset-started": "accepted", "reset-queued": "accepted", "reset-ended": "drained", "reset-finished": "thawed"}[answer]
+            is_out_of_turn = wanted == "accepted" and (answer == "reset-started") == (device in running)
+            if reset is None or reset.stage != wanted or reset.thread != entry.thread or is_out_of_turn:
+                yield f"{line!r} comes while the reset is {reset and reset.stage}, and {running.get(device) and running[device].name} runs"
+                continue
+            if answer == "reset-started":
+                reset.begin(entry.all("thread"))
+                running[device] = reset
+            elif answer == "reset-queued":
+                waiting[device].append(reset)
+            elif answer == "reset-ended":
+                reset.stage, reset.left = "thaw", list(entry.all("thread"))
+                reset.go_on()
+            else:
+                reset.stage = "finished"
+                del running[device]
+                following = [field[1] for field in entry.fields if field[0] == "next"]
+                if following != [each.name for each in waiting[device][:1]]:
+                    yield f"{line!r}, and next is {[each.name for each in waiting[device]]}"
+                elif following:
+                    running[device] = waiting[device].pop(0)
+                    running[device].begin(entry.all("thread"))
+        elif entry.act == "visit" and entry.get("kind") != "removal":
+            device = int(entry.get("device"))
+            reset = running.get(device)
+            if reset is None or reset.stage != entry.get("kind") or reset.left[:1] != [str(entry.thread)]:
+                yield f"{line!r}, and the reset is {reset and (reset.name, reset.stage, reset.left)}"
+                continue
+            if reset.stage == "drain" and covered(device, entry.thread):
+                yield f"{line!r}, and open are {covered(device, entry.thread)}"
+            reset.left.pop(0)
+            reset.go_on()
+        elif entry.act == "abort" and entry.get("cause") == "named":
+            by = entry.get("by")
+            begin = still_open.get(by)
+            if begin is None or begin.thread != entry.thread or handles[by] != handles[name] or f"{entry.thread}.{begin.get('names')}" != name:
+                yield f"{line!r}, and {by} is {begin and begin.line()!r}"
+        elif entry.act == "complete" and name in still_open:
+            begin = still_open.pop(name)
+            if begin.get("type") == "reset":
+                left = [other for other in begin.reset.older if other in still_open]
+                if begin.reset.stage != "finished" or left:
+                    yield f"{line!r}: it is {begin.reset.stage}, and open are {left}"
+    if running:
+        yield f"resets run at the end: {[reset.name for reset in running.values()]}"
+
+
+def aborts(entries, devices):
+    """A request is aborted by a mark that is set on the thread, of a device below its own: a removal's stays, and a reset's is set by the
+    visit of its freeze or with the channel that is made meanwhile, and taken away by its thaw or with the channel."""
+    marks, below = set(), {}
+    for entry in entries:
+        device, thread = entry.get("device"), entry.thread
+        if entry.act == "accept":
+            below[entry.get("request")] = devices.below[int(device)]
+        elif entry.act == "visit" and entry.get("kind") in ("freeze", "removal"):
+            marks.add(("frozen" if entry.get("kind") == "freeze" else "removed", thread, device))
+        elif entry.act == "visit" and entry.get("kind") == "thaw" or entry.get("answer") == "dropped" and entry.get("channel") != "kept":
+            marks.discard(("frozen", thread, device))
+        elif entry.get("answer") == "got":
+            marks.update(("frozen", thread, frozen) for frozen in entry.all("frozen"))
+        elif entry.act == "abort" and entry.get("cause") != "named":
+            if (entry.get("cause"), thread, device) not in marks or int(device) not in below[entry.get("request")]:
+                yield f"{entry.line()!r}, and there is no such mark"
 
 
 def asked(entries, script):
@@ -365,6 +473,15 @@ def job_result(entry, completions):
     return end.get("status") + data
 
 
+def is_asked(words, request, of_lines):
+    """Whether a request is what a line asks for. An abort names the request of its line, if that was one of the same handle."""
+    if words[1] not in WITHOUT_RANGE:
+        return [words[1], *words[3:5]] == [request.get("type"), request.get("lba"), request.get("count")]
+    named = of_lines.get((request.thread, words[3])) if words[1] == "abort" else None
+    number = named.get("request").split(".")[1] if named and named.get("handle") == request.get("handle") else str(NOBODY)
+    return [words[1], number if words[1] == "abort" else None] == [request.get("type"), request.get("names")]
+
+
 def lines(report, entries, script):
     """Each job line is what its entry says; the request that a line is accepted as is what the script has there."""
     done, completions, accepted = {}, {}, {}
@@ -388,14 +505,15 @@ def lines(report, entries, script):
                 yield f"{line!r}, and the entries say {found!r}"
     if any(line.startswith("job ") for line in report) and done:
         yield f"the report has no line for {sorted(done)}"
+    of_lines = {}
     for (thread, number), entry in ((key, it) for key, it in done_again(entries) if script):
         words = script[number - 1].split()
         if words[0] != str(thread):
             yield f"line {number} is done by thread {thread}"
         request = accepted.get(entry.get("request")) if entry.get("outcome") == "accepted" else None
-        if entry.get("outcome") == "accepted" and (request is None or [words[1], *words[3:5]]
-                != [request.get("type"), request.get("lba"), request.get("count")]):
+        if entry.get("outcome") == "accepted" and (request is None or not is_asked(words, request, of_lines)):
             yield f"line {number} {words} is accepted as {request and request.line()!r}"
+        of_lines[thread, str(number)] = request
 
 
 def done_again(entries):
@@ -407,7 +525,8 @@ def wrong_with(report, entries, script, config=(), threads=1):
     """Returns what is wrong with these, at most ten of each kind. The configuration is its commands; they and the number of threads
     need not be there where no device has a limit."""
     found, devices = [], Devices(report, config, threads)
-    for part in (order(entries), requests(entries), cuts(entries), decisions(entries), limits(entries, devices), registry(entries, devices.kept()), asked(entries, script),
+    for part in (order(entries), requests(entries), cuts(entries), decisions(entries), limits(entries, devices), registry(entries, devices.kept()), resets(entries, devices), aborts(entries, devices),
+                 asked(entries, script),
                  messages(entries), ends(report, entries), counts(report, entries), lines(report, entries, script)):
         found += list(part)[:10]
     return found

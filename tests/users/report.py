@@ -122,7 +122,7 @@ N,null,1099511627776,4096,18446744073709551615,0,18446744073709551615,0,
 
 EVERY_VERDICT = """line 2 thread 0 open: refused, errno 17 EEXIST: the name is bound to an open handle
 line 3 thread 0 write: failed: the file of its device did, or an injected error met it
-line 4 thread 0 write: aborted: its device was removed, by the script or as the run ended
+line 4 thread 0 write: aborted: by a reset, by an abort that names it, or as its device was removed, by the script or as the run ended
 line 7 thread 0 close: refused, errno 16 EBUSY: the handle has 2 open requests
 line 8 thread 1 unmap: refused, errno 95 ENOTSUP: an aio device takes none
 line 9 thread 1 claim: refused, errno 22 EINVAL: the key is 0
@@ -135,7 +135,7 @@ bad: 1 failed, 1 aborted, 4 refused, 2 skipped, 2 waiting
 
 INJECTED_VERDICT = """line 2 thread 0 write: failed: the file of its device did, or an injected error met it
 line 4 thread 0 write: failed: the file of its device did, or an injected error met it
-line 16 thread 0 read: aborted: its device was removed, by the script or as the run ended
+line 16 thread 0 read: aborted: by a reset, by an abort that names it, or as its device was removed, by the script or as the run ended
 line 18 thread 0 wait: never done: a request before it never ended
 line 19 thread 0 close: never done: it stands after line 18
 bad: 2 failed, 1 aborted, 2 skipped
@@ -168,6 +168,8 @@ BROKEN = [
     ("job 1 0 open ok", "job 1 0 open ok\r", 1),
     ("job 1 0 open ok", "job 1\t0 open ok", 1),
     ("job 1 0 open ok", "job 1 0 reset ok", 1),
+    ("job 1 0 open ok", "job 1 0 reset aborted", 1),
+    ("job 1 0 open ok", "job 1 0 abort failed", 1),
     ("job 1 0 open ok", "Job 1 0 open ok", 1),
     ("job 1 0 open ok", "job 20001 0 open ok", 1),
     ("job 1 0 open ok", "no file: config.json", 1),

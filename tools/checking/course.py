@@ -2,7 +2,7 @@
 
 The program ends with status 0 whatever a request came to, so such a slip is easily overlooked. Nothing is said of devices that
 the script removes or claims, nor of lines whose answer depends on the order in which threads take their turns, nor of those after a
-wait that a request may hold up for ever: one that an injected error keeps.
+wait that a request may hold up for ever: one that an injected error keeps, and that no reset of the same thread frees.
 """
 
 from .places import quoted
@@ -14,7 +14,8 @@ UNBOUND, UNSURE = "unbound", "unsure"
 WRITES = ("write", "zeroes", "unmap", "flush")
 # The types of request by which injected errors go, where they have other names.
 TYPES = {"zeroes": "write_zeroes"}
-SUBMITS = ("read", *WRITES)
+RANGED = ("read", *WRITES)
+SUBMITS = (*RANGED, "reset", "abort")
 
 
 class Handle:
@@ -36,7 +37,7 @@ class Course:
         self.errnos = {}  # of lines: the number of the error, or None where the line is never done
         for thread in sorted({thread for _, thread, _ in script.commands}):
             self.handles = {}
-            self.may_hang = False
+            self.hanging = []  # the devices on which requests may be kept; None where it isn't sure which
             for place, of_thread, words in script.commands:
                 if of_thread == thread and not self.goes_on(place, words):
                     break
@@ -75,7 +76,7 @@ class Course:
         """Follows a line; whether its thread goes on after it."""
         word = words[0]
         if word == "wait":
-            if self.may_hang:
+            if self.hanging:
                 return False
             for handle in self.handles.values():
                 if isinstance(handle, Handle):
@@ -117,7 +118,8 @@ class Course:
         name = words[1]
         handle = self.handles.get(name, UNBOUND)
         if handle is UNSURE:
-            self.may_hang = self.may_hang or word in SUBMITS and self.keeps(word)
+            if word in RANGED and self.keeps(word):
+                self.hanging.append(None)
             return True
         if handle is UNBOUND:
             self.note(place, 9, "no handle %s is open on this thread" % quoted(name))
@@ -129,7 +131,10 @@ class Course:
             if handle.is_used:
                 self.notes.append(Mistake(None, None, 0, "no wait stands before this: where a request is open yet, it ends with errno 16",
                                           (self.script.name, (place, self.script.columns[place])), place))
-        elif word in SUBMITS:
+        elif word == "reset":
+            handle.is_used = True
+            self.hanging = [device for device in self.hanging if device is None or handle.device.name not in self.stack(device)]
+        elif word in RANGED:
             self.submit(place, word, handle, name, int(words[2]), int(words[3]))
         return True
 
@@ -149,4 +154,5 @@ class Course:
             self.note(place, 22, "the blocks %d to %d pass the end of %s, which has %d blocks" % (first, first + count - 1, quoted(device.name), device.blocks))
         else:
             handle.is_used = True
-            self.may_hang = self.may_hang or self.keeps(word, device)
+            if self.keeps(word, device):
+                self.hanging.append(device)

@@ -3,7 +3,7 @@
 from .places import shown
 
 # The order in which the program looks for causes.
-WORDS, CONFIG_FILE, CONFIG_TEXT, SHAPE, READING, DEVICES, JOBS_FILE, JOBS_TEXT, JOBS_SERVING = range(9)
+WORDS, CONFIG_FILE, CONFIG_TEXT, SHAPE, READING, DEVICES, JOBS_FILE, JOBS_TEXT = range(8)
 
 USAGE = "usage: bdevrun run CONFIG JOBS, exercise N or generate N; options --threads N --reactors N --schedule N"
 

@@ -1,8 +1,8 @@
-"""Reads a script: each line that isn't a command, or isn't carried out, with the word that is wrong."""
+"""Reads a script: each line that isn't a command, with the word that is wrong."""
 
 import re
 
-from .mistakes import JOBS_SERVING, JOBS_TEXT, Mistake
+from .mistakes import JOBS_TEXT, Mistake
 from .places import counted, listed, quoted, shown
 from .rules import MOST_LINES, MOST_THREADS, U64, meant
 
@@ -29,8 +29,6 @@ COMMANDS = {
     "reset": ("HANDLE",),
     "abort": ("HANDLE", "LINE"),
 }
-UNSERVED = ("reset", "abort")
-SERVED = [word for word in COMMANDS if word not in UNSERVED]
 SUBMITS = ("read", "write", "zeroes", "unmap", "flush", "reset", "abort")
 NUMBERS = ("LBA", "COUNT", "SEED", "KEY", "LINE", "MICROS")
 CLAIMS = ("exclusive", "one", "none", "shared")
@@ -118,19 +116,16 @@ class Script:
         self.commands.append((place, thread, [text_of(each) for _, each in words[1:]]))
         if word in SUBMITS:
             self.submitted.add((thread, place))
-        if word in UNSERVED:
-            said = "'%s' isn't carried out yet; the commands that are: %s" % (word, listed(SERVED, "and"))
-            self.add(JOBS_SERVING, place, line, words[1][0], said)
 
     def command(self, place, words):
         """Raises what is wrong first with a line's words."""
         thread = self.thread(place, words)
         if len(words) < 2:
-            raise Wrong(1, "the line ends after the thread's number; a command is %s" % listed(SERVED))
+            raise Wrong(1, "the line ends after the thread's number; a command is %s" % listed(list(COMMANDS)))
         word = text_of(words[1])
         if word not in COMMANDS:
             close = meant(word.lower(), COMMANDS)
-            raise Wrong(1, "%s is no command%s; a command is %s" % (quoted(word), "; '%s' is meant, it seems" % close if close else "", listed(SERVED)))
+            raise Wrong(1, "%s is no command%s; a command is %s" % (quoted(word), "; '%s' is meant, it seems" % close if close else "", listed(list(COMMANDS))))
         wanted = COMMANDS[word]
         if word == "claim" and words[3:4] == [b"shared"]:
             wanted = ("HANDLE", "KIND", "KEY")
