@@ -8,7 +8,7 @@ ghost use Rattle.bd_machine.specs.View.{blank_part};
 
 use crate::limits::{is_limited, one_quota, rates_of};
 use bd_base::{DevId, DevRow, Kind, OutOfMemory, Rows, Setup};
-use bd_machine::{Base, Content, Limited, Moments, Part};
+use bd_machine::{Base, Content, Limited, Moments, OpenList, Part};
 use bd_pages::Blocks;
 use bd_stack::{home, row_of};
 use std::alloc::Global;
@@ -140,7 +140,7 @@ fn part_with(alloc: Global, bases: Rows<Base>, limited: Rows<Limited>) -> Part
         next_walk: 0,
         due: Rows::new(alloc),
         owed: Rows::new(alloc),
-        requests: Rows::new(alloc),
+        requests: OpenList::new(alloc),
         marked: Rows::new(alloc),
         resets: Rows::new(alloc),
         moments: Moments {

@@ -24,6 +24,6 @@ pub use messages::{arrived, put, took};
 pub use noted::note_taken;
 pub use notices::take_notice;
 pub use registry::{between_after, change_handles, register};
-pub use requests::{accepted, completed, remove_open};
+pub use requests::{accepted, completed};
 pub use resets::{advance, freeze, stage};
 pub use walks::{Plan, begin_walk, end_walk, is_at_end, walk_on};

@@ -1,8 +1,6 @@
 //! A request is accepted, or completes.
-ghost use Rattle.std.specs.Prelude.{◌≡◌, ◌++◌, ◌==◌, filter, not, option_copied, position, OnOk};
-ghost use Rattle.std.specs.List.{list_all};
+ghost use Rattle.std.specs.Prelude.{◌≡◌, ◌++◌, filter, not, option_copied, OnOk};
 ghost use Rattle.bd_machine.specs.Requests.{change_complete, submitted_at};
-ghost use Rattle.bd_machine.specs.Same.{same_request};
 ghost use Rattle.bd_machine.specs.Walks.{is_reset_of};
 ghost use Rattle.bd_rule_effects.specs.Accepted.{accepted};
 ghost use Rattle.bd_rule_effects.specs.Lone.{lone};
@@ -10,7 +8,6 @@ ghost use Rattle.bd_rule_effects.specs.Lone.{lone};
 use bd_base::{HandleId, Line, OutOfMemory, ReqId, Rows};
 use bd_machine::{Decided, Open, Part, Resetting, Submitted};
 use bd_rule_requests::is_reset_of;
-use bd_rule_view::same_request;
 use std::alloc::Global;
 use std::mem::replace;
 
@@ -49,43 +46,6 @@ pub fn accepted(part: &mut Part, line: Option<&Line>, request: Open) -> Result<(
     Ok(())
 }
 
-// The place of the first request of this id.
-fn place_of(requests: &[Open], req: ReqId) -> Option<usize>
-    ensures { result ≡ position (λ r. same_request r.id req) requests.now }
-{
-    requests.iter().position(|r| same_request(r.id, req))
-}
-
-// Whether each request has another number than this one.
-fn has_other_numbers(requests: &[Open], req: ReqId) -> bool
-    ensures { result ≡ list_all (λ r. not (r.id.seq == req.seq)) requests.now }
-{
-    requests.iter().all(|r| r.id.seq != req.seq)
-}
-
-// Takes out each request of this id. Ids are given once, so that is one; and requests complete mostly in
-// the order in which they were accepted, so it stands near the front.
-fn take_out(requests: &mut Vec<Open>, req: ReqId)
-    ensures { requests.new.items ≡ filter (λ r. not (same_request r.id req)) requests.old.items }
-{
-    let Some(place) = place_of(requests.as_slice(), req) else {
-        return;
-    };
-    requests.remove(place);
-    if !has_other_numbers(requests.as_slice(), req) {
-        requests.retain(|r| !same_request(r.id, req));
-    }
-}
-
-/// Takes a request out of those that are open.
-pub fn remove_open(alloc: Global, requests: &mut Rows<Open>, req: ReqId)
-    ensures { requests.new ≡ filter (λ r. not (same_request r.id req)) requests.old }
-{
-    let mut left = replace(requests, Rows::new(alloc)).into_vec();
-    take_out(&mut left, req);
-    *requests = Rows::from_vec(left);
-}
-
 // Takes the reset of a request out of the thread's.
 fn remove_reset(alloc: Global, resets: &mut Rows<Resetting>, req: ReqId)
     ensures { resets.new ≡ filter (λ r. not (is_reset_of req r)) resets.old }
@@ -99,6 +59,6 @@ fn remove_reset(alloc: Global, resets: &mut Rows<Resetting>, req: ReqId)
 pub fn completed(alloc: Global, part: &mut Part, req: ReqId)
     ensures { part.new ≡ (change_complete (lone part.old) req).part }
 {
-    remove_open(alloc, &mut part.requests, req);
+    part.requests.remove(req);
     remove_reset(alloc, &mut part.resets, req);
 }

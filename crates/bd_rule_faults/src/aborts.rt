@@ -7,7 +7,7 @@ ghost use Rattle.bd_machine.specs.Step.{first_failing};
 use bd_base::{AbortCause, DevId, Op, ReqId, Setup};
 use bd_blocks::is_below;
 use bd_machine::guard::{ABORT_CAUSE, MAY_ABORT};
-use bd_machine::{Hold, Open, OpenRequest};
+use bd_machine::{Hold, Open, OpenList, OpenRequest};
 use bd_rule_requests::{any_unsent, has_range, is_fail, is_frozen, is_removed, request_here};
 use bd_rule_view::{Sees, same_request};
 
@@ -55,7 +55,7 @@ fn is_named_by(thread: u32, req: ReqId, r: OpenRequest, by: ReqId, o: &Open) -> 
 }
 
 // Whether the abort `by` is open, and names the request.
-fn is_named(thread: u32, req: ReqId, r: OpenRequest, by: ReqId, requests: &[Open]) -> bool
+fn is_named(thread: u32, req: ReqId, r: OpenRequest, by: ReqId, requests: &OpenList) -> bool
     ensures { result ≡ list_any (is_named_by thread req r by) requests.now }
 {
     requests.iter().any(|o| is_named_by(thread, req, r, by, o))
@@ -76,7 +76,7 @@ fn is_cause<S: Sees>(
     match cause {
         AbortCause::Frozen(dev) => is_below(setup, r.dev, dev) && is_frozen(part, dev),
         AbortCause::Removed(dev) => is_below(setup, r.dev, dev) && is_removed(part, dev),
-        AbortCause::Named(by) => is_named(thread, req, r, by, part.requests.as_slice()),
+        AbortCause::Named(by) => is_named(thread, req, r, by, &part.requests),
     }
 }
 

@@ -13,7 +13,7 @@ use crate::jobs::{claims, closes, opens, removes};
 use crate::lines::{job_now, open_on};
 use bd_base::{DevId, HandleId, Name, RegEvent, ReqId, Setup};
 use bd_blocks::{device_named, is_base_handle};
-use bd_machine::{Between, Open, Owed, Part, Stage};
+use bd_machine::{Between, OpenList, Owed, Part, Stage};
 use bd_rule_requests::{asks_injection, is_gone, is_reset, reset_of};
 use bd_rule_view::{Sees, same_owed, same_request, same_stage};
 
@@ -96,7 +96,7 @@ fn is_asked_remove<S: Sees>(seen: &S, setup: &Setup, thread: u32, shut: bool, na
 }
 
 // Whether it is an open reset of the device by this thread.
-fn is_open_reset(requests: &[Open], dev: DevId, req: ReqId) -> bool
+fn is_open_reset(requests: &OpenList, dev: DevId, req: ReqId) -> bool
     ensures { result ≡ list_any (λ o. same_request o.id req && same_dev o.dev dev && is_reset o.op) requests.now }
 {
     requests.iter().any(|o| same_request(o.id, req) && o.dev.0 == dev.0 && is_reset(o.op))
@@ -106,7 +106,7 @@ fn is_open_reset(requests: &[Open], dev: DevId, req: ReqId) -> bool
 fn is_new_reset(part: &Part, dev: DevId, req: ReqId) -> bool
     ensures { result ≡ is_new_reset part.now dev req }
 {
-    let is_here = is_open_reset(part.requests.as_slice(), dev, req);
+    let is_here = is_open_reset(&part.requests, dev, req);
     is_here && reset_of(part, req).is_none()
 }
 

@@ -53,7 +53,6 @@ pub fn open_on(part: &Part, handle: HandleId) -> usize
     ensures { result ≡ open_on part.now handle }
 {
     part.requests
-        .as_slice()
         .iter()
         .filter(|r| r.handle.0 == handle.0)
         .count()

@@ -10,7 +10,7 @@ ghost use Rattle.bd_steps.specs.Stopping.{abortable, base_under, channels_left, 
 
 use bd_base::{AbortCause, DevId, OutOfMemory, ReqId, Rows, Setup, Status, Token};
 use bd_blocks::base_of;
-use bd_machine::{Id, Kept, Limited, Open, OpenRequest, Part, Progress, Trip};
+use bd_machine::{Id, Kept, Limited, OpenList, OpenRequest, Part, Progress, Trip};
 use bd_retries::Retries;
 use bd_rule_faults::{depart, refused_abort, waits_at};
 use bd_rule_requests::request_here;
@@ -163,10 +163,13 @@ pub fn turn_back(
 }
 
 // Adds the ids of open requests.
-fn add_open(ids: &mut Rows<ReqId>, requests: &[Open]) -> Result<(), OutOfMemory>
+fn add_open(ids: &mut Rows<ReqId>, requests: &OpenList) -> Result<(), OutOfMemory>
     ensures { OnOk result (ids.new ≡ ids.old ++ map (λ o. o.id) requests.now) }
 {
-    for open in requests {
+    for place in 0..requests.len() {
+        let Some(open) = requests.get(place) else {
+            break;
+        };
         ids.push(open.id)?;
     }
     Ok(())
@@ -206,7 +209,7 @@ pub fn stoppable(alloc: Global, part: &Part) -> Result<Rows<ReqId>, OutOfMemory>
     ensures { IfOk result (λ ids. ids ≡ stoppable part.now) }
 {
     let mut ids = Rows::new(alloc);
-    add_open(&mut ids, part.requests.as_slice())?;
+    add_open(&mut ids, &part.requests)?;
     add_lines(&mut ids, part.limited.as_slice())?;
     Ok(ids)
 }

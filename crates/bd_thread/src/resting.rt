@@ -91,7 +91,6 @@ impl<'a> Thread<'a> {
     {
         self.part
             .requests
-            .as_slice()
             .iter()
             .filter(|open| self.is_moving(open.id))
             .count()

@@ -110,7 +110,7 @@ impl<'a> Thread<'a> {
             if entries != links.entries.len() {
                 break;
             }
-            let Some(request) = self.part.requests.as_slice().get(place) else {
+            let Some(request) = self.part.requests.get(place) else {
                 break;
             };
             let req = request.id;

@@ -1,6 +1,4 @@
-use Rattle.std.proofs.Common.{◌≡◌, List, Some, length, slice_get, refl, sym, ◌∙◌, ap, arith}
-use Rattle.std.proofs.lemmas.Option.{slice_get_read}
-use Rattle.bd_machine.specs.declared.state.Open.{Open}
+use Rattle.std.proofs.Common.{◌≡◌, Some, slice_get, sym, ◌∙◌, arith}
 use Rattle.bd_thread.proofs.Alone.{alone_none, alone_then}
 use Rattle.bd_thread.proofs.Going.{acted_none, acted_then}
 use Rattle.bd_thread.proofs.Limiting.{bare_stands}
@@ -29,9 +27,7 @@ loop-place-preserved c =
     let d = c.carry.new.links in
     let r = c.in-Some.request.now in
     let asks = c.in_ok-asks.asks in
-    let at : slice_get m.part.requests c.loop-place.place ≡ Some r =
-    ap (λ (os : List Open). slice_get os c.loop-place.place) (sym c.as_slice.ensures)
-    ∙ slice_get_read c.as_slice.result.now (length c.as_slice.result.now) c.loop-place.place r refl c.in-Some.ensures.lookup.3.0 c.in-Some.ensures.lookup.1 in
+    let at : slice_get m.part.requests c.loop-place.place ≡ Some r = sym c.in-Some.ensures in
     record {
       acted = acted_then _ _ _ _ _ _ c.loop-place.invariant.acted c.in_ok-asks.ensures.acted;
       tickets = λ keeps. c.in_ok-asks.ensures.tickets (c.loop-place.invariant.tickets keeps);

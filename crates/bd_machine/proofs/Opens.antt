@@ -1,0 +1,110 @@
+-- A list of open requests whose numbers rise, and the counts of each device's work, after one came or went.
+use Rattle.std.proofs.Common.{◌≡◌, ℕ, zero, suc, ◌+◌, ◌-◌, ◌<◌, ◌≤◌, Bool, true, false, Option, Some, None, is_some, IfSome, cond, not, ◌&&◌, ◌==◌, filter, List, [], ◌∷◌, ◌++◌, length, get_or, take, drop, slice_index_or, eqb-true, eq-eqb, refl, sym, ◌∙◌, ap, subst, arith}
+use Rattle.std.proofs.lemmas.Bool.{and_parts}
+use Rattle.bd_base.specs.declared.id.ReqId.{ReqId}
+use Rattle.bd_machine.specs.declared.state.Open.{Open}
+use Rattle.bd_machine.specs.Opens.{work_of, work_on, CountsLess, CountsMore, IsRegular, RisesBetween, TakenOut}
+use Rattle.bd_machine.specs.Same.{same_request}
+
+-- one with a greater number comes last
+rises_more : (low high : ℕ) (os : List Open) (o : Open) → RisesBetween low high os → high ≤ o.id.seq → RisesBetween low (o.id.seq + 1) (os ++ o ∷ [])
+rises_more low high [] o h q = (omega (arith, h, q), omega arith)
+rises_more low high (x ∷ os) o h q = (h.0, rises_more (x.id.seq + 1) high os o h.1 q)
+
+work_more : (n : ℕ) (os : List Open) (o : Open) → work_on n (os ++ o ∷ []) ≡ work_on n os + work_of n o
+work_more n [] o = omega arith
+work_more n (x ∷ os) o = let ih : work_on n (os ++ o ∷ []) ≡ work_on n os + work_of n o = work_more n os o in omega (arith, ih)
+
+pub more_regular : (os : List Open) (old new : List ℕ) (next : ℕ) (o : Open) → IsRegular os old next → next ≤ o.id.seq → CountsMore old new o → length new ≡ length old → IsRegular (os ++ o ∷ []) new (o.id.seq + 1)
+more_regular os old new next o h q more len = record {
+  rises = rises_more 0 next os o h.rises q;
+  counted = λ n. more n ∙ ap (λ (k : ℕ). k + work_of n o) (h.counted n) ∙ sym (work_more n os o);
+  few = omega (arith, h.few, len);
+}
+
+-- from a lesser number on they rise as well
+rises_lower : (low lower high : ℕ) (os : List Open) → lower ≤ low → RisesBetween low high os → RisesBetween lower high os
+rises_lower low lower high [] q h = omega (arith, q, h)
+rises_lower low lower high (x ∷ os) q h = (omega (arith, q, h.0), h.1)
+
+rises_less : (low high : ℕ) (os : List Open) (i : ℕ) → RisesBetween low high os → RisesBetween low high (take i os ++ drop (suc i) os)
+rises_less low high [] zero h = h
+rises_less low high [] (suc i) h = h
+rises_less low high (x ∷ os) zero h = rises_lower (x.id.seq + 1) low high os (omega (arith, h.0)) h.1
+rises_less low high (x ∷ os) (suc i) h = (h.0, rises_less (x.id.seq + 1) high os i h.1)
+
+low_less : (i n : ℕ) → suc i < suc n → i < n
+low_less i n p = omega arith
+
+work_less : (n : ℕ) (os : List Open) (i : ℕ) (o : Open) → i < length os → o ≡ get_or os i o → work_on n os ≡ work_on n (take i os ++ drop (suc i) os) + work_of n o
+work_less n [] i o within at = absurd (omega (arith, within))
+work_less n (x ∷ os) zero o within at = subst (λ (z : Open). work_of n x + work_on n os ≡ work_on n os + work_of n z) (sym at) (omega arith)
+work_less n (x ∷ os) (suc i) o within at = let ih : work_on n os ≡ work_on n (take i os ++ drop (suc i) os) + work_of n o = work_less n os i o (low_less i (length os) within) at in omega (arith, ih)
+
+-- those with greater numbers are others
+greater_stay : (low high : ℕ) (req : ReqId) (os : List Open) → req.seq < low → RisesBetween low high os → os ≡ filter (λ o. not (same_request o.id req)) os
+greater_stay low high req [] q h = refl
+greater_stay low high req (x ∷ os) q h =
+    go (x.id.thread == req.thread) (x.id.seq == req.seq) refl (greater_stay (x.id.seq + 1) high req os (omega (arith, q, h.0)) h.1)
+  where
+    go : (a b : Bool) → (x.id.seq == req.seq) ≡ b → os ≡ filter (λ o. not (same_request o.id req)) os → x ∷ os ≡ cond (not (a && b)) (x ∷ filter (λ o. not (same_request o.id req)) os) (filter (λ o. not (same_request o.id req)) os)
+    go true true e ih = let is : x.id.seq ≡ req.seq = eqb-true x.id.seq req.seq e in absurd (omega (arith, is, q, h.0))
+    go false true e ih = ap (λ zs. x ∷ zs) ih
+    go true false e ih = ap (λ zs. x ∷ zs) ih
+    go false false e ih = ap (λ zs. x ∷ zs) ih
+
+-- one that stands later has a greater number
+later_greater : (low high : ℕ) (os : List Open) (i : ℕ) (o : Open) → i < length os → o ≡ get_or os i o → RisesBetween low high os → low ≤ o.id.seq
+later_greater low high [] i o within at h = absurd (omega (arith, within))
+later_greater low high (x ∷ os) zero o within at h = subst (λ (z : Open). low ≤ z.id.seq) (sym at) h.0
+later_greater low high (x ∷ os) (suc i) o within at h = let later : x.id.seq + 1 ≤ o.id.seq = later_greater (x.id.seq + 1) high os i o (low_less i (length os) within) at h.1 in omega (arith, later, h.0)
+
+same_number : (a b : ReqId) → same_request a b ≡ true → a.seq ≡ b.seq
+same_number a b h = eqb-true a.seq b.seq (and_parts (a.thread == b.thread) (a.seq == b.seq) h).1
+
+-- where numbers rise, one of an id is the only one
+pub only_one : (low high : ℕ) (req : ReqId) (os : List Open) (i : ℕ) (o : Open) → i < length os → o ≡ get_or os i o → same_request o.id req ≡ true → RisesBetween low high os
+    → take i os ++ drop (suc i) os ≡ filter (λ o. not (same_request o.id req)) os
+only_one low high req [] i o within at same h = absurd (omega (arith, within))
+only_one low high req (x ∷ os) zero o within at same h =
+    let this : same_request x.id req ≡ true = subst (λ (z : Open). same_request z.id req ≡ true) at same in
+    let rest = greater_stay (x.id.seq + 1) high req os (omega (arith, same_number x.id req this)) h.1 in
+    rest ∙ sym (ap (λ (b : Bool). cond (not b) (x ∷ filter (λ o. not (same_request o.id req)) os) (filter (λ o. not (same_request o.id req)) os)) this)
+only_one low high req (x ∷ os) (suc i) o within at same h =
+    let within' = low_less i (length os) within in
+    let later : x.id.seq + 1 ≤ o.id.seq = later_greater (x.id.seq + 1) high os i o within' at h.1 in
+    go (x.id.thread == req.thread) (x.id.seq == req.seq) refl (omega (arith, later, same_number o.id req same)) (only_one (x.id.seq + 1) high req os i o within' at same h.1)
+  where
+    go : (a b : Bool) → (x.id.seq == req.seq) ≡ b → x.id.seq < req.seq → take i os ++ drop (suc i) os ≡ filter (λ o. not (same_request o.id req)) os
+        → x ∷ (take i os ++ drop (suc i) os) ≡ cond (not (a && b)) (x ∷ filter (λ o. not (same_request o.id req)) os) (filter (λ o. not (same_request o.id req)) os)
+    go true true e less ih = absurd (omega (arith, eqb-true x.id.seq req.seq e, less))
+    go false true e less ih = ap (λ zs. x ∷ zs) ih
+    go true false e less ih = ap (λ zs. x ∷ zs) ih
+    go false false e less ih = ap (λ zs. x ∷ zs) ih
+
+pub less_regular : (os : List Open) (old new : List ℕ) (next i : ℕ) (o : Open) → IsRegular os old next → i < length os → o ≡ get_or os i o → CountsLess old new o → length new ≡ length old
+    → IsRegular (take i os ++ drop (suc i) os) new next
+less_regular os old new next i o h within at less len = record {
+  rises = rises_less 0 next os i h.rises;
+  counted = λ n. less n ∙ counted n (h.counted n) (work_less n os i o within at);
+  few = omega (arith, h.few, len);
+}
+  where
+    counted : (n : ℕ) → slice_index_or old n 0 ≡ work_on n os → work_on n os ≡ work_on n (take i os ++ drop (suc i) os) + work_of n o → slice_index_or old n 0 - work_of n o ≡ work_on n (take i os ++ drop (suc i) os)
+    counted n p q = omega (arith, p, q)
+
+-- one was taken out, where numbers rise
+pub taken_regular : (req : ReqId) (os new : List Open) (old left : List ℕ) (next : Option ℕ) (o : Open) → IfSome next (IsRegular os old) → TakenOut req os new o
+    → CountsLess old left o → length left ≡ length old → IfSome next (IsRegular new left)
+taken_regular req os new old left None o h taken less len = tt
+taken_regular req os new old left (Some next) o h taken less len =
+    subst (λ (zs : List Open). IsRegular zs left next) (sym taken.rest) (less_regular os old left next taken.place o h taken.within taken.at less len)
+
+pub taken_is : (req : ReqId) (os new : List Open) (old : List ℕ) (next : Option ℕ) (o : Open) → is_some next ≡ true → IfSome next (IsRegular os old) → TakenOut req os new o
+    → new ≡ filter (λ o. not (same_request o.id req)) os
+taken_is req os new old None o some h taken = cc
+taken_is req os new old (Some next) o some h taken =
+    taken.rest ∙ only_one 0 next req os taken.place o taken.within taken.at (equal_ids o.id req taken.thread taken.seq) h.rises
+  where
+    equal_ids : (a b : ReqId) → a.thread ≡ b.thread → a.seq ≡ b.seq → same_request a b ≡ true
+    equal_ids a b p q = ap (λ (c : Bool). c && (a.seq == b.seq)) (eq-eqb a.thread b.thread p) ∙ eq-eqb a.seq b.seq q
