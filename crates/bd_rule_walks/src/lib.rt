@@ -2,5 +2,7 @@
 #![tactic(auto)]
 
 mod visit;
+mod waits;
 
-pub use visit::{is_drained, mark, refused_visit, remark, uncount, visited};
+pub use visit::{mark, refused_visit, remark, uncount, visited};
+pub use waits::is_drained;

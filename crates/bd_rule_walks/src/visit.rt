@@ -1,18 +1,18 @@
 //! Visit: a walk is at a thread, and sets or takes its marks.
 ghost use Rattle.std.specs.Prelude.{◌≡◌, ◌+◌, IfOk, OnOk};
-ghost use Rattle.std.specs.List.{list_any};
 ghost use Rattle.bd_machine.specs.Delays.{uncounted};
 ghost use Rattle.bd_machine.specs.Same.{same_dev};
 ghost use Rattle.bd_machine.specs.Step.{first_failing};
 ghost use Rattle.bd_machine.specs.Table.{write};
-ghost use Rattle.bd_machine.specs.Walks.{guards_visit, is_drained, is_kept_waiting, is_next_visit, marked_by, put_owed, visited};
+ghost use Rattle.bd_machine.specs.Walks.{guards_visit, is_next_visit, marked_by, put_owed, visited};
 ghost use Rattle.bd_rule_walks.specs.Walking.{with_channel};
 
+use crate::waits::is_drained;
 use bd_base::{DevId, OutOfMemory, Setup, WalkId, WalkKind};
-use bd_blocks::{first_of, home, is_below, is_limited, without, write_row};
+use bd_blocks::{first_of, home, is_limited, without, write_row};
 use bd_machine::guard::{DRAINED, NEXT_VISIT};
-use bd_machine::{Delayed, Marking, Open, OpenWalk, Owed, Part};
-use bd_rule_requests::{is_reset, marking_of, walk_here};
+use bd_machine::{Delayed, Marking, OpenWalk, Owed, Part};
+use bd_rule_requests::{marking_of, walk_here};
 use bd_rule_view::{Sees, same_walk_kind};
 
 // ---- whether it is allowed
@@ -28,31 +28,6 @@ fn is_next_visit(thread: u32, dev: DevId, kind: WalkKind, here: Option<OpenWalk>
         None => false,
     };
     w.taken && is_next && w.dev.0 == dev.0 && same_walk_kind(w.kind, kind)
-}
-
-fn is_kept_waiting(setup: &Setup, dev: DevId, request: &Open) -> bool
-    ensures { result ≡ is_kept_waiting setup.now dev request.now }
-{
-    !is_reset(request.op) && is_below(setup, request.dev, dev)
-}
-
-fn any_waits(setup: &Setup, requests: &[Open], dev: DevId) -> bool
-    ensures { result ≡ list_any (is_kept_waiting setup.now dev) requests.now }
-{
-    requests
-        .iter()
-        .any(|open| is_kept_waiting(setup, dev, open))
-}
-
-/// Whether no open request of the thread stands against a visit of this kind: against a drain each does
-/// that has the device below, but resets.
-pub fn is_drained(setup: &Setup, part: &Part, dev: DevId, kind: WalkKind) -> bool
-    ensures { result ≡ is_drained setup.now part.now dev kind }
-{
-    match kind {
-        WalkKind::Drain => !any_waits(setup, part.requests.as_slice(), dev),
-        _ => true,
-    }
 }
 
 /// Why a Visit isn't allowed.
