@@ -12,7 +12,6 @@ mod log;
 mod msg;
 mod outside;
 mod pages;
-mod poller;
 mod qos;
 mod report;
 mod steps;
@@ -22,7 +21,6 @@ mod words;
 
 use bd_base::OutOfMemory;
 use bd_devices::Devices;
-use bd_poller::Pollers;
 use bd_retries::Retries;
 use bd_tables::Tables;
 use std::alloc::Global;
@@ -39,7 +37,6 @@ fn answer(alloc: Global, subject: &str, case: &str) -> Result<String, OutOfMemor
         "msg" => msg::answer(alloc, case),
         "outside" => outside::answer(alloc, case),
         "pages" => pages::answer(alloc, case),
-        "poller" => steps::told(alloc, &mut Pollers::new(alloc), case),
         "qos" => qos::answer(alloc, case),
         "report" => report::answer(alloc, case, true),
         "retry" => steps::told(alloc, &mut Retries::new(alloc), case),

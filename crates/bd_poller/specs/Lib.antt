@@ -1,2 +1,0 @@
-pub mod Thread
-pub mod Turn
