@@ -33,9 +33,9 @@ impl<'a> Worker<'a> {
         mem::replace(&mut self.links.entries, Rows::new(alloc))
     }
 
-    /// A turn, which began, with the thread's disks that asks the registry for nothing. What it did is in the log; the list that it was
-    /// in stays with its memory, for the next turn.
-    pub fn work<D: Disk>(
+    /// A turn, which began, with the thread's disks that asks the registry for nothing. What it did is in the log; the
+    /// list that it was in stays with its memory, for the next turn.
+    pub(crate) fn work<D: Disk>(
         &mut self,
         alloc: Global,
         disks: &mut Disks<D>,
@@ -55,9 +55,9 @@ impl<'a> Worker<'a> {
         Ok(turned)
     }
 
-    /// A turn, which began, with the registry, of whose journal the thread saw this number of rows, and with the thread's disks. What it did is in the
-    /// log, and its events are in the registry.
-    pub fn work_with<D: Disk>(
+    /// A turn, which began, with the registry, of whose journal the thread saw this number of rows, and with the
+    /// thread's disks. What it did is in the log, and its events are in the registry.
+    pub(crate) fn work_with<D: Disk>(
         &mut self,
         alloc: Global,
         disks: &mut Disks<D>,
