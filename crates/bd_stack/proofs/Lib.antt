@@ -1,2 +1,3 @@
 pub mod Downwards
 pub mod Numbered
+pub mod Standing

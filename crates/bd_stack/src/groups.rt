@@ -1,6 +1,6 @@
 //! Base handles: each group of devices that stand on another has one, numbered from 0 by the group's
 //! first device.
-ghost use Rattle.std.specs.Prelude.{◌≡◌, IfOk, Some, length, slice_get};
+ghost use Rattle.std.specs.Prelude.{◌≡◌, ◌≤◌, count_by, is_some, true, IfOk, Some, length, slice_get};
 ghost use Rattle.std.specs.List.{list_any};
 ghost use Rattle.std.specs.Option.{option_map};
 ghost use Rattle.bd_machine.specs.Users.{base_handle, dev_of, devices, firsts, is_base_handle, is_first, is_of_group, shares_handle, sharing, users};
@@ -58,17 +58,40 @@ fn count_firsts(setup: &Setup) -> usize
     count
 }
 
+// How many devices stand on another.
+fn count_standing(setup: &Setup) -> usize
+    ensures { result ≡ count_by (λ row. is_some row.base) setup.now.devices }
+{
+    setup
+        .devices
+        .as_slice()
+        .iter()
+        .filter(|row| row.base.is_some())
+        .count()
+}
+
+// Whether the number of the handle isn't below the number of devices that stand on another. So it is of nearly every
+// handle that is no base handle, and of none that is.
+fn is_later(setup: &Setup, handle: HandleId) -> bool
+    ensures { result ≡ true → length (firsts setup.now) ≤ handle.0 }
+{
+    handle.0 >= count_standing(setup) as u128
+}
+
 /// Whether it is the base handle of some device.
 pub fn is_base_handle(setup: &Setup, handle: HandleId) -> bool
     ensures { result ≡ is_base_handle setup.now handle }
 {
-    handle.0 < count_firsts(setup) as u128
+    !is_later(setup, handle) && handle.0 < count_firsts(setup) as u128
 }
 
 // The number of the first device that has this base handle.
 fn first_of(setup: &Setup, handle: HandleId) -> Option<usize>
     ensures { option_map dev_of result ≡ slice_get (firsts setup.now) handle.0 }
 {
+    if is_later(setup, handle) {
+        return None;
+    }
     let mut before = handle.0;
     for number in 0..setup.devices.len() {
         if is_first(setup, number) {
