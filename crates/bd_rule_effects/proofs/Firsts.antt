@@ -1,5 +1,5 @@
 -- The first item of a list that passes a test: changed, or taken out.
-use Rattle.std.proofs.Common.{◌≡◌, ℕ, suc, ◌+◌, ◌<◌, ◌≤◌, Bool, true, false, cond, not, filter, List, [], ◌∷◌, ◌++◌, length, get_or, set, take, drop, nat_lt, ltb-true, ltb-false, Some, None, refl, sym, ◌∙◌, ap, subst, arith}
+use Rattle.std.proofs.Common.{◌≡◌, ℕ, suc, ◌+◌, ◌<◌, ◌≤◌, Bool, true, false, cond, not, List, [], ◌∷◌, ◌++◌, length, get_or, set, take, drop, nat_lt, ltb-true, ltb-false, Some, None, refl, sym, ◌∙◌, ap, subst, arith}
 use Rattle.std.specs.List.{position, position_or_len}
 use Rattle.bd_machine.specs.Table.{change_first, without_first}
 
@@ -106,26 +106,3 @@ module _ {X : Type 0} (is : X → Bool) where
 
   pub none_to_remove : (xs : List X) → position is xs ≡ None → xs ≡ without_first is xs
   none_to_remove xs e = keep_at xs (missed_before xs e)
-
-  -- what passes no test is left alone by taking out the first that passes it
-  pub others_stay : (xs : List X) → filter (λ x. not (is x)) (without_first is xs) ≡ filter (λ x. not (is x)) xs
-  others_stay [] = refl
-  others_stay (x ∷ xs) = go (is x) refl (others_stay xs)
-    where
-      go : (b : Bool) → is x ≡ b → filter (λ z. not (is z)) (without_first is xs) ≡ filter (λ z. not (is z)) xs
-          → filter (λ z. not (is z)) (cond b xs (x ∷ without_first is xs)) ≡ cond (not b) (x ∷ filter (λ z. not (is z)) xs) (filter (λ z. not (is z)) xs)
-      go true p ih = refl
-      go false p ih = ap (λ c. cond (not c) (x ∷ filter (λ z. not (is z)) (without_first is xs)) (filter (λ z. not (is z)) (without_first is xs))) p ∙ ap (λ zs. x ∷ zs) ih
-
-  all_others : (xs : List X) → length xs ≤ before xs → xs ≡ filter (λ x. not (is x)) xs
-  all_others [] h = refl
-  all_others (x ∷ xs) h = go (is x) h (all_others xs)
-    where
-      go : (b : Bool) → suc (length xs) ≤ cond (not b) (suc (before xs)) 0 → (length xs ≤ before xs → xs ≡ filter (λ z. not (is z)) xs)
-          → x ∷ xs ≡ cond (not b) (x ∷ filter (λ z. not (is z)) xs) (filter (λ z. not (is z)) xs)
-      go true l ih = absurd (none (length xs) l)
-      go false l ih = ap (λ zs. x ∷ zs) (ih (low_le (length xs) (before xs) l))
-
-  -- where none passes the test, all are others
-  pub none_passes : (xs : List X) → position is xs ≡ None → xs ≡ filter (λ x. not (is x)) xs
-  none_passes xs e = all_others xs (missed_before xs e)
