@@ -1,5 +1,6 @@
 -- What adds no entry changes nothing.
-use Rattle.std.proofs.Common.{◌≡◌, ℕ, ◌≤◌, Bool, true, false, List, [], ◌∷◌, length, is_some, Option, Some, None, Result, Ok, Err, OnOk, IfOk, refl, sym, ◌∙◌, ap, subst, arith, find}
+use Rattle.std.proofs.Common.{◌≡◌, ◌⊎◌, inl, inr, ℕ, ◌+◌, ◌<◌, ◌≤◌, Bool, true, false, List, [], ◌∷◌, length, is_some, Option, Some, None, Result, Ok, Err, OnOk, IfOk, refl, sym, ◌∙◌, ap, subst, arith, find}
+use Rattle.std.proofs.lemmas.Bool.{cases_lt}
 use Rattle.std.proofs.lemmas.List.{length-append}
 use Rattle.bd_base.specs.declared.act.Act.{Act}
 use Rattle.bd_base.specs.declared.setup.Setup.{Setup}
@@ -98,6 +99,20 @@ pub idle_last : {may : Setup → Act → Bool} {P Q R : Thread → Links → Typ
     → Idles R o a n c
 idle_last {P = P} {Q = Q} {R = R} o a m b n c g h both f s few =
     idle_then {P = P} {Q = Q} {R = R} o a m b n c g h both f (s (omega (arith, grown o a m b g, grown m b n c h, few))) few
+
+-- one place more than those below it
+pub idle_below : {may : Setup → Act → Bool} (P : ℕ → Thread → Links → Type 0) (place : ℕ) (o : Thread) (a : Links) (m : Thread) (b : Links) (n : Thread) (c : Links)
+    → ActedBy may o a m b
+    → ActedBy may m b n c
+    → Idles (λ t links. (k : ℕ) → k < place → P k t links) o a m b
+    → Idles (P place) m b n c
+    → Idles (λ t links. (k : ℕ) → k < place + 1 → P k t links) o a n c
+idle_below P place o a m b n c g h f s =
+    idle_then {P = λ t links. (k : ℕ) → k < place → P k t links} {Q = P place} {R = λ t links. (k : ℕ) → k < place + 1 → P k t links} o a m b n c g h (λ below at k less. go below at k less (cases_lt k place)) f s
+  where
+    go : ((k : ℕ) → k < place → P k o a) → P place o a → (k : ℕ) → k < place + 1 → (k < place) ⊎ (place ≤ k) → P k o a
+    go below at k less (inl lower) = below k lower
+    go below at k less (inr upper) = let same : place ≡ k = omega (arith, less, upper) in subst (λ (x : ℕ). P x o a) same at
 
 -- ---- the exact clauses of the steps
 

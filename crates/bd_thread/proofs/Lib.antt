@@ -26,6 +26,7 @@ pub mod Aborting
 pub mod Naming
 pub mod Begun
 pub mod Refusing
+pub mod Unserved
 pub mod Retrying
 pub mod Alone
 pub mod Wanted

@@ -1,12 +1,9 @@
 -- NoMem, by the local rules; and where no base device has a piece too many.
-use Rattle.std.proofs.Common.{◌≡◌, ◌⊎◌, inl, inr, ℕ, zero, suc, ◌+◌, ◌<◌, ◌≤◌, Bool, true, false, cond, List, [], ◌∷◌, length, slice_get, Option, Some, None, refl, sym, ◌∙◌, ap, subst, arith}
-use Rattle.std.proofs.lemmas.Bool.{cases_lt}
-use Rattle.std.proofs.lemmas.Option.{slice_get_within}
+use Rattle.std.proofs.Common.{◌≡◌, ℕ, ◌+◌, Bool, true, false, cond, List, length, Option, Some, None, refl, sym, ◌∙◌, ap, subst}
 use Rattle.bd_base.specs.declared.act.Act.TheVariants as acts
 use Rattle.bd_base.specs.declared.id.DevId.{DevId}
 use Rattle.bd_base.specs.declared.id.ReqId.{ReqId}
 use Rattle.bd_base.specs.declared.setup.Setup.{Setup}
-use Rattle.bd_machine.specs.declared.state.Base.{Base}
 use Rattle.bd_machine.specs.declared.state.Id.{Id}
 use Rattle.bd_machine.specs.declared.state.Kept.{Kept}
 use Rattle.bd_machine.specs.declared.state.Part.{Part}
@@ -27,9 +24,7 @@ use Rattle.bd_thread.specs.Acted.{Acted}
 use Rattle.bd_thread.specs.Refusals.{refusal_now, IsSentBack, SendsBack, SendsBackBy}
 use Rattle.bd_thread.specs.Requests.{KeepsTickets}
 use Rattle.bd_thread.specs.Seen.{local_at, untaken, view_of}
-use Rattle.bd_thread.specs.Waits.{Idles, IsIdle, NoRefusal, NoRefusalBelow, NoRefusalOn}
 use Rattle.bd_thread.proofs.Going.{Steps, steps, still_shut}
-use Rattle.bd_thread.proofs.Idle.{grown}
 use Rattle.bd_thread.proofs.Submissions.{acted_into}
 use Rattle.bd_thread.proofs.Tickets.{same_tickets}
 use Rattle.bd_thread.proofs.Timing.{untimed}
@@ -91,49 +86,3 @@ pub sends_one_back : (old : Thread) (before : Links) (new : Thread) (after : Lin
     → IsSentBack req k dev old before new after
     → SendsBack dev old before new after true
 sends_one_back old before new after req k dev due is = subst (SendsBackBy dev old before new after true) (sym due) (refl, is)
-
--- ---- all base devices
-
--- the one at this place has none too many either
-pub refusals_below : (place : ℕ) (r : Base) (o : Thread) (a : Links) (m : Thread) (b : Links) (n : Thread) (c : Links)
-    → Acted o a m b
-    → Acted m b n c
-    → slice_get m.part.bases place ≡ Some r
-    → Idles (NoRefusalBelow place) o a m b
-    → Idles (NoRefusalOn r.dev) m b n c
-    → Idles (NoRefusalBelow (place + 1)) o a n c
-refusals_below place r o a m b n c g h at f s few =
-    let first : IsIdle (NoRefusalBelow place) o a m b = f (omega (arith, few, grown m b n c h)) in
-    let second : IsIdle (NoRefusalOn r.dev) m b n c = s (omega (arith, few, grown o a m b g)) in
-    let here : slice_get o.part.bases place ≡ Some r = subst (λ (t : Thread). slice_get t.part.bases place ≡ Some r) first.thread at in
-    let one : NoRefusalOn r.dev o a = subst (λ (t : Thread). NoRefusalOn r.dev t a) first.thread (subst (λ (l : Links). NoRefusalOn r.dev m l) first.links second.waits) in
-    record { thread = second.thread ∙ first.thread; links = second.links ∙ first.links; waits = λ i x less found. go first.waits here one i x less found (cases_lt i place) }
-  where
-    go : NoRefusalBelow place o a → slice_get o.part.bases place ≡ Some r → NoRefusalOn r.dev o a → (i : ℕ) (x : Base) → i < place + 1 → slice_get o.part.bases i ≡ Some x → (i < place) ⊎ (place ≤ i) → NoRefusalOn x.dev o a
-    go below here one i x less found (inl lower) = below i x lower found
-    go below here one i x less found (inr upper) =
-        let same : i ≡ place = omega (arith, less, upper) in
-        let is : r ≡ x = some_same (sym here ∙ subst (λ (k : ℕ). slice_get o.part.bases k ≡ Some x) same found) in
-        subst (λ (y : Base). NoRefusalOn y.dev o a) is one
-
--- all before the end have none too many
-pub refusals_all : (count : ℕ) (o : Thread) (a : Links) (n : Thread) (c : Links) → length o.part.bases ≤ count → Idles (NoRefusalBelow count) o a n c → Idles NoRefusal o a n c
-refusals_all count o a n c whole f few =
-    let first : IsIdle (NoRefusalBelow count) o a n c = f few in
-    record { thread = first.thread; links = first.links; waits = λ i x found. first.waits i x (omega (arith, whole, slice_get_within o.part.bases i x found)) found }
-
--- a place that was there once is there still, where nothing changed
-pub refusals_there : {Q : Type 0} (place : ℕ) (o : Thread) (a : Links) (n : Thread) (c : Links)
-    → place < length o.part.bases
-    → slice_get n.part.bases place ≡ None
-    → Idles (NoRefusalBelow place) o a n c
-    → length c.entries ≤ length a.entries
-    → Q
-refusals_there place o a n c within none f few =
-    let first : IsIdle (NoRefusalBelow place) o a n c = f few in
-    absurd (gone o.part.bases place within (subst (λ (t : Thread). slice_get t.part.bases place ≡ None) first.thread none))
-  where
-    gone : {X : Type 0} (xs : List X) (i : ℕ) → i < length xs → slice_get xs i ≡ None → ⊥
-    gone [] i within none = absurd (omega (arith, within))
-    gone (x ∷ xs) zero within none = none_some (sym none)
-    gone (x ∷ xs) (suc i) within none = gone xs i (omega (arith, within)) none

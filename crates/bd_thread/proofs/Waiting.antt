@@ -57,7 +57,7 @@ use Rattle.bd_thread.specs.Moves.{turned_of}
 use Rattle.bd_thread.specs.Requests.{KeepsTickets}
 use Rattle.bd_thread.specs.Sent.{may_put, may_send}
 use Rattle.bd_thread.specs.Seen.{local, view_of}
-use Rattle.bd_thread.specs.Waits.{asks_unbuilt, is_line_waiting, is_submission, is_unbuilt, may_post, Idles, IsWaiting, NoDestructBelow, NoDestructOn, NoHandleBelow, NoHandleOn, NoLine, NoMessage, NoPieceBelow, NoPieceOn, NoRefusal, NoRetry, NothingLeft, NothingToPost, NothingToSend, NothingToServe, Quiets, StandsBut, IsIdle, IsStill}
+use Rattle.bd_thread.specs.Waits.{asks_unbuilt, is_line_waiting, is_submission, is_unbuilt, may_post, Idles, IsWaiting, NoDestructBelow, NoDestructOn, NoHandleBelow, NoHandleOn, NoLine, NoMessage, NoRefusal, NoRetry, NothingLeft, NothingToPost, NothingToSend, NothingToServe, Quiets, StandsBut, IsIdle, IsStill}
 use Rattle.bd_thread.proofs.Going.{acted_then}
 use Rattle.bd_thread.proofs.Calling.{stands_uncalled}
 use Rattle.bd_thread.proofs.Idle.{idle_last, idle_then}
@@ -86,15 +86,6 @@ some_same e = cc
 
 none_or_some : {X : Type 0} {x : X} {Q : Type 0} → None ≡ Some x → Q
 none_or_some e = cc
-
--- ---- pieces
-
-pub none_below : (n m : ℕ) (t : Thread) (links : Links) → m ≡ n → NoPieceBelow n t links → NoPieceOn (record { 0 = m }) t links → NoPieceBelow (n + 1) t links
-none_below n m t links e below on dev less = go (cases_lt dev.0 n)
-  where
-    go : (dev.0 < n) ⊎ (n ≤ dev.0) → NoPieceOn dev t links
-    go (inl h) = below dev h
-    go (inr h) = let same : m ≡ dev.0 = omega (arith, e, h, less) in subst (λ (k : ℕ). NoPieceOn (record { 0 = k }) t links) same on
 
 -- ---- handles and devices that go
 

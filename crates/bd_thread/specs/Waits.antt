@@ -1,5 +1,5 @@
 -- What a thread waits for where its turn added no entry.
-use Rattle.std.specs.Prelude.{◌≡◌, ℕ, ◌<◌, ◌≤◌, ◌^◌, Bool, true, false, ◌&&◌, ◌||◌, nat_lt, List, [], ◌∷◌, length, find, slice_get, Option, Some, None, is_some}
+use Rattle.std.specs.Prelude.{◌≡◌, ℕ, ◌<◌, ◌≤◌, ◌^◌, Bool, true, false, cond, ◌&&◌, ◌||◌, ◌==◌, nat_lt, List, [], ◌∷◌, length, find, slice_get, Option, Some, None, is_some}
 use Rattle.bd_base.specs.declared.id.DevId.{DevId}
 use Rattle.bd_base.specs.declared.id.ReqId.{ReqId}
 use Rattle.bd_base.specs.declared.job.Job.{Job}
@@ -49,13 +49,25 @@ NoMessage t links = first_brought (queues_of links.queues.items t.me) ≡ None
 abbrev pub NoPieceOn : DevId → Thread → Links → Type 0
 NoPieceOn dev t links = next_due t dev ≡ None
 
--- nor on any device with a number below this one
-abbrev pub NoPieceBelow : ℕ → Thread → Links → Type 0
-NoPieceBelow n t links = (dev : DevId) → dev.0 < n → NoPieceOn dev t links
+abbrev pub waits_on : Option Base → Option DevId
+waits_on None = None
+waits_on (Some b) = cond (length b.queue == 0) None (Some b.dev)
 
--- nor on any; their numbers have 32 bits
+-- the thread's base device at this place, if a piece waits there
+abbrev pub waits_at : ℕ → Thread → Option DevId
+waits_at place t = waits_on (slice_get t.part.bases place)
+
+-- nor can one be served there
+abbrev pub NoPieceAt : ℕ → Thread → Links → Type 0
+NoPieceAt place t links = (dev : DevId) → waits_at place t ≡ Some dev → NoPieceOn dev t links
+
+-- nor on any of the first n base devices of the thread
+abbrev pub NoPieceBelow : ℕ → Thread → Links → Type 0
+NoPieceBelow n t links = (place : ℕ) → place < n → NoPieceAt place t links
+
+-- nor on any device
 abbrev pub NoPiece : Thread → Links → Type 0
-NoPiece = NoPieceBelow (2 ^ 32)
+NoPiece t links = (dev : DevId) → NoPieceOn dev t links
 
 -- nor can anything be done for a line of a limited device, and no walk visits
 pub record NothingToServe (t : Thread) (links : Links) : Type 0 where
@@ -69,9 +81,13 @@ pub record NothingToServe (t : Thread) (links : Links) : Type 0 where
 abbrev pub NoRefusalOn : DevId → Thread → Links → Type 0
 NoRefusalOn dev t links = refusal_now dev t links ≡ None
 
+-- nor on the base device at this place, if one waits there
+abbrev pub NoRefusalAt : ℕ → Thread → Links → Type 0
+NoRefusalAt place t links = (dev : DevId) → waits_at place t ≡ Some dev → NoRefusalOn dev t links
+
 -- nor on any of the first n base devices of the thread
 abbrev pub NoRefusalBelow : ℕ → Thread → Links → Type 0
-NoRefusalBelow n t links = (i : ℕ) (b : Base) → i < n → slice_get t.part.bases i ≡ Some b → NoRefusalOn b.dev t links
+NoRefusalBelow n t links = (place : ℕ) → place < n → NoRefusalAt place t links
 
 -- nor on any
 abbrev pub NoRefusal : Thread → Links → Type 0

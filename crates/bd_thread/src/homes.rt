@@ -7,7 +7,7 @@ ghost use Rattle.bd_thread.specs.Refusals.{refusal_now, IsSentBack, SendsBack};
 ghost use Rattle.bd_thread.specs.Requests.{KeepsTickets};
 ghost use Rattle.bd_thread.specs.Sent.{KeepsRequests};
 ghost use Rattle.bd_thread.specs.Served.{Applies};
-ghost use Rattle.bd_thread.specs.Waits.{Idles, NoRefusal, NoRefusalOn};
+ghost use Rattle.bd_thread.specs.Waits.{waits_at, Idles, NoRefusal, NoRefusalAt, NoRefusalOn};
 ghost use Rattle.bd_thread.specs.Work.{AsksNothing};
 
 use crate::links::Links;
@@ -21,6 +21,18 @@ use bd_rule_requests::may_destruct;
 use bd_steps::{next_due, refusal_due, refuse};
 
 impl<'a> Thread<'a> {
+    /// The thread's base device at this place, where a piece waits there.
+    pub(crate) fn waits_at(&self, place: usize) -> Option<DevId>
+        ensures { result ≡ waits_at place self.now }
+    {
+        let base = self.part.bases.as_slice().get(place)?;
+        if base.queue.len() == 0 {
+            None
+        } else {
+            Some(base.dev)
+        }
+    }
+
     /// Serves the first piece in the device's queue, and gives its id. None, and nothing changes,
     /// where this thread isn't the device's home, no piece waits there, it isn't here or isn't on
     /// this device, the content doesn't have its blocks, or the queue holds too many; and on an aio
@@ -97,6 +109,22 @@ impl<'a> Thread<'a> {
         Ok(true)
     }
 
+    // Sends the last piece of the base device at this place back, where one waits there and it is one too many.
+    #[tactic(auto, using(crate::proofs::Alone::alone_none))]
+    fn refuse_at(&mut self, links: &mut Links, place: usize) -> Result<(), OutOfMemory>
+        requires { self.old.me < vec_len links.old.queues }
+        ensures acted { OnOk result (Acted self.old links.old self.new links.new) }
+        ensures tickets { OnOk result (KeepsTickets self.old → KeepsTickets self.new) }
+        ensures quiet { OnOk result (Idles (NoRefusalAt place) self.old links.old self.new links.new) }
+        ensures alone { OnOk result (AsksNothing links.old links.new) }
+    {
+        let Some(dev) = self.waits_at(place) else {
+            return Ok(());
+        };
+        self.refuse_last(links, dev)?;
+        Ok(())
+    }
+
     /// Sends the last piece of each of the thread's base devices back, where it is one too many, and only
     /// where there are still as many entries as there were: in a turn that did nothing else. A piece that is
     /// too many goes back as it comes, so there is hardly ever one.
@@ -115,11 +143,7 @@ impl<'a> Thread<'a> {
             if entries != links.entries.len() {
                 return Ok(());
             }
-            let Some(base) = self.part.bases.as_slice().get(place) else {
-                return Ok(());
-            };
-            let dev = base.dev;
-            self.refuse_last(links, dev)?;
+            self.refuse_at(links, place)?;
         }
         Ok(())
     }

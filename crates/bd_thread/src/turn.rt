@@ -10,7 +10,7 @@ ghost use Rattle.bd_machine.specs.Kept.{as_piece};
 ghost use Rattle.bd_tokens.specs.Tokens.{here_in};
 ghost use Rattle.bd_thread.specs.Moves.{turned_of, AddsMore, Comes, ComesPiece, Receives, SendsFirst, Serves};
 ghost use Rattle.bd_thread.specs.Sent.{may_send};
-ghost use Rattle.bd_thread.specs.Waits.{Idles, IsFilled, NoLine, NoMessage, NoPiece, NoPieceOn, NoSubmission, NothingToPost, NothingToSend, Quiets};
+ghost use Rattle.bd_thread.specs.Waits.{Idles, IsFilled, NoLine, NoMessage, NoPiece, NoPieceAt, NoPieceOn, NoSubmission, NothingToPost, NothingToSend, Quiets};
 ghost use Rattle.bd_thread.specs.Work.{AsksNothing};
 ghost use Rattle.bd_registry.specs.State.{rows_of};
 
@@ -267,6 +267,22 @@ impl<'a> Thread<'a> {
         Ok(())
     }
 
+    // Serves pieces of the base device at this place, where one waits there.
+    #[tactic(auto, using(crate::proofs::Alone::alone_none))]
+    fn serve_at(&mut self, links: &mut Links, place: usize) -> Result<(), OutOfMemory>
+        requires { self.old.me < vec_len links.old.queues }
+        ensures acted { OnOk result (Acted self.old links.old self.new links.new) }
+        ensures tickets { OnOk result (KeepsTickets self.old → KeepsTickets self.new) }
+        ensures quiet { OnOk result (Idles (NoPieceAt place) self.old links.old self.new links.new) }
+        ensures alone { OnOk result (AsksNothing links.old links.new) }
+    {
+        let Some(dev) = self.waits_at(place) else {
+            return Ok(());
+        };
+        self.serve_store(links, dev)
+    }
+
+    /// Serves pieces of each of the thread's base devices that is no aio device, at most 8 of each.
     pub(crate) fn serve_all(&mut self, links: &mut Links) -> Result<(), OutOfMemory>
         requires { self.old.me < vec_len links.old.queues }
         ensures acted { OnOk result (Acted self.old links.old self.new links.new) }
@@ -274,11 +290,8 @@ impl<'a> Thread<'a> {
         ensures quiet { OnOk result (Idles NoPiece self.old links.old self.new links.new) }
         ensures alone { OnOk result (AsksNothing links.old links.new) }
     {
-        for place in 0..self.setup.devices.len() {
-            let Ok(dev) = u32::try_from(place) else {
-                return Ok(());
-            };
-            self.serve_store(links, DevId(dev))?;
+        for place in 0..self.part.bases.len() {
+            self.serve_at(links, place)?;
         }
         Ok(())
     }

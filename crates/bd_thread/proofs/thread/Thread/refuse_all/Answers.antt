@@ -1,33 +1,21 @@
-use Rattle.std.proofs.Common.{◌≡◌, List, Some, length, slice_get, refl, sym, ◌∙◌, ap, arith}
-use Rattle.std.proofs.lemmas.Option.{slice_get_read}
-use Rattle.bd_machine.specs.declared.state.Base.{Base}
+use Rattle.std.proofs.Common.{arith}
+use Rattle.bd_thread.specs.Waits.{NoRefusalAt}
 use Rattle.bd_thread.proofs.Alone.{alone_none, alone_then}
 use Rattle.bd_thread.proofs.Going.{acted_none, acted_then}
-use Rattle.bd_thread.proofs.Idle.{idle_here}
-use Rattle.bd_thread.proofs.Refusing.{refusals_all, refusals_below}
+use Rattle.bd_thread.proofs.Idle.{idle_below, idle_here}
+use Rattle.bd_thread.proofs.Unserved.{refusals_all}
 use Rattle.bd_thread.proofs.thread.Thread.refuse_all.Goals as goal
 
 pub loop-place-init : goal.loop-place-init
-loop-place-init c = record { acted = acted_none _ _; tickets = λ keeps. keeps; quiet = λ same. idle_here _ _ (λ i o less found. absurd (omega (arith, less))); alone = alone_none _ }
+loop-place-init c = record { acted = acted_none _ _; tickets = λ keeps. keeps; quiet = λ same. idle_here _ _ (λ place less. absurd (omega (arith, less))); alone = alone_none _ }
 
 pub loop-place-preserved : goal.loop-place-preserved
-loop-place-preserved c =
-    let o = c.args.self.now in
-    let a = c.args.links.now in
-    let m = c.loop-place.self in
-    let b = c.loop-place.links in
-    let n = c.refuse_last.new.self in
-    let d = c.refuse_last.new.links in
-    let r = c.in-Some.base.now in
-    let at : slice_get m.part.bases c.loop-place.place ≡ Some r =
-    ap (λ (bs : List Base). slice_get bs c.loop-place.place) (sym c.as_slice.ensures)
-    ∙ slice_get_read c.as_slice.result.now (length c.as_slice.result.now) c.loop-place.place r refl c.in-Some.ensures.lookup.3.0 c.in-Some.ensures.lookup.1 in
-    record {
-      acted = acted_then _ _ _ _ _ _ c.loop-place.invariant.acted c.in_ok-refuse_last.ensures.acted;
-      tickets = λ keeps. c.in_ok-refuse_last.ensures.tickets (c.loop-place.invariant.tickets keeps);
-      quiet = λ same. refusals_below c.loop-place.place r o a m b n d c.loop-place.invariant.acted c.in_ok-refuse_last.ensures.acted at (c.loop-place.invariant.quiet same) c.in_ok-refuse_last.ensures.quiet;
-      alone = alone_then _ _ _ c.loop-place.invariant.alone c.in_ok-refuse_last.ensures.alone;
-    }
+loop-place-preserved c = record {
+  acted = acted_then _ _ _ _ _ _ c.loop-place.invariant.acted c.in_ok-refuse_at.ensures.acted;
+  tickets = λ keeps. c.in_ok-refuse_at.ensures.tickets (c.loop-place.invariant.tickets keeps);
+  quiet = λ same. idle_below NoRefusalAt c.loop-place.place _ _ _ _ _ _ c.loop-place.invariant.acted c.in_ok-refuse_at.ensures.acted (c.loop-place.invariant.quiet same) c.in_ok-refuse_at.ensures.quiet;
+  alone = alone_then _ _ _ c.loop-place.invariant.alone c.in_ok-refuse_at.ensures.alone;
+}
 
 pub returns-clause-quiet : goal.returns-clause-quiet
 returns-clause-quiet c = λ same.
