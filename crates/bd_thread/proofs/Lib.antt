@@ -27,6 +27,7 @@ pub mod Naming
 pub mod Begun
 pub mod Refusing
 pub mod Unserved
+pub mod Unlimited
 pub mod Retrying
 pub mod Alone
 pub mod Wanted

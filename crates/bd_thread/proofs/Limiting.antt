@@ -1,5 +1,5 @@
 -- Tick and Let, by the local rules; and what a thread waits for with the lines of its limited devices.
-use Rattle.std.proofs.Common.{◌≡◌, ◌⊎◌, inl, inr, ℕ, zero, suc, ◌+◌, ◌<◌, ◌≤◌, Bool, true, false, cond, not, ◌&&◌, ◌||◌, ◌==◌, nat_lt, vec_len, List, [], ◌∷◌, length, is_none, is_some, slice_get, Option, Some, None, refl, sym, ◌∙◌, ap, ap₂, subst, eqb-true, ltb-true, nat_le, arith}
+use Rattle.std.proofs.Common.{◌≡◌, ◌⊎◌, inl, inr, ℕ, ◌+◌, ◌<◌, ◌≤◌, Bool, true, false, cond, not, ◌&&◌, ◌||◌, ◌==◌, nat_lt, vec_len, List, [], ◌∷◌, length, is_none, is_some, Option, Some, None, refl, sym, ◌∙◌, ap, ap₂, subst, eqb-true, ltb-true, nat_le, arith}
 use Rattle.std.proofs.lemmas.Bool.{and_parts, cases_lt}
 use Rattle.std.proofs.lemmas.Option.{same_Some, slice_get_within}
 use Rattle.bd_base.specs.declared.act.Act.TheVariants as acts
@@ -45,7 +45,7 @@ use Rattle.bd_steps.specs.Resetting.{reset_event}
 use Rattle.bd_thread.specs.Calls.{asks_reset, may_ask_freely}
 use Rattle.bd_thread.specs.Injections.{is_inject}
 use Rattle.bd_thread.specs.Walking.{NoVisit}
-use Rattle.bd_thread.specs.Limits.{head_of, head_stop, head_stop_of, stop_by, let_due, let_due_of, may_let, may_tick, slices_now, tick_due, tick_due_of, with_id, IsLet, IsTicked, Lets, LetsBy, NoLimit, NoLimitBelow, NoLimitOn, NoWayOut, Ticks, TicksBy, way_by}
+use Rattle.bd_thread.specs.Limits.{head_of, head_stop, head_stop_of, stop_by, let_due, let_due_of, may_let, may_tick, slices_now, tick_due, tick_due_of, with_id, IsLet, IsTicked, Lets, LetsBy, NoLimit, NoWayOut, Ticks, TicksBy, way_by}
 use Rattle.bd_thread.specs.Requests.{KeepsTickets}
 use Rattle.bd_thread.specs.Seen.{local, local_at, untaken, view_of}
 use Rattle.bd_thread.specs.Sent.{may_put, may_send}
@@ -324,52 +324,6 @@ pub progress_more : (P : Thread → Links → Type 0) (old : Thread) (before : L
 progress_more P old before new after h few = omega (arith, h, few)
 
 -- ---- the lines of a thread
-
--- for the line of the device at this place nothing can be done either
-pub limits_below : (place : ℕ) (l : Limited) (o : Thread) (a : Links) (m : Thread) (b : Links) (n : Thread) (c : Links)
-    → Acted o a m b
-    → Acted m b n c
-    → slice_get m.part.limited place ≡ Some l
-    → Idles (NoLimitBelow place) o a m b
-    → Idles (NoLimitOn l.dev) m b n c
-    → Idles (NoLimitBelow (place + 1)) o a n c
-limits_below place l o a m b n c g h at f s few =
-    let first : IsIdle (NoLimitBelow place) o a m b = f (omega (arith, few, grown m b n c h)) in
-    let second : IsIdle (NoLimitOn l.dev) m b n c = s (omega (arith, few, grown o a m b g)) in
-    let here : slice_get o.part.limited place ≡ Some l = subst (λ (t : Thread). slice_get t.part.limited place ≡ Some l) first.thread at in
-    let one : NoLimitOn l.dev o a = subst (λ (t : Thread). NoLimitOn l.dev t a) first.thread (subst (λ (x : Links). NoLimitOn l.dev m x) first.links second.waits) in
-    record { thread = second.thread ∙ first.thread; links = second.links ∙ first.links; waits = λ i x less found. go first.waits here one i x less found (cases_lt i place) }
-  where
-    go : NoLimitBelow place o a → slice_get o.part.limited place ≡ Some l → NoLimitOn l.dev o a → (i : ℕ) (x : Limited) → i < place + 1 → slice_get o.part.limited i ≡ Some x → (i < place) ⊎ (place ≤ i) → NoLimitOn x.dev o a
-    go below here one i x less found (inl lower) = below i x lower found
-    go below here one i x less found (inr upper) =
-        let same : i ≡ place = omega (arith, less, upper) in
-        let is : l ≡ x = same_Some l x (sym here ∙ subst (λ (k : ℕ). slice_get o.part.limited k ≡ Some x) same found) in
-        subst (λ (y : Limited). NoLimitOn y.dev o a) is one
-
--- all before the end, so all
-pub limits_all : (count : ℕ) (o : Thread) (a : Links) (n : Thread) (c : Links) → length o.part.limited ≤ count → Idles (NoLimitBelow count) o a n c → Idles NoLimit o a n c
-limits_all count o a n c whole f few =
-    let first : IsIdle (NoLimitBelow count) o a n c = f few in
-    record { thread = first.thread; links = first.links; waits = λ i x found. first.waits i x (omega (arith, whole, slice_get_within o.part.limited i x found)) found }
-
--- a place that was there once is there still, where nothing changed
-pub limits_there : (place : ℕ) (o : Thread) (a : Links) (n : Thread) (c : Links)
-    → place < length o.part.limited
-    → slice_get n.part.limited place ≡ None
-    → Idles (NoLimitBelow place) o a n c
-    → Idles NoLimit o a n c
-limits_there place o a n c within none f few =
-    let first : IsIdle (NoLimitBelow place) o a n c = f few in
-    absurd (gone o.part.limited place within (subst (λ (t : Thread). slice_get t.part.limited place ≡ None) first.thread none))
-  where
-    none_some : {X : Type 0} {x : X} → None ≡ Some x → ⊥
-    none_some e = cc
-
-    gone : {X : Type 0} (xs : List X) (i : ℕ) → i < length xs → slice_get xs i ≡ None → ⊥
-    gone [] i within none = absurd (omega (arith, within))
-    gone (x ∷ xs) zero within none = none_some (sym none)
-    gone (x ∷ xs) (suc i) within none = gone xs i (omega (arith, within)) none
 
 -- after the pieces of its stores a thread serves its lines, releases what it holds, and then tries the walks that are here
 pub then_served : (o : Thread) (a : Links) (m : Thread) (b : Links) (p : Thread) (d : Links) (q : Thread) (e : Links) (n : Thread) (c : Links)

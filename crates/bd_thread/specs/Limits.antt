@@ -130,9 +130,21 @@ pub record NoLimitOn (dev : DevId) (t : Thread) (links : Links) : Type 0 where
   pub tick : tick_due t links dev ≡ None
   pub pass : let_due t links dev ≡ None
 
--- the same of the first n limited devices of the thread
+abbrev pub line_on : Option Limited → Option DevId
+line_on None = None
+line_on (Some l) = cond (length l.waiting == 0) None (Some l.dev)
+
+-- the thread's limited device at this place, if a request waits in its line
+abbrev pub line_at : ℕ → Thread → Option DevId
+line_at place t = line_on (slice_get t.part.limited place)
+
+-- the same of that device
+abbrev pub NoLimitAt : ℕ → Thread → Links → Type 0
+NoLimitAt place t links = (dev : DevId) → line_at place t ≡ Some dev → NoLimitOn dev t links
+
+-- and of the first n limited devices of the thread
 abbrev pub NoLimitBelow : ℕ → Thread → Links → Type 0
-NoLimitBelow n t links = (i : ℕ) (l : Limited) → i < n → slice_get t.part.limited i ≡ Some l → NoLimitOn l.dev t links
+NoLimitBelow n t links = (place : ℕ) → place < n → NoLimitAt place t links
 
 -- and of all
 abbrev pub NoLimit : Thread → Links → Type 0

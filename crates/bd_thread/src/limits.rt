@@ -3,7 +3,7 @@
 ghost use Rattle.std.specs.Prelude.{◌≡◌, ◌<◌, true, is_some, vec_len, IfOk, IfSome, OnOk};
 ghost use Rattle.bd_thread.specs.Aborts.{abort_due};
 ghost use Rattle.bd_thread.specs.Acted.{Acted};
-ghost use Rattle.bd_thread.specs.Limits.{head_of, head_stop, let_due, tick_due, with_id, Lets, NoLimit, NoLimitOn, NoMarkedHead, NoWayOut, Ticks};
+ghost use Rattle.bd_thread.specs.Limits.{head_of, head_stop, let_due, line_at, tick_due, with_id, Lets, NoLimit, NoLimitAt, NoLimitOn, NoMarkedHead, NoWayOut, Ticks};
 ghost use Rattle.bd_thread.specs.Requests.{KeepsTickets};
 ghost use Rattle.bd_thread.specs.Waits.{Idles, Progresses};
 ghost use Rattle.bd_thread.specs.Work.{AsksNothing};
@@ -177,6 +177,33 @@ impl<'a> Thread<'a> {
         Ok(())
     }
 
+    // The thread's limited device at this place, where a request waits in its line.
+    fn line_at(&self, place: usize) -> Option<DevId>
+        ensures { result ≡ line_at place self.now }
+    {
+        let limited = self.part.limited.as_slice().get(place)?;
+        if limited.waiting.len() == 0 {
+            None
+        } else {
+            Some(limited.dev)
+        }
+    }
+
+    // Serves the line of the limited device at this place, where a request waits in it.
+    #[tactic(auto, using(crate::proofs::Alone::alone_none))]
+    fn limit_at(&mut self, links: &mut Links, place: usize) -> Result<(), OutOfMemory>
+        requires { self.old.me < vec_len links.old.queues }
+        ensures acted { OnOk result (Acted self.old links.old self.new links.new) }
+        ensures tickets { OnOk result (KeepsTickets self.old → KeepsTickets self.new) }
+        ensures quiet { OnOk result (Idles (NoLimitAt place) self.old links.old self.new links.new) }
+        ensures alone { OnOk result (AsksNothing links.old links.new) }
+    {
+        let Some(dev) = self.line_at(place) else {
+            return Ok(());
+        };
+        self.limit(links, dev)
+    }
+
     /// Serves the lines of the thread's limited devices: the first of each is sent back aborted where a mark here
     /// aborts it; else timeslices that passed bring their quotas; else it passes, where something is left of each limit
     /// that counts it, and is sent back.
@@ -188,11 +215,7 @@ impl<'a> Thread<'a> {
         ensures alone { OnOk result (AsksNothing links.old links.new) }
     {
         for place in 0..self.part.limited.len() {
-            let Some(limited) = self.part.limited.as_slice().get(place) else {
-                return Ok(());
-            };
-            let dev = limited.dev;
-            self.limit(links, dev)?;
+            self.limit_at(links, place)?;
         }
         Ok(())
     }
