@@ -22,7 +22,7 @@ use Rattle.bd_steps.specs.Duties.{removal_of}
 use Rattle.bd_thread.specs.Endings.{is_left, left_on, owes_nothing}
 use Rattle.bd_thread.specs.Lines.{if_asked, may_close}
 use Rattle.bd_thread.specs.Seen.{view_of}
-use Rattle.bd_thread.specs.Waits.{NoRemoval, NoRemovalFrom, NoRemovalOn, NothingOwn}
+use Rattle.bd_thread.specs.Waits.{NoDestruct, NoRemoval, NoRemovalFrom, NoRemovalOn, NothingOwn}
 
 -- ---- a handle that is left
 
@@ -69,17 +69,21 @@ stays true false fresh shown h = refl
 stays false called fresh shown h = refl
 stays true true fresh shown h = cc
 
--- a thread that owes nothing and took no remove event has no handle to close and no device to destruct
+-- a thread that owes nothing has no device to destruct
+pub undestructed : (t : Thread) (links : Links) → (length t.part.owed == 0) ≡ true → NoDestruct t links
+undestructed t links none dev less =
+    let setup = t.setup.now in
+    let v : View = view_of t links in
+    let told = none_of (same_owed (owes.Destruct dev)) t.part.owed (eqb-true (length t.part.owed) 0 none) in
+    stays (is_home setup t.me dev) (is_called_for v (came_free true) dev) (not (has_destructed v dev)) (is_some (digest_due (is_malloc setup dev) (find (is_base dev) t.part.bases))) (ap (λ b. b && true) told)
+
+-- one that took no remove event either has no handle to close
 pub nothing_own : (t : Thread) (links : Links) → owes_nothing t ≡ true → NothingOwn t links
 nothing_own t links h =
     let parts = and_parts (length t.part.owed == 0) (length t.part.gone == 0) h in
-    let setup = t.setup.now in
     record {
       handle = λ dev known less. none_left dev t links (eqb-true (length t.part.gone) 0 parts.1);
-      device = λ dev less.
-          let v : View = view_of t links in
-          let told = none_of (same_owed (owes.Destruct dev)) t.part.owed (eqb-true (length t.part.owed) 0 parts.0) in
-          stays (is_home setup t.me dev) (is_called_for v (came_free true) dev) (not (has_destructed v dev)) (is_some (digest_due (is_malloc setup dev) (find (is_base dev) t.part.bases))) (ap (λ b. b && true) told);
+      device = undestructed t links parts.0;
     }
 
 -- ---- after Shutdown

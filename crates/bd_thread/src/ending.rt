@@ -1,6 +1,6 @@
 //! What a thread does by itself: after Shutdown thread 0 removes the devices that are left; a thread closes
 //! handles whose device is being removed, and destructs its devices.
-ghost use Rattle.std.specs.Prelude.{◌≡◌, ◌<◌, vec_len, IfOk, OnOk};
+ghost use Rattle.std.specs.Prelude.{◌≡◌, ◌==◌, ◌<◌, length, vec_len, IfOk, OnOk};
 ghost use Rattle.bd_thread.specs.Acted.{Acted};
 ghost use Rattle.bd_thread.specs.Endings.{is_left, left_on, ClosesLeft, RemovesLeft};
 ghost use Rattle.bd_thread.specs.Requests.{KeepsTickets};
@@ -11,9 +11,16 @@ ghost use Rattle.bd_registry.specs.State.{rows_of};
 use crate::links::Links;
 use crate::thread::Thread;
 use bd_base::{DevId, OutOfMemory};
-use bd_machine::Handle;
+use bd_machine::{Handle, Part};
 use bd_rule_requests::is_gone;
 use bd_steps::{owes_nothing, removal_after};
+
+// Whether a thread owes nothing.
+fn owes_none(part: &Part) -> bool
+    ensures { result ≡ (length part.now.owed == 0) }
+{
+    part.owed.len() == 0
+}
 
 impl<'a> Thread<'a> {
     // Whether the thread closes the handle by itself: its remove event was taken, and it may be closed (no
@@ -92,7 +99,7 @@ impl<'a> Thread<'a> {
         ensures quiet { OnOk result (Idles NoDestruct self.old links.old self.new links.new) }
         ensures alone { OnOk result (AsksNothing links.old links.new) }
     {
-        if owes_nothing(&self.part) {
+        if owes_none(&self.part) {
             return Ok(());
         }
         for place in 0..self.setup.devices.len() {

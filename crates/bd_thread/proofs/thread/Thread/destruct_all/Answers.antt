@@ -1,8 +1,9 @@
-use Rattle.std.proofs.Common.{arith}
+use Rattle.std.proofs.Common.{sym, ◌∙◌, arith}
 use Rattle.bd_thread.specs.Waits.{NoDestructOn}
 use Rattle.bd_thread.proofs.Alone.{alone_none, alone_then, destructs_alone}
 use Rattle.bd_thread.proofs.Going.{acted_none, acted_then}
 use Rattle.bd_thread.proofs.Idle.{destructs_idle, idle_here, idle_then}
+use Rattle.bd_thread.proofs.Leftovers.{undestructed}
 use Rattle.bd_thread.proofs.Waiting.{undestructed_below}
 use Rattle.bd_thread.proofs.thread.Thread.destruct_all.Goals as goal
 
@@ -18,3 +19,6 @@ loop-place-preserved c = record {
       (destructs_idle _ _ _ _ _ _ c.in_ok-destruct.ensures.destructed);
   alone = alone_then _ _ _ c.loop-place.invariant.alone (destructs_alone _ _ _ _ _ _ c.in_ok-destruct.ensures.keeps c.in_ok-destruct.ensures.destructed);
 }
+
+pub returns-then-owes_none-clause-quiet : goal.returns-then-owes_none-clause-quiet
+returns-then-owes_none-clause-quiet c = idle_here _ _ (undestructed c.args.self.now c.args.links.now (sym c.owes_none.ensures ∙ c.if-owes_none.true))
