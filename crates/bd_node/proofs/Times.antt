@@ -28,19 +28,20 @@ use Rattle.bd_machine.proofs.Tables.{dev_exact}
 use Rattle.bd_outside.specs.Clock.{IsWithin, Moments}
 use Rattle.bd_outside.specs.Disk.{DiskState}
 use Rattle.bd_thread.specs.declared.thread.Thread.{Thread}
-use Rattle.bd_thread.specs.Seen.{time_of}
-use Rattle.bd_thread.specs.Timely.{moment_named, slices_in, IsOnTime}
+use Rattle.bd_thread.specs.Seen.{setup_of, time_of}
+use Rattle.bd_thread.specs.Timely.{moment_named, slices_in, until_named, EndsInTime, IsOnTime}
+use Rattle.bd_thread.proofs.OnTime.{held_weaker}
 use Rattle.bd_wires.specs.declared.wires.Passes.{Passes as SeatPasses}
 use Rattle.bd_wires.specs.declared.wires.Wires.{Wires}
 use Rattle.bd_worker.specs.declared.seat.Seat.{Seat}
 use Rattle.bd_worker.specs.Seats.{made_by, AreTimesWithin, HasTimesWithin, IsHandedOut}
 use Rattle.bd_worker.specs.Shutting.{LearnsShut}
 use Rattle.bd_worker.proofs.Places.{has_at, is_below, set_else, set_here}
-use Rattle.bd_worker.proofs.Times.{named_within, start_within}
+use Rattle.bd_worker.proofs.Times.{held_within, named_within, start_within}
 use Rattle.bd_node.specs.declared.node.Node.{Node}
 use Rattle.bd_node.specs.Gathering.{Gathers}
 use Rattle.bd_node.specs.Starting.{AreNewSeats, IsNewSeat}
-use Rattle.bd_node.specs.Times.{AreMomentsWithin, AreStartsWithin, HaveTimesWithin}
+use Rattle.bd_node.specs.Times.{AreHoldsWithin, AreMomentsWithin, AreStartsWithin, EndsWithin, HaveTimesWithin}
 use Rattle.bd_node.specs.Whole.{entries_left, past_of, setup_in, IsNodeOf}
 use Rattle.bd_node.proofs.Disks.{no_more}
 use Rattle.bd_node.proofs.Gathered.{none_of_sum}
@@ -170,12 +171,20 @@ own_fits dev t first before (e ∷ es) h f = go (e.thread == t) refl f (own_fits
         let none = untold dev first before e.act (of_other dev t e h.0 k) in
         (none.0, subst (λ (n : ℕ). Fits dev first n es) (more (slices_of dev e.act) none.1) (other f))
 
+-- ---- what is held
+
+-- all that a thread holds, it holds in time, by its clock
+ends_within : (range : Option Moments) (t : Thread) (es : List Entry) → IsOnTime t es → AreTimesWithin range (time_of t).given (time_of t).start (time_of t).moment → AreHoldsWithin range (setup_of t) es
+ends_within None t es h times = held_weaker (EndsInTime (setup_of t) (time_of t).moment) (EndsWithin None (setup_of t)) (λ n k. tt) es h.held
+ends_within (Some r) t es h times = held_within r t es h times
+
 -- ---- a node of which all was gathered
 
 module _ {D : Type 0} (state : D → DiskState) (starts : List (List (DevId × D))) (n : Node D) (h : IsNodeOf state starts n) (left : entries_left n ≡ 0) (range : Option Moments) (within : HaveTimesWithin range n.seats.items) where
   -- what a thread did is in the trace, and goes with its time
   record OnTime (t : ℕ) : Type 0 where
     thread : Thread
+    setup : setup_of thread ≡ n.setup.now
     did : IsOnTime thread (entries_of t n.trace.items)
     times : AreTimesWithin range (time_of thread).given (time_of thread).start (time_of thread).moment
 
@@ -186,6 +195,7 @@ module _ {D : Type 0} (state : D → DiskState) (starts : List (List (DevId × D
       let empty : s.worker.log.entries ≡ [] = no_more s.worker.log.entries (none_of_sum made_by n.seats.items left t s u.1) in
       record {
         thread = s.worker.thread;
+        setup = (h.seated.each t s u.1).sits.seat.worker.given;
         did = subst (IsOnTime s.worker.thread) (ap (λ (es : List Entry). entries_of t n.trace.items ++ es) empty ∙ append-nil (entries_of t n.trace.items)) (h.seated.each t s u.1).sits.seat.worker.times;
         times = within t s u.1;
       }
@@ -195,6 +205,12 @@ module _ {D : Type 0} (state : D → DiskState) (starts : List (List (DevId × D
   moments_within =
       of_threads (λ e. IfSome (moment_named e.act) (IsWithin range)) n.setup.now.threads n.trace.items h.trace.known
       (λ t lt. let o : OnTime t = on_time t lt in named_within range o.thread (entries_of t n.trace.items) o.did o.times)
+
+  -- **and each request is held in time**
+  pub holds_within : AreHoldsWithin range n.setup.now n.trace.items
+  holds_within =
+      of_threads (λ e. IfSome (until_named e.act) (EndsWithin range n.setup.now)) n.setup.now.threads n.trace.items h.trace.known
+      (λ t lt. let o : OnTime t = on_time t lt in subst (λ (s : Setup). AreHoldsWithin range s (entries_of t n.trace.items)) o.setup (ends_within range o.thread (entries_of t n.trace.items) o.did o.times))
 
   -- **and some start of each device's timeslices**
   pub starts_within : (told : Told) → IsRun (setup_in n) told n.trace.items → AreStartsWithin range n.trace.items

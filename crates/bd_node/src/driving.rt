@@ -11,7 +11,7 @@ ghost use Rattle.bd_node.specs.Disks.{disks_of, told_of, SaysOfDisks};
 ghost use Rattle.bd_node.specs.Schedule.{advance, advance_by};
 ghost use Rattle.bd_worker.specs.Seats.{has_moved, made_by, HasMoved, Tells};
 ghost use Rattle.bd_node.specs.Shutting.{AddsShutdown, IsUnchanged};
-ghost use Rattle.bd_node.specs.Times.{AreMomentsWithin, AreStartsWithin, HaveTimesWithin, KeepsTimes};
+ghost use Rattle.bd_node.specs.Times.{AreHoldsWithin, AreMomentsWithin, AreStartsWithin, HaveTimesWithin, KeepsTimes};
 ghost use Rattle.bd_node.specs.Waits.{TurnsQuietly};
 ghost use Rattle.bd_report.specs.Stats.{stats_of};
 ghost use Rattle.bd_node.specs.Whole.{disks_in, AreSeated, HasAllDisks, HasSameFlag, HasSameLogs, KeepsDisks, HasSameSetup, IsNode, IsNodeOf, are_all_taken, entries_left, entries_made, halt_of, has_taken, is_spent, is_at_rest, is_idle, is_over, logs_of, past_of, seat_goes, seat_has_destructed, seat_has_stamps, seat_is_blocked, seat_is_done, seat_rests, seed_of, setup_in, state_of};
@@ -464,6 +464,7 @@ impl<'a, D: Disk> Node<'a, D> {
             → IsNodeOf D.state starts self.entry → AreBasesLowest (setup_in self.entry)
             → IfOk result.0 (λ run. SaysOfDisks D.state (setup_in self.entry) run.history starts result.1.items) }
         ensures moments { (range : Option Moments) → HaveTimesWithin range self.entry.seats.items → IfOk result.0 (λ run. AreMomentsWithin range run.history) }
+        ensures holds { (range : Option Moments) → HaveTimesWithin range self.entry.seats.items → IfOk result.0 (λ run. AreHoldsWithin range (setup_in self.entry) run.history) }
         ensures starts { (range : Option Moments) → HaveTimesWithin range self.entry.seats.items → AreBasesLowest (setup_in self.entry)
             → IfOk result.0 (λ run. AreStartsWithin range run.history) }
         ensures kept { IsPermutation (disks_in self.entry) result.1.items }
@@ -503,6 +504,7 @@ impl<'a, D: Disk> Node<'a, D> {
             → IsNodeOf D.state starts self.entry → AreBasesLowest (setup_in self.entry)
             → IfOk result.0 (λ run. SaysOfDisks D.state (setup_in self.entry) run.history starts result.1.items) }
         ensures moments { (range : Option Moments) → HaveTimesWithin range self.entry.seats.items → IfOk result.0 (λ run. AreMomentsWithin range run.history) }
+        ensures holds { (range : Option Moments) → HaveTimesWithin range self.entry.seats.items → IfOk result.0 (λ run. AreHoldsWithin range (setup_in self.entry) run.history) }
         ensures starts { (range : Option Moments) → HaveTimesWithin range self.entry.seats.items → AreBasesLowest (setup_in self.entry)
             → IfOk result.0 (λ run. AreStartsWithin range run.history) }
         ensures kept { IsPermutation (disks_in self.entry) result.1.items }

@@ -1,14 +1,22 @@
 -- Hold and Release, by the local rules; and what a request does whose pieces are back.
-use Rattle.std.proofs.Common.{◌≡◌, ℕ, ◌+◌, ◌<◌, ◌≤◌, Bool, true, false, cond, not, ◌&&◌, List, [], ◌∷◌, length, find, is_none, is_some, min, nat_le, unwrap_or, Option, Some, None, refl, sym, ◌∙◌, ap, ap₂, subst, leb-true, arith}
+use Rattle.std.proofs.Common.{◌≡◌, ℕ, ◌+◌, ◌%◌, ◌<◌, ◌≤◌, ◌==◌, Bool, true, false, cond, not, ◌&&◌, List, [], ◌∷◌, length, find, is_none, is_some, max, min, nat_le, unwrap_or, Option, Some, None, refl, sym, ◌∙◌, ap, ap₂, subst, leb-true, arith}
+use Rattle.std.proofs.lemmas.List.Sums.{sum_by-le-sum_by}
 use Rattle.std.proofs.lemmas.Option.{same_Some}
 use Rattle.std.specs.List.{list_all}
 use Rattle.bd_base.specs.declared.act.Act.TheVariants as acts
+use Rattle.bd_base.specs.declared.device.DevRow.{DevRow}
+use Rattle.bd_base.specs.declared.device.Kind.{Kind}
+use Rattle.bd_base.specs.declared.device.Kind.TheVariants as kinds
+use Rattle.bd_base.specs.declared.id.DevId.{DevId}
 use Rattle.bd_base.specs.declared.id.ReqId.{ReqId}
+use Rattle.bd_base.specs.declared.request.Way.{Way}
+use Rattle.bd_base.specs.declared.request.Way.TheVariants.{Read, Write}
 use Rattle.bd_base.specs.declared.request.Status.TheVariants.{Success, Failed, Aborted}
 use Rattle.bd_base.specs.declared.setup.Setup.{Setup}
 use Rattle.bd_flight.specs.Due.{end_due}
 use Rattle.bd_held.specs.declared.held.HeldRequest.{HeldRequest}
 use Rattle.bd_held.specs.Holds.{first_hold, HoldKey}
+use Rattle.bd_machine.specs.declared.state.Delayed.{Delayed}
 use Rattle.bd_machine.specs.declared.state.Id.{Id}
 use Rattle.bd_machine.specs.declared.state.Id.TheVariants as ids
 use Rattle.bd_machine.specs.declared.state.Kept.{Kept}
@@ -18,8 +26,9 @@ use Rattle.bd_machine.specs.declared.state.Part.{Part}
 use Rattle.bd_machine.specs.declared.state.Registry.{Registry}
 use Rattle.bd_machine.specs.Alone.{held_after}
 use Rattle.bd_machine.specs.declared.guard.TheConstants.{HOLD_OVER, MAY_HOLD}
+use Rattle.bd_machine.specs.BlockMap.{below, row_of}
 use Rattle.bd_machine.specs.Completion.{is_back, pieces_of}
-use Rattle.bd_machine.specs.Delays.{counted, counted_if_any, guards_hold, guards_release, held, is_before, is_delayed, is_hold_over, is_served, last_moment, latency, may_hold, may_release, released}
+use Rattle.bd_machine.specs.Delays.{counted, counted_if_any, delayed_of, guards_hold, guards_release, held, is_before, is_delayed, is_hold_over, is_served, last_moment, latency, latency_at, latency_of_kind, latency_of_row, may_hold, may_release, released}
 use Rattle.bd_machine.specs.Kept.{as_request, edited, is_at_own, request_here}
 use Rattle.bd_machine.specs.Limits.{seen, way_of}
 use Rattle.bd_machine.specs.Marks.{times_marked}
@@ -41,6 +50,7 @@ use Rattle.bd_thread.specs.Delays.{hold_due, hold_due_of, is_release_due, may_ho
 use Rattle.bd_thread.specs.Requests.{KeepsTickets}
 use Rattle.bd_thread.specs.Resting.{is_own}
 use Rattle.bd_thread.specs.Seen.{local_at, untaken, view_of}
+use Rattle.bd_thread.specs.Timely.{most_at, most_latency, most_of_kind, most_of_row, EndsInTime}
 use Rattle.bd_thread.specs.Waits.{Idles, IsIdle}
 use Rattle.bd_thread.specs.Work.{AsksNothing}
 use Rattle.bd_thread.proofs.Alone.{alone_by, alone_same, alone_then, completes_alone}
@@ -49,7 +59,7 @@ use Rattle.bd_thread.proofs.Idle.{completion_idle, may_grow, more}
 use Rattle.bd_thread.proofs.Submissions.{acted_into}
 use Rattle.bd_thread.proofs.Tickets.{same_tickets}
 use Rattle.bd_thread.proofs.Walking.{hold_all, none_is}
-use Rattle.bd_thread.proofs.Timing.{time_stays, untimed}
+use Rattle.bd_thread.proofs.Timing.{time_stays}
 
 -- ---- a hold
 
@@ -59,6 +69,7 @@ held_for_long r until = Some (r, until)
 -- it is here, and no guard fails
 pub record MayHold (t : Thread) (links : Links) (req : ReqId) (r : OpenRequest) (until : ℕ) : Type 0 where
   pub here : request_here (view_of t links) req ≡ Some r
+  pub until_is : until ≡ until_of t r
   pub passes : first_failing (guards_hold t.setup.now t.me (view_of t links) req until) ≡ None
 
 pub hold_may : (t : Thread) (links : Links) (req : ReqId) (r : OpenRequest) (until : ℕ) → hold_due t links req ≡ Some (r, until) → MayHold t links req r until
@@ -75,6 +86,7 @@ hold_may t links req r until due = go (request_here (view_of t links) req) refl 
     by x is false m k = cc
     by x is true m k = record {
       here = is ∙ ap Some (same x (until_of t x) k).0;
+      until_is = sym (same x (until_of t x) k).1 ∙ ap (until_of t) (same x (until_of t x) k).0;
       passes = subst (λ n. first_failing (guards_hold t.setup.now t.me (view_of t links) req n) ≡ None) (same x (until_of t x) k).1 (none_is _ m);
     }
 
@@ -124,6 +136,41 @@ undelayed t links req r here e =
     let never : may_hold t.setup.now t.me v req until (request_here v req) ≡ false = ap (may_hold t.setup.now t.me v req until) here ∙ undelayed_never t.setup.now t.me v req until r e in
     sym (hold_by t links req r false here (ap (λ b. is_none (first_failing ((MAY_HOLD, b) ∷ []))) never))
 
+-- ---- how long it lasts
+
+one_of_two : (b : Bool) (average p99 : ℕ) → cond b p99 average ≤ max average p99
+one_of_two true average p99 = omega arith
+one_of_two false average p99 = omega arith
+
+kind_most : (kind : Kind) (way : Way) (c : Delayed) → latency_of_kind kind way c ≤ most_of_kind kind way
+kind_most (kinds.Delay average_read p99_read average_write p99_write) Read c = one_of_two ((c.reads + 1) % 100 == 0) average_read p99_read
+kind_most (kinds.Delay average_read p99_read average_write p99_write) Write c = one_of_two ((c.writes + 1) % 100 == 0) average_write p99_write
+kind_most _ way c = omega arith
+
+row_most : (row : Option DevRow) (way : Way) (c : Delayed) → latency_of_row row way c ≤ most_of_row row way
+row_most None way c = omega arith
+row_most (Some row) way c = kind_most row.kind way c
+
+at_most : (setup : Setup) (part : Part) (way : Way) (dev : DevId) → latency_at setup part way dev ≤ most_at setup way dev
+at_most setup part way dev = row_most (row_of setup dev) way (delayed_of part dev)
+
+-- a hold ends in time from the turn's moment on
+pub in_time : (t : Thread) (r : OpenRequest) (until : ℕ) → until ≡ until_of t r → EndsInTime t.setup.now t.time.moment until
+in_time t r until is = go (way_of r.op) is
+  where
+    below_last : (moment short long : ℕ) → short ≤ long → until ≡ min (moment + short) last_moment → until ≤ min (moment + long) last_moment
+    below_last moment short long le e = omega arith
+
+    go : (way : Option Way) → until ≡ min (t.time.moment + latency t.setup.now t.part r.dev way) last_moment → EndsInTime t.setup.now t.time.moment until
+    go None e = record { dev = r.dev; way = Read; by = below_last t.time.moment 0 (most_latency t.setup.now r.dev Read) (omega arith) e }
+    go (Some way) e = record {
+      dev = r.dev;
+      way = way;
+      by = below_last t.time.moment (latency t.setup.now t.part r.dev (Some way)) (most_latency t.setup.now r.dev way) (sum_by-le-sum_by (latency_at t.setup.now t.part way) (most_at t.setup.now way) (below t.setup.now r.dev) (at_most t.setup.now t.part way)) e;
+    }
+
+-- ---- by the local rules
+
 module _ (setup : Setup) (me : ℕ) (part : Part) (here : Id → Option Kept) (registry : Registry) (shut : Bool) (stamp : ℕ) (queues : ℕ → List Message) where
   abbrev old : Local
   old = local_at me part here registry shut stamp queues
@@ -159,7 +206,7 @@ held_acted old before new after req r until due is =
     acted_into old before new after (acts.Hold req until) _ _
     (ap (λ (t : Thread). t.me) is.thread) (ap (λ (t : Thread). t.setup) is.thread) (ap (λ (t : Thread). t.part) is.thread) is.held is.links
     (hold_steps old.setup.now old.me old.part (here_in old.held.items) before.registry.state before.shut (length before.entries) (queues_of before.queues.items) req until r may.here may.passes) refl
-    (untimed (acts.Hold req until) old new refl (ap (λ (t : Thread). t.time) is.thread))
+    (record { time = time_stays old.time new.time (ap (λ (t : Thread). t.time) is.thread); named = tt; held = in_time old r until may.until_is; fits = λ dev. tt })
 
 pub held_tickets : (old : Thread) (before : Links) (new : Thread) (after : Links) (req : ReqId) (r : OpenRequest) (until : ℕ)
     → IsHeld req r until old before new after
@@ -207,7 +254,7 @@ released_acted old before new after req r due is =
     acted_into old before new after (acts.Release req old.time.moment) _ _
     (ap (λ (t : Thread). t.me) is.thread) (ap (λ (t : Thread). t.setup) is.thread) (ap (λ (t : Thread). t.part) is.thread) is.held is.links
     (release_steps old.setup.now old.me old.part (here_in old.held.items) before.registry.state before.shut (length before.entries) (queues_of before.queues.items) req old.time.moment r may.here may.passes) refl
-    (record { time = time_stays old.time new.time (ap (λ (t : Thread). t.time) is.thread); named = refl; fits = λ dev. tt })
+    (record { time = time_stays old.time new.time (ap (λ (t : Thread). t.time) is.thread); named = refl; held = tt; fits = λ dev. tt })
 
 pub released_tickets : (old : Thread) (before : Links) (new : Thread) (after : Links) (req : ReqId) (r : OpenRequest)
     → IsReleased req r old before new after

@@ -158,7 +158,7 @@ acted_then {may} o a m b n c g h =
       leads = leads_on o.setup.now o.me (local o a) (local m b) (local n c) g.entries h.entries g.leads
           (subst (λ (t : ℕ). Leads o.setup.now t (local m b) h.entries (local n c)) g.me
           (subst (λ (s : Setup). Leads s m.me (local m b) h.entries (local n c)) setup-is h.leads));
-      timely = timely_then g.entries h.entries o m n g.timely h.timely;
+      timely = timely_then g.entries h.entries o m n setup-is g.timely h.timely;
     }
 
 pub acted_one : {may : Setup → Act → Bool} (old : Thread) (before : Links) (new : Thread) (after : Links) (act : Act)

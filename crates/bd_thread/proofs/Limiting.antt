@@ -173,7 +173,7 @@ ticked_acted old before new after dev slices due is =
     acted_into old before new after (acts.Tick dev old.time.moment slices) _ (here_in old.held.items)
     (ap (λ (t : Thread). t.me) is.thread) (ap (λ (t : Thread). t.setup) is.thread) (ap (λ (t : Thread). t.part) is.thread) (ap (λ (t : Thread). here_in t.held.items) is.thread) is.links
     (tick_steps old.setup.now old.me old.part (here_in old.held.items) before.registry.state before.shut (length before.entries) (queues_of before.queues.items) dev old.time.moment slices (tick_may old before dev slices due)) refl
-    (record { time = time_stays old.time new.time (ap (λ (t : Thread). t.time) is.thread); named = refl; fits = tick_fits old dev slices told.row told.here told.is told.some })
+    (record { time = time_stays old.time new.time (ap (λ (t : Thread). t.time) is.thread); named = refl; held = tt; fits = tick_fits old dev slices told.row told.here told.is told.some })
 
 pub ticked_tickets : (old : Thread) (before : Links) (new : Thread) (after : Links) (dev : DevId) (slices : ℕ)
     → IsTicked dev slices old before new after
@@ -250,7 +250,7 @@ let_acted old before new after dev req r due is =
     acted_into old before new after (acts.Let req dev old.time.moment) _ _
     (ap (λ (t : Thread). t.me) is.thread) (ap (λ (t : Thread). t.setup) is.thread) (ap (λ (t : Thread). t.part) is.thread) is.held is.links
     (let_steps old.setup.now old.me old.part (here_in old.held.items) before.registry.state before.shut (length before.entries) (queues_of before.queues.items) req dev old.time.moment r may.here may.passes) refl
-    (record { time = time_stays old.time new.time (ap (λ (t : Thread). t.time) is.thread); named = refl; fits = λ dev. tt })
+    (record { time = time_stays old.time new.time (ap (λ (t : Thread). t.time) is.thread); named = refl; held = tt; fits = λ dev. tt })
 
 pub let_tickets : (old : Thread) (before : Links) (new : Thread) (after : Links) (dev : DevId) (req : ReqId) (r : OpenRequest)
     → IsLet dev req r old before new after

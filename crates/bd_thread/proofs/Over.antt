@@ -73,7 +73,7 @@ over_then x y z o a m b n c g h =
       leads = over_goes_on o.setup.now o.me x y z (local o a) (local m b) (local n c) g.entries h.entries g.leads
           (subst (λ (t : ℕ). LeadsOver o.setup.now t y (local m b) h.entries z (local n c)) g.me
           (subst (λ (s : Setup). LeadsOver s m.me y (local m b) h.entries z (local n c)) setup-is h.leads));
-      timely = timely_then g.entries h.entries o m n g.timely h.timely;
+      timely = timely_then g.entries h.entries o m n setup-is g.timely h.timely;
     }
 
 -- it adds entries only

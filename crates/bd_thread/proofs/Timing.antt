@@ -33,7 +33,7 @@ use Rattle.bd_machine.proofs.Tables.{dev_exact}
 use Rattle.bd_moment.specs.declared.time.Time.{Time}
 use Rattle.bd_turns.specs.Local.{came_local, local_after, refusal_local, Local}
 use Rattle.bd_thread.specs.declared.thread.Thread.{Thread}
-use Rattle.bd_thread.specs.Timely.{moment_named, slices_at, slices_if, slices_in, AreTimely, IsTimely, KeepsTime}
+use Rattle.bd_thread.specs.Timely.{moment_named, slices_at, slices_if, slices_in, until_named, AreTimely, EndsInTime, IsTimely, KeepsTime}
 
 -- ---- a thread's time
 
@@ -43,17 +43,22 @@ time_stays old new is = is ∙ ap (λ (n : ℕ). let t : Time = record old { met
 pub time_then : (a b c : Time) → KeepsTime a b → KeepsTime b c → KeepsTime a c
 time_then a b c first second = second ∙ ap (λ (t : Time). let u : Time = record t { met = c.met } in u) first
 
--- ---- an act that names no moment and tells no timeslices
+-- ---- an act that names no moment, holds nothing and tells no timeslices
 
 abbrev pub is_untimed : Act → Bool
 is_untimed (acts.Let req dev now) = false
 is_untimed (acts.Tick dev now slices) = false
 is_untimed (acts.Release req now) = false
+is_untimed (acts.Hold req until) = false
 is_untimed _ = true
 
 pub untimed : (act : Act) (old new : Thread) → is_untimed act ≡ true → new.time ≡ old.time → IsTimely act old new
-untimed act old new plain is = record { time = time_stays old.time new.time is; named = names act plain; fits = λ dev. told act plain dev }
+untimed act old new plain is = record { time = time_stays old.time new.time is; named = names act plain; held = holds act plain; fits = λ dev. told act plain dev }
   where
+    holds : (act : Act) → is_untimed act ≡ true → IfSome (until_named act) (EndsInTime old.setup.now old.time.moment)
+    holds (acts.Hold req until) h = cc
+    holds _ h = tt
+
     names : (act : Act) → is_untimed act ≡ true → IfSome (moment_named act) (λ moment. moment ≡ old.time.moment)
     names (acts.Let req dev now) h = cc
     names (acts.Tick dev now slices) h = cc
@@ -169,7 +174,7 @@ local_slices setup t l e dev allowed =
 -- ---- entries
 
 pub timely_none : (old new : Thread) → new.time ≡ old.time → ((dev : DevId) → slices_at new.part dev ≡ slices_at old.part dev) → AreTimely [] old new
-timely_none old new is same = record { time = time_stays old.time new.time is; named = tt; fits = λ dev. tt; slices = λ dev. same dev ∙ and_none (slices_at old.part dev) }
+timely_none old new is same = record { time = time_stays old.time new.time is; named = tt; held = tt; fits = λ dev. tt; slices = λ dev. same dev ∙ and_none (slices_at old.part dev) }
 
 -- one entry, by what the thread sees before and after it
 pub timely_one : (old new : Thread) (setup : Setup) (t : ℕ) (l l' : Local) (e : Entry)
@@ -182,6 +187,7 @@ pub timely_one : (old new : Thread) (setup : Setup) (t : ℕ) (l l' : Local) (e 
 timely_one old new setup t l l' e was is allowed leads timely = record {
   time = timely.time;
   named = (timely.named, tt);
+  held = (timely.held, tt);
   fits = λ dev. (timely.fits dev, tt);
   slices = λ dev.
       ap (λ (p : Part). slices_at p dev) (sym is)
@@ -198,6 +204,7 @@ timely_plain old new e plain is same =
     record {
       time = one.time;
       named = (one.named, tt);
+      held = (one.held, tt);
       fits = λ dev. (one.fits dev, tt);
       slices = λ dev. same dev ∙ and_none (slices_at old.part dev) ∙ ap (λ n. slices_at old.part dev + n) (sym (untold e.act plain dev));
     }
@@ -213,6 +220,11 @@ names_both : (moment : ℕ) (xs ys : List Entry) → AllByRecursion (λ e. IfSom
 names_both moment [] ys f s = s
 names_both moment (x ∷ xs) ys f s = (f.0, names_both moment xs ys f.1 s)
 
+holds_both : (setup : Setup) (moment : ℕ) (xs ys : List Entry) → AllByRecursion (λ e. IfSome (until_named e.act) (EndsInTime setup moment)) xs → AllByRecursion (λ e. IfSome (until_named e.act) (EndsInTime setup moment)) ys
+    → AllByRecursion (λ e. IfSome (until_named e.act) (EndsInTime setup moment)) (xs ++ ys)
+holds_both setup moment [] ys f s = s
+holds_both setup moment (x ∷ xs) ys f s = (f.0, holds_both setup moment xs ys f.1 s)
+
 pub slices_both : (dev : DevId) (xs ys : List Entry) → slices_in dev (xs ++ ys) ≡ slices_in dev xs + slices_in dev ys
 slices_both dev [] ys = omega arith
 slices_both dev (x ∷ xs) ys = let ih : slices_in dev (xs ++ ys) ≡ slices_in dev xs + slices_in dev ys = slices_both dev xs ys in omega arith
@@ -223,13 +235,16 @@ fits_both dev start before (x ∷ xs) ys f s =
     let more : before + (slices_of dev x.act + slices_in dev xs) ≡ before + slices_of dev x.act + slices_in dev xs = omega arith in
     (f.0, fits_both dev start (before + slices_of dev x.act) xs ys f.1 (subst (λ (n : ℕ). Fits dev start n ys) more s))
 
-pub timely_then : (xs ys : List Entry) (a b c : Thread) → AreTimely xs a b → AreTimely ys b c → AreTimely (xs ++ ys) a c
-timely_then xs ys a b c f s =
+pub timely_then : (xs ys : List Entry) (a b c : Thread) → b.setup.now ≡ a.setup.now → AreTimely xs a b → AreTimely ys b c → AreTimely (xs ++ ys) a c
+timely_then xs ys a b c setup f s =
     let moment : b.time.moment ≡ a.time.moment = ap (λ (t : Time). t.moment) f.time in
     let start : b.time.start ≡ a.time.start = ap (λ (t : Time). t.start) f.time in
     record {
       time = time_then a.time b.time c.time f.time s.time;
       named = names_both a.time.moment xs ys f.named (subst (λ (n : ℕ). AllByRecursion (λ e. IfSome (moment_named e.act) (λ m. m ≡ n)) ys) moment s.named);
+      held = holds_both a.setup.now a.time.moment xs ys f.held
+          (subst (λ (n : ℕ). AllByRecursion (λ e. IfSome (until_named e.act) (EndsInTime a.setup.now n)) ys) moment
+          (subst (λ (u : Setup). AllByRecursion (λ e. IfSome (until_named e.act) (EndsInTime u b.time.moment)) ys) setup s.held));
       fits = λ dev.
           fits_both dev a.time.start (slices_at a.part dev) xs ys (f.fits dev)
           (subst (λ (n : ℕ). Fits dev n (slices_at a.part dev + slices_in dev xs) ys) start (subst (λ (n : ℕ). Fits dev b.time.start n ys) (f.slices dev) (s.fits dev)));

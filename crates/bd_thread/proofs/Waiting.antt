@@ -464,7 +464,7 @@ waits_noted t links u w = record {
 
 pub acted_noted : (o : Thread) (a : Links) (n : Thread) (c : Links) (u : Thread) → u ≡ record n { calls = u.calls } → Acted o a n c → Acted o a u c
 acted_noted o a n c u is h =
-    subst (λ (t : Thread). Acted o a t c) (sym is) (record { me = h.me; setup = h.setup; queues = h.queues; rows = h.rows; entries = h.entries; added = h.added; acts = h.acts; leads = h.leads; timely = record { time = h.timely.time; named = h.timely.named; fits = h.timely.fits; slices = h.timely.slices } })
+    subst (λ (t : Thread). Acted o a t c) (sym is) (record { me = h.me; setup = h.setup; queues = h.queues; rows = h.rows; entries = h.entries; added = h.added; acts = h.acts; leads = h.leads; timely = record { time = h.timely.time; named = h.timely.named; held = h.timely.held; fits = h.timely.fits; slices = h.timely.slices } })
 
 pub tickets_noted : (n : Thread) (u : Thread) → u ≡ record n { calls = u.calls } → KeepsTickets n → KeepsTickets u
 tickets_noted n u is keeps = same_tickets n u (ap (λ (t : Thread). t.purse.ids) is) (ap (λ (t : Thread). t.part.requests) is) (ap (λ (t : Thread). t.part.next_request) is) keeps

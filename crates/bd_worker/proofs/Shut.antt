@@ -168,7 +168,7 @@ shut_with setup p c past contents w seen lent r log stamp lent' left setup-is st
         met = (let m : past.met ≤ w.log.last = a.met in omega (arith, m, above, logged.last));
         times =
             subst (IsOnTime w.thread) (append_assoc past.entries w.log.entries (record { stamp = stamp; thread = w.log.thread; act = acts.Shutdown } ∷ []) ∙ ap (λ (xs : List Entry). past.entries ++ xs) (sym logged.entries))
-            (on_time_still w.thread (past.entries ++ w.log.entries) (record { stamp = stamp; thread = w.log.thread; act = acts.Shutdown }) a.times refl);
+            (on_time_still w.thread (past.entries ++ w.log.entries) (record { stamp = stamp; thread = w.log.thread; act = acts.Shutdown }) a.times refl refl);
         once = a.once;
         replica =
             caught.replica

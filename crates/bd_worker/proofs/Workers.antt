@@ -266,7 +266,7 @@ acted_at setup t p c past before after w thread links log a begun acted tickets 
         met = (let m : past.met ≤ w.log.last = a.met in omega (arith, m, last));
         times =
             subst (IsOnTime thread) (append_assoc past.entries w.log.entries (restamped w.log.thread w.log.last (acts_of links.entries)) ∙ ap (λ (xs : List Entry). past.entries ++ xs) (sym appends.entries))
-            (on_time_then (past.entries ++ w.log.entries) (restamped w.log.thread w.log.last (acts_of links.entries)) w.thread thread a.times begun
+            (on_time_then (past.entries ++ w.log.entries) (restamped w.log.thread w.log.last (acts_of links.entries)) w.thread thread (ap (λ s. s.now) acted.setup) a.times begun
             (timely_restamped w.log.thread w.log.last links.entries w.thread thread (subst (λ (xs : List Entry). AreTimely xs w.thread thread) (sym es-are) acted.timely)));
         once = λ dev. subst (λ (n : ℕ). n ≤ 1) (sym (over_keeps_bases setup before t l es after l' over dev)) (a.once dev);
         replica =

@@ -4,6 +4,7 @@ use Rattle.bd_machine.specs.Run.{IsCompleteRun}
 use Rattle.bd_report.specs.Stats.{stats_of}
 use Rattle.bd_law_disks.specs.Told.{AreBasesLowest}
 use Rattle.bd_node.specs.Disks.{told_of, SaysOfDisks}
+use Rattle.bd_node.specs.Times.{AreHoldsWithin}
 use Rattle.bd_node.specs.Whole.{setup_in}
 use Rattle.bd_node.proofs.Kept.{all_given, played_back}
 use Rattle.bd_node.proofs.run.play.Goals as goal
@@ -58,3 +59,11 @@ returns-in-Ok-play_out-clause-starts g c lowest =
     let turned = c.in-Ok-play_out.ensures in
     let setup-is : setup_in c.play_out.new.node ≡ c.args.setup.now = ap (λ s. s.now) turned.setup ∙ c.in-Ok.ensures.setup in
     c.settle.ensures.starts range (turned.times (c.in-Ok.ensures.times range)) (subst (λ (s : Setup). AreBasesLowest s) (sym setup-is) lowest)
+
+pub returns-in-Ok-play_out-clause-holds : goal.returns-in-Ok-play_out-clause-holds
+returns-in-Ok-play_out-clause-holds g c =
+    let range = g.C.Clock.range c.args.outside.now.clock.now in
+    let turned = c.in-Ok-play_out.ensures in
+    let setup-is : setup_in c.play_out.new.node ≡ c.args.setup.now = ap (λ s. s.now) turned.setup ∙ c.in-Ok.ensures.setup in
+    subst (λ (s : Setup). IfOk c.settle.result.0 (λ run. AreHoldsWithin range s run.history)) setup-is
+    (c.settle.ensures.holds range (turned.times (c.in-Ok.ensures.times range)))

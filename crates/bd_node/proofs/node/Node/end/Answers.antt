@@ -3,12 +3,12 @@ use Rattle.std.proofs.Common.{◌≡◌, List, ◌++◌, length, ap, vec_len, sy
 use Rattle.bd_base.specs.declared.act.Entry.{Entry}
 use Rattle.bd_machine.specs.Run.{IsCompleteRun}
 use Rattle.bd_node.specs.Disks.{disks_of, told_of, SaysOfDisks}
-use Rattle.bd_node.specs.Times.{AreMomentsWithin, AreStartsWithin}
+use Rattle.bd_node.specs.Times.{AreHoldsWithin, AreMomentsWithin, AreStartsWithin}
 use Rattle.bd_node.specs.Whole.{setup_in}
 use Rattle.bd_node.proofs.Gathered.{trace_is_merge}
 use Rattle.bd_node.proofs.Histories.{node_settles}
 use Rattle.bd_node.proofs.Settling.{passes_fit}
-use Rattle.bd_node.proofs.Times.{moments_within, starts_within}
+use Rattle.bd_node.proofs.Times.{holds_within, moments_within, starts_within}
 use Rattle.bd_node.proofs.node.Node.end.Goals as goal
 
 pub disconnect-registry-requires-clause-linked : goal.disconnect-registry-requires-clause-linked
@@ -44,6 +44,12 @@ returns-clause-moments g c range within =
     let n = c.args.self in
     subst (λ (es : List Entry). AreMomentsWithin range es) (sym (c.of-history.ensures ∙ c.from_vec.ensures))
     (moments_within g.D.Disk.state c.requires.node.starts n c.requires.node.node c.requires.left range within)
+
+pub returns-clause-holds : goal.returns-clause-holds
+returns-clause-holds g c range within =
+    let n = c.args.self in
+    subst (λ (es : List Entry). AreHoldsWithin range (setup_in n) es) (sym (c.of-history.ensures ∙ c.from_vec.ensures))
+    (holds_within g.D.Disk.state c.requires.node.starts n c.requires.node.node c.requires.left range within)
 
 pub returns-clause-starts : goal.returns-clause-starts
 returns-clause-starts g c range within lowest =

@@ -9,6 +9,7 @@ use Rattle.bd_machine.specs.Run.{IsCompleteRun}
 use Rattle.bd_report.specs.Stats.{stats_of}
 use Rattle.bd_law_disks.specs.Told.{AreBasesLowest}
 use Rattle.bd_node.specs.Disks.{told_of, SaysOfDisks}
+use Rattle.bd_node.specs.Times.{AreHoldsWithin}
 use Rattle.bd_node.specs.Whole.{logs_of, setup_in}
 use Rattle.bd_node.proofs.Gathered.{trace_is_merge}
 use Rattle.bd_node.proofs.Telling.{both_if}
@@ -59,6 +60,11 @@ returns-in-Err-clause-kept g c =
 
 pub returns-in-Ok-clause-moments : goal.returns-in-Ok-clause-moments
 returns-in-Ok-clause-moments g c range within = c.end.ensures.moments range (c.in-Ok.ensures.times range within)
+
+pub returns-in-Ok-clause-holds : goal.returns-in-Ok-clause-holds
+returns-in-Ok-clause-holds g c range within =
+    let setup-is : setup_in c.gather_and_count.new.self ≡ setup_in c.args.self = ap (λ s. s.now) c.in-Ok.ensures.same.setup in
+    IfOk-weaker c.end.result.0 _ _ (λ run is. subst (λ (s : Setup). AreHoldsWithin range s run.history) setup-is is) (c.end.ensures.holds range (c.in-Ok.ensures.times range within))
 
 pub returns-in-Ok-clause-starts : goal.returns-in-Ok-clause-starts
 returns-in-Ok-clause-starts g c range within lowest =

@@ -38,7 +38,7 @@ returns c =
     let acted : Acted t links new after =
     acted_into t links new after (acts.Script line.number outcome) (done t line.job) (here_in t.held.items) refl refl refl refl refl
     (line_steps t.setup.now t.me t.part (here_in t.held.items) links.registry.state links.shut (length links.entries) (queues_of links.queues.items) line outcome c.if-links.false next due) refl
-    (record { time = refl; named = tt; fits = λ dev. tt }) in
+    (record { time = refl; named = tt; held = tt; fits = λ dev. tt }) in
     let ended : IsEnded outcome t links new after = record { line = line; next = next; thread = refl; links = refl } in
     let thread = c.in_ok-note.ensures.thread ∙ part in
     record {
