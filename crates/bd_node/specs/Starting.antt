@@ -1,7 +1,7 @@
 -- Seats before any entry.
 use Rattle.std.specs.Prelude.{◌≡◌, ℕ, List, [], Some, None, slice_get}
 use Rattle.bd_base.specs.declared.setup.Setup.{Setup}
-use Rattle.bd_thread.specs.Requests.{KeepsTickets}
+use Rattle.bd_thread.specs.Looking.{KeepsOwn}
 use Rattle.bd_thread.specs.Starts.{IsNew, IsNewLinks}
 use Rattle.bd_wires.specs.declared.wires.Passes.{Passes}
 use Rattle.bd_worker.specs.declared.seat.Seat.{Seat}
@@ -10,7 +10,7 @@ use Rattle.bd_worker.specs.declared.seat.Seat.{Seat}
 pub record IsNewSeat {D : Type 0} (me : ℕ) (setup : Setup) (passes : Passes) (s : Seat D) : Type 0 where
   pub me_is : s.worker.me ≡ me
   pub thread : IsNew me setup s.worker.thread
-  pub tickets : KeepsTickets s.worker.thread
+  pub tickets : KeepsOwn s.worker.thread
   pub links : IsNewLinks setup s.worker.links
   pub log_thread : s.worker.log.thread ≡ me
   pub log_entries : s.worker.log.entries ≡ []

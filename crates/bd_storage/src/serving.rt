@@ -3,7 +3,7 @@ ghost use Rattle.std.specs.Prelude.{◌≡◌, ◌<◌, vec_len, IfOk, OnOk};
 ghost use Rattle.bd_disks.specs.Rows.{places};
 ghost use Rattle.bd_storage.specs.Served.{WentWithDisks};
 ghost use Rattle.bd_storage.specs.Serving.{moment, NoService, NoServiceOn, Serves, ServesIf, Still};
-ghost use Rattle.bd_thread.specs.Requests.{KeepsTickets};
+ghost use Rattle.bd_thread.specs.Looking.{KeepsOwn};
 ghost use Rattle.bd_thread.specs.Seen.{number_of};
 ghost use Rattle.bd_thread.specs.Waits.{Idles};
 ghost use Rattle.bd_thread.specs.Work.{AsksNothing};
@@ -26,7 +26,7 @@ fn serve_one<D: Disk>(
 ) -> Result<bool, OutOfMemory>
     requires { number_of thread.old < vec_len links.old.queues }
     ensures over { OnOk result (WentWithDisks D.state disks.old thread.old links.old disks.new thread.new links.new) }
-    ensures tickets { OnOk result (KeepsTickets thread.old → KeepsTickets thread.new) }
+    ensures tickets { OnOk result (KeepsOwn thread.old → KeepsOwn thread.new) }
     ensures quiet { OnOk result (Idles (λ t _links. NoServiceOn D.state disks.old dev t) thread.old links.old thread.new links.new) }
     ensures alone { OnOk result (AsksNothing links.old links.new) }
     ensures same { OnOk result (Still links.old links.new disks.old disks.new) }
@@ -53,7 +53,7 @@ fn serve_some<D: Disk>(
 ) -> Result<(), OutOfMemory>
     requires { number_of thread.old < vec_len links.old.queues }
     ensures over { OnOk result (WentWithDisks D.state disks.old thread.old links.old disks.new thread.new links.new) }
-    ensures tickets { OnOk result (KeepsTickets thread.old → KeepsTickets thread.new) }
+    ensures tickets { OnOk result (KeepsOwn thread.old → KeepsOwn thread.new) }
     ensures quiet { OnOk result (Idles (λ t _links. NoServiceOn D.state disks.old dev t) thread.old links.old thread.new links.new) }
     ensures alone { OnOk result (AsksNothing links.old links.new) }
     ensures same { OnOk result (Still links.old links.new disks.old disks.new) }
@@ -76,7 +76,7 @@ pub(crate) fn serve_all<D: Disk>(
 ) -> Result<(), OutOfMemory>
     requires { number_of thread.old < vec_len links.old.queues }
     ensures over { OnOk result (WentWithDisks D.state disks.old thread.old links.old disks.new thread.new links.new) }
-    ensures tickets { OnOk result (KeepsTickets thread.old → KeepsTickets thread.new) }
+    ensures tickets { OnOk result (KeepsOwn thread.old → KeepsOwn thread.new) }
     ensures quiet { OnOk result (Idles (λ t _links. NoService D.state disks.old t) thread.old links.old thread.new links.new) }
     ensures alone { OnOk result (AsksNothing links.old links.new) }
     ensures serves { OnOk result (Serves D.state (moment disks.old thread.old links.old) (moment disks.new thread.new links.new)) }

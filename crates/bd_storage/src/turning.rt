@@ -5,7 +5,7 @@ ghost use Rattle.bd_registry.specs.State.{rows_of};
 ghost use Rattle.bd_storage.specs.Served.{WentAloneWithDisks, WentWithDisks};
 ghost use Rattle.bd_storage.specs.Serving.{moment, RestsOnDisks, TurnsWith};
 ghost use Rattle.bd_thread.specs.Moves.{AddsMore, turned_of};
-ghost use Rattle.bd_thread.specs.Requests.{KeepsTickets};
+ghost use Rattle.bd_thread.specs.Looking.{KeepsOwn};
 ghost use Rattle.bd_thread.specs.Seen.{number_of, setup_of};
 ghost use Rattle.bd_thread.specs.Waits.{Quiets};
 ghost use Rattle.bd_thread.specs.Work.{QuietsAlone};
@@ -38,7 +38,7 @@ pub fn turn_with_disks<D: Disk>(
     requires me { number_of thread.old < vec_len links.old.queues }
     requires rows { links.old.registry.setup ≡ rows_of (setup_of thread.old) }
     ensures over { OnOk result (WentWithDisks D.state disks.old thread.old links.old disks.new thread.new links.new) }
-    ensures tickets { OnOk result (KeepsTickets thread.old → KeepsTickets thread.new) }
+    ensures tickets { OnOk result (KeepsOwn thread.old → KeepsOwn thread.new) }
     ensures turned { IfOk result (AddsMore links.old links.new) }
     ensures quiet { IfOk result (Quiets thread.old links.old thread.new links.new) }
     ensures disks { IfOk result (RestsOnDisks D.state disks.old thread.old) }
@@ -61,7 +61,7 @@ pub fn work_with_disks<D: Disk>(
 ) -> Result<Turned, OutOfMemory>
     requires { number_of thread.old < vec_len links.old.queues }
     ensures over { OnOk result (WentWithDisks D.state disks.old thread.old links.old disks.new thread.new links.new) }
-    ensures tickets { OnOk result (KeepsTickets thread.old → KeepsTickets thread.new) }
+    ensures tickets { OnOk result (KeepsOwn thread.old → KeepsOwn thread.new) }
     ensures turned { IfOk result (AddsMore links.old links.new) }
     ensures quiet { IfOk result (QuietsAlone thread.old links.old thread.new links.new) }
     ensures alone { OnOk result (WentAloneWithDisks D.state disks.old thread.old links.old disks.new thread.new links.new) }

@@ -34,3 +34,4 @@ pub mod Wanted
 pub mod Working
 pub mod Over
 mod OnDisk
+pub mod Looked

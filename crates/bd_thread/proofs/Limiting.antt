@@ -394,9 +394,8 @@ set_out_tickets o u is keeps = same_tickets o u (ap (λ (t : Thread). t.purse.id
 -- ---- a request that isn't here
 
 -- it can't be carried on, and asks nothing
-pub not_here : (req : ReqId) (t : Thread) (links : Links) → is_some (here_in t.held.items (ids.Request req)) ≡ false → StandsOf false req t links
-not_here req t links away =
-    let none : request_here (view_of t links) req ≡ None = ap as_request (none_some (here_in t.held.items (ids.Request req)) away) in
+pub no_request : (req : ReqId) (t : Thread) (links : Links) → request_here (view_of t links) req ≡ None → StandsOf false req t links
+no_request req t links none =
     let step-is : next_step t.setup.now t.me (view_of t links) req ≡ steps.Wait = ap (step_of t.setup.now t.me (view_of t links) req) none in
     record {
       none = record {
@@ -412,19 +411,23 @@ not_here req t links away =
       asks_is = sym (ap (λ (s : Step). (is_inject s && may_take t.setup.now t.me (view_of t links) req s) || asks_reset t links req) step-is ∙ ap (λ (o : Option OpenRequest). may_ask_freely t links (reset_event t.part req o)) none);
     }
   where
-    none_some : {X : Type 0} (o : Option X) → is_some o ≡ false → o ≡ None
-    none_some None h = refl
-    none_some (Some x) h = cc
-
     neither : (b : Bool) → cond b (let o : Option OpenRequest = None in o) None ≡ None
     neither true = refl
     neither false = refl
 
+-- nor where no token of it is here
+pub not_here : (req : ReqId) (t : Thread) (links : Links) → is_some (here_in t.held.items (ids.Request req)) ≡ false → StandsOf false req t links
+not_here req t links away = no_request req t links (ap as_request (none_some (here_in t.held.items (ids.Request req)) away))
+  where
+    none_some : {X : Type 0} (o : Option X) → is_some o ≡ false → o ≡ None
+    none_some None h = refl
+    none_some (Some x) h = cc
+
 -- where no token is here, no request is
-none_here : (t : Thread) (links : Links) → length t.held.items ≡ 0 → StandsBut None t links
+none_here : {Where : Thread → Type 0} (t : Thread) (links : Links) → length t.held.items ≡ 0 → StandsBut Where None t links
 none_here t links empty = record {
-  none = λ i o at. (not_here o.id t links (nothing t.held.items (ids.Request o.id) empty)).none;
-  finds = λ i o at. sym (not_here o.id t links (nothing t.held.items (ids.Request o.id) empty)).asks_is;
+  none = λ looked i o at. (not_here o.id t links (nothing t.held.items (ids.Request o.id) empty)).none;
+  finds = λ looked i o at. sym (not_here o.id t links (nothing t.held.items (ids.Request o.id) empty)).asks_is;
 }
   where
     nothing : (items : List (Id × Kept)) (id : Id) → length items ≡ 0 → is_some (here_in items id) ≡ false
@@ -432,16 +435,16 @@ none_here t links empty = record {
     nothing (x ∷ xs) id e = absurd (omega (arith, e))
 
 -- where no request is open, none can be carried on
-none_open : (t : Thread) (links : Links) → length t.part.requests ≡ 0 → StandsBut None t links
+none_open : {Where : Thread → Type 0} (t : Thread) (links : Links) → length t.part.requests ≡ 0 → StandsBut Where None t links
 none_open t links empty = record {
-  none = λ i o at. absurd (omega (arith, empty, slice_get_within t.part.requests i o at));
-  finds = λ i o at. absurd (omega (arith, empty, slice_get_within t.part.requests i o at));
+  none = λ looked i o at. absurd (omega (arith, empty, slice_get_within t.part.requests i o at));
+  finds = λ looked i o at. absurd (omega (arith, empty, slice_get_within t.part.requests i o at));
 }
 
 -- the same where one of both is so
-pub bare_stands : (t : Thread) (links : Links) → (length t.part.requests == 0) || (length t.held.items == 0) ≡ true → StandsBut None t links
-bare_stands t links bare = go (length t.part.requests == 0) refl bare
+pub bare_stands : {Where : Thread → Type 0} (t : Thread) (links : Links) → (length t.part.requests == 0) || (length t.held.items == 0) ≡ true → StandsBut Where None t links
+bare_stands {Where} t links bare = go (length t.part.requests == 0) refl bare
   where
-    go : (b : Bool) → (length t.part.requests == 0) ≡ b → b || (length t.held.items == 0) ≡ true → StandsBut None t links
+    go : (b : Bool) → (length t.part.requests == 0) ≡ b → b || (length t.held.items == 0) ≡ true → StandsBut Where None t links
     go true is h = none_open t links (eqb-true (length t.part.requests) 0 is)
     go false is h = none_here t links (eqb-true (length t.held.items) 0 h)

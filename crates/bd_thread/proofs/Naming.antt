@@ -1,5 +1,5 @@
 -- What an abort stops that names a request, and that it completes then.
-use Rattle.std.proofs.Common.{◌≡◌, ℕ, ◌≤◌, Bool, true, false, cond, ◌&&◌, length, is_some, Option, Some, None, refl, sym, subst}
+use Rattle.std.proofs.Common.{◌≡◌, ℕ, Bool, true, false, cond, ◌&&◌, is_some, Option, Some, None, refl, sym, subst}
 use Rattle.std.proofs.lemmas.Bool.{and_parts}
 use Rattle.std.proofs.lemmas.Option.{same_Some}
 use Rattle.bd_base.specs.declared.id.ReqId.{ReqId}
@@ -10,7 +10,7 @@ use Rattle.bd_steps.specs.Naming.{has_own_trip, named_in, number_in, numbered}
 use Rattle.bd_steps.specs.Stopping.{may_stop}
 use Rattle.bd_thread.specs.declared.links.Links.{Links}
 use Rattle.bd_thread.specs.declared.thread.Thread.{Thread}
-use Rattle.bd_thread.specs.Aborts.{abort_due, named_due, EndsAbort, NoneNamed, Stops, StopsNamed, StopsNamedBy}
+use Rattle.bd_thread.specs.Aborts.{abort_due, named_due, NoneNamed, Stops, StopsNamed, StopsNamedBy}
 use Rattle.bd_thread.specs.Completions.{MayComplete}
 use Rattle.bd_thread.specs.Seen.{view_of}
 use Rattle.bd_thread.specs.Waits.{Idles, IsIdle}

@@ -52,6 +52,8 @@ use Rattle.bd_steps.specs.Duties.{duty_owed}
 use Rattle.bd_steps.specs.Sending.{first_due, token_of}
 use Rattle.bd_thread.specs.Duties.{NoDuty}
 use Rattle.bd_thread.specs.Calls.{StandsAsked}
+use Rattle.bd_touched.specs.Reach.{Touches}
+use Rattle.bd_thread.specs.Looking.{LooksAt}
 use Rattle.bd_thread.specs.Lines.{claim_if_bound, claim_of, close_of, handle_if_any, if_asked, if_closable, may_ask, may_ask_after, may_close, open_of, remove_of}
 use Rattle.bd_thread.specs.Moves.{turned_of}
 use Rattle.bd_thread.specs.Requests.{KeepsTickets}
@@ -385,7 +387,7 @@ due_waits t links x first stays = go t.part.due refl first
 -- ---- the answer of a turn
 
 -- one part of a turn after the other
-pub turn_idle : (found : Option ReqId) (o : Thread) (a : Links) (p1 : Thread) (l1 : Links) (p2 : Thread) (l2 : Links) (p3 : Thread) (l3 : Links) (p4 : Thread) (l4 : Links) (p5 : Thread) (l5 : Links) (p6 : Thread) (l6 : Links) (p7 : Thread) (l7 : Links) (p8 : Thread) (l8 : Links) (p9 : Thread) (l9 : Links) (p10 : Thread) (l10 : Links) (p11 : Thread) (l11 : Links) (n : Thread) (c : Links)
+pub turn_idle : {Where : Thread → Type 0} (found : Option ReqId) (o : Thread) (a : Links) (p1 : Thread) (l1 : Links) (p2 : Thread) (l2 : Links) (p3 : Thread) (l3 : Links) (p4 : Thread) (l4 : Links) (p5 : Thread) (l5 : Links) (p6 : Thread) (l6 : Links) (p7 : Thread) (l7 : Links) (p8 : Thread) (l8 : Links) (p9 : Thread) (l9 : Links) (p10 : Thread) (l10 : Links) (p11 : Thread) (l11 : Links) (n : Thread) (c : Links)
     → Acted o a p1 l1
     → Acted p1 l1 p2 l2
     → Acted p2 l2 p3 l3
@@ -407,11 +409,11 @@ pub turn_idle : (found : Option ReqId) (o : Thread) (a : Links) (p1 : Thread) (l
     → Idles NothingLeft p6 l6 p7 l7
     → Idles NothingToSend p7 l7 p8 l8
     → Idles NothingToPost p8 l8 p9 l9
-    → (length a.entries ≡ length l9.entries → Idles (StandsBut found) p9 l9 p10 l10)
+    → (length a.entries ≡ length l9.entries → Idles (StandsBut Where found) p9 l9 p10 l10)
     → (length a.entries ≡ length l10.entries → Idles (StandsAsked found) p10 l10 p11 l11)
     → (length a.entries ≡ length l11.entries → Idles NoRefusal p11 l11 n c)
-    → Idles IsWaiting o a n c
-turn_idle found o a p1 l1 p2 l2 p3 l3 p4 l4 p5 l5 p6 l6 p7 l7 p8 l8 p9 l9 p10 l10 p11 l11 n c acted0 acted1 acted2 acted3 acted4 acted5 acted6 acted7 acted8 acted9 acted10 acted11 message retry duty piece line called left outbox due request asked refusal =
+    → Idles (IsWaiting Where) o a n c
+turn_idle {Where} found o a p1 l1 p2 l2 p3 l3 p4 l4 p5 l5 p6 l6 p7 l7 p8 l8 p9 l9 p10 l10 p11 l11 n c acted0 acted1 acted2 acted3 acted4 acted5 acted6 acted7 acted8 acted9 acted10 acted11 message retry duty piece line called left outbox due request asked refusal =
     let so1 : Idles (λ t links. NoMessage t links × NoRetry t links) o a p2 l2 =
     idle_then o a p1 l1 p2 l2 acted0 acted1 (λ first next. (first, next)) message retry in
     let both1 = acted_then o a p1 l1 p2 l2 acted0 acted1 in
@@ -436,17 +438,17 @@ turn_idle found o a p1 l1 p2 l2 p3 l3 p4 l4 p5 l5 p6 l6 p7 l7 p8 l8 p9 l9 p10 l1
     let so8 : Idles (λ t links. NoMessage t links × NoRetry t links × NoDuty t links × NothingToServe t links × NoLine t links × NothingLeft t links × NothingToSend t links × NothingToPost t links) o a p9 l9 =
     idle_then o a p8 l8 p9 l9 both7 acted8 (λ so next. (so.0, so.1, so.2, so.3, so.4, so.5, so.6, next)) so7 due in
     let both8 = acted_then o a p8 l8 p9 l9 both7 acted8 in
-    let so9 : Idles (λ t links. NoMessage t links × NoRetry t links × NoDuty t links × NothingToServe t links × NoLine t links × NothingLeft t links × NothingToSend t links × NothingToPost t links × StandsBut found t links) o a p10 l10 =
+    let so9 : Idles (λ t links. NoMessage t links × NoRetry t links × NoDuty t links × NothingToServe t links × NoLine t links × NothingLeft t links × NothingToSend t links × NothingToPost t links × StandsBut Where found t links) o a p10 l10 =
     idle_last o a p9 l9 p10 l10 both8 acted9 (λ so next. (so.0, so.1, so.2, so.3, so.4, so.5, so.6, so.7, next)) so8 request in
     let both9 = acted_then o a p9 l9 p10 l10 both8 acted9 in
-    let so10 : Idles (λ t links. NoMessage t links × NoRetry t links × NoDuty t links × NothingToServe t links × NoLine t links × NothingLeft t links × NothingToSend t links × NothingToPost t links × StandsBut found t links × StandsAsked found t links) o a p11 l11 =
+    let so10 : Idles (λ t links. NoMessage t links × NoRetry t links × NoDuty t links × NothingToServe t links × NoLine t links × NothingLeft t links × NothingToSend t links × NothingToPost t links × StandsBut Where found t links × StandsAsked found t links) o a p11 l11 =
     idle_last o a p10 l10 p11 l11 both9 acted10 (λ so next. (so.0, so.1, so.2, so.3, so.4, so.5, so.6, so.7, so.8, next)) so9 asked in
     idle_last o a p11 l11 n c (acted_then o a p10 l10 p11 l11 both9 acted10) acted11
-    (λ so next. record { message = so.0; retry = so.1; duty = so.2; piece = so.3.piece; limit = so.3.limit; walk = so.3.walk; line = line_waits o a so.4; left = so.5; outbox = so.6; due = so.7; request = so.8.none; call = stands_uncalled found o a so.8.finds so.9; refusal = next }) so10 refusal
+    (λ so next. record { message = so.0; retry = so.1; duty = so.2; piece = so.3.piece; limit = so.3.limit; walk = so.3.walk; line = line_waits o a so.4; left = so.5; outbox = so.6; due = so.7; request = so.8.none; call = λ looked. stands_uncalled found o a (so.8.finds looked) so.9; refusal = next }) so10 refusal
 
--- what is noted to be asked is nothing that a thread waits for, sees or keeps
-pub waits_noted : (t : Thread) (links : Links) (u : Thread) → IsWaiting t links → IsWaiting (record t { calls = u.calls }) links
-waits_noted t links u w = record {
+-- what is noted to be asked, and what is to be looked at, is nothing that a thread waits for, sees or keeps
+pub waits_noted : {Where : Thread → Type 0} (t : Thread) (links : Links) (u : Thread) → (Where (record t { calls = u.calls; touched = u.touched }) → Where t) → IsWaiting Where t links → IsWaiting Where (record t { calls = u.calls; touched = u.touched }) links
+waits_noted t links u where_so w = record {
   message = w.message;
   refusal = w.refusal;
   retry = w.retry;
@@ -458,8 +460,10 @@ waits_noted t links u w = record {
   left = record { removal = w.left.removal; own = record { handle = w.left.own.handle; device = w.left.own.device } };
   outbox = w.outbox;
   due = w.due;
-  request = λ i o at. record { step = (w.request i o at).step; named = (w.request i o at).named; still = record { release = (w.request i o at).still.release; hold = (w.request i o at).still.hold; completion = (w.request i o at).still.completion }; out = (w.request i o at).out };
-  call = w.call;
+  request = λ looked i o at.
+      let n = w.request (where_so looked) i o at in
+      record { step = n.step; named = n.named; still = record { release = n.still.release; hold = n.still.hold; completion = n.still.completion }; out = n.out };
+  call = λ looked. w.call (where_so looked);
 }
 
 pub acted_noted : (o : Thread) (a : Links) (n : Thread) (c : Links) (u : Thread) → u ≡ record n { calls = u.calls } → Acted o a n c → Acted o a u c
@@ -469,21 +473,49 @@ acted_noted o a n c u is h =
 pub tickets_noted : (n : Thread) (u : Thread) → u ≡ record n { calls = u.calls } → KeepsTickets n → KeepsTickets u
 tickets_noted n u is keeps = same_tickets n u (ap (λ (t : Thread). t.purse.ids) is) (ap (λ (t : Thread). t.part.requests) is) (ap (λ (t : Thread). t.part.next_request) is) keeps
 
+pub acted_looked : (o : Thread) (a : Links) (n : Thread) (c : Links) (u : Thread) → u ≡ record n { touched = u.touched } → Acted o a n c → Acted o a u c
+acted_looked o a n c u is h =
+    subst (λ (t : Thread). Acted o a t c) (sym is) (record { me = h.me; setup = h.setup; queues = h.queues; rows = h.rows; entries = h.entries; added = h.added; acts = h.acts; leads = h.leads; timely = record { time = h.timely.time; named = h.timely.named; held = h.timely.held; fits = h.timely.fits; slices = h.timely.slices } })
+
+pub tickets_looked : (n : Thread) (u : Thread) → u ≡ record n { touched = u.touched } → KeepsTickets n → KeepsTickets u
+tickets_looked n u is keeps = same_tickets n u (ap (λ (t : Thread). t.purse.ids) is) (ap (λ (t : Thread). t.part.requests) is) (ap (λ (t : Thread). t.part.next_request) is) keeps
+
+-- one after the other
+pub noted_both : (n m u : Thread) → m ≡ record n { touched = m.touched } → u ≡ record m { calls = u.calls } → u ≡ record n { calls = u.calls; touched = u.touched }
+noted_both n m u looked noted =
+    noted
+    ∙ ap (λ (t : Thread). let x : Thread = record t { calls = u.calls } in x) looked
+    ∙ ap (λ (y : Touches). let x : Thread = record n { calls = u.calls; touched = y } in x) (sym (ap (λ (t : Thread). t.touched) noted))
+
 -- where nothing but that changed, it waits as before
-pub still_by : (o : Thread) (a : Links) (n : Thread) (c : Links) (u : Thread) → u ≡ record n { calls = u.calls } → IsIdle IsWaiting o a n c → IsStill IsWaiting o a u c
-still_by o a n c u is i =
-    let noted : Thread → Thread = λ t. record t { calls = u.calls } in
-    let thread-is : u ≡ noted o = is ∙ ap noted i.thread in
+pub still_by : {Where : Thread → Type 0} (o b : Thread) (a : Links) (n : Thread) (c : Links) (u : Thread)
+    → ((t v : Thread) → Where (record t { calls = v.calls; touched = v.touched }) → Where t)
+    → b ≡ record o { touched = b.touched }
+    → u ≡ record n { calls = u.calls; touched = u.touched }
+    → IsIdle (IsWaiting Where) b a n c
+    → IsStill (IsWaiting Where) o a u c
+still_by {Where} o b a n c u where_so began is i =
+    let noted : Thread → Thread = λ t. record t { calls = u.calls; touched = u.touched } in
+    let thread-is : u ≡ noted b = is ∙ ap noted i.thread in
     record {
-      thread = thread-is;
+      thread = thread-is ∙ ap noted began;
       links = i.links;
-      waits = subst (λ (t : Thread). IsWaiting t c) (sym thread-is) (subst (λ (l : Links). IsWaiting (noted o) l) (sym i.links) (waits_noted o a u i.waits));
+      waits = subst (λ (t : Thread). IsWaiting Where t c) (sym thread-is) (subst (λ (l : Links). IsWaiting Where (noted b) l) (sym i.links) (waits_noted b a u (where_so b u) i.waits));
     }
 
--- quiet is answered where no entry was added, whatever is noted then
-pub quiet_by : (o : Thread) (a : Links) (n : Thread) (c : Links) (u : Thread) (turned : Turned) → turned ≡ turned_of (length a.entries) (length c.entries) → u ≡ record n { calls = u.calls } → Idles IsWaiting o a n c → Quiets o a u c turned
-quiet_by o a n c u turned e is h = subst (Quiets o a u c) (sym e) (go (length a.entries == length c.entries) refl)
+-- quiet is answered where no entry was added, whatever is noted then, and whatever is to be looked at
+pub quiet_by : (o b : Thread) (x : Touches) (a : Links) (n : Thread) (c : Links) (u : Thread) (turned : Turned)
+    → turned ≡ turned_of (length a.entries) (length c.entries)
+    → x ≡ o.touched
+    → b ≡ record o { touched = b.touched }
+    → u ≡ record n { calls = u.calls; touched = u.touched }
+    → Idles (IsWaiting (LooksAt x)) b a n c
+    → Quiets o a u c turned
+quiet_by o b x a n c u turned e was began is h = subst (Quiets o a u c) (sym e) (go (length a.entries == length c.entries) refl)
   where
+    still : IsIdle (IsWaiting (LooksAt x)) b a n c → IsStill (IsWaiting (LooksAt o.touched)) o a u c
+    still i = subst (λ (y : Touches). IsStill (IsWaiting (LooksAt y)) o a u c) was (still_by {Where = LooksAt x} o b a n c u (λ t v looks. looks) began is i)
+
     go : (b : Bool) → (length a.entries == length c.entries) ≡ b → Quiets o a u c (cond b Quiet (Moved (length c.entries - length a.entries)))
-    go true same = still_by o a n c u is (h (let k : length a.entries ≡ length c.entries = eqb-true (length a.entries) (length c.entries) same in omega arith))
+    go true same = still (h (let k : length a.entries ≡ length c.entries = eqb-true (length a.entries) (length c.entries) same in omega arith))
     go false same = tt

@@ -17,6 +17,8 @@ use Rattle.bd_machine.specs.Same.{same_handle}
 use Rattle.bd_machine.specs.Users.{is_base_handle}
 use Rattle.bd_steps.specs.Asking.{asks_registry, is_base_if_any, is_live_at}
 use Rattle.bd_steps.specs.Duties.{duty_of, is_duty, removal_of}
+use Rattle.bd_touched.specs.Reach.{Touches}
+use Rattle.bd_thread.specs.Looking.{LooksAt}
 use Rattle.bd_thread.specs.declared.links.Links.{Links}
 use Rattle.bd_thread.specs.declared.thread.Thread.{Thread}
 use Rattle.bd_thread.specs.Duties.{NoDuty}
@@ -139,8 +141,8 @@ unasked t links (Some (jobs.Gone handle)) h = (refl, refl, refl, refl)
 
 -- ---- altogether
 
-pub nothing_else_waits : (t : Thread) (links : Links) → IsWaitingAlone t links → wants_registry t links ≡ false → NoLine t links × IsWaiting t links
-nothing_else_waits t links alone unwanted =
+pub nothing_else_waits : (touched : Touches) (t : Thread) (links : Links) → IsWaitingAlone (LooksAt touched) t links → wants_registry t links ≡ false → NoLine t links × IsWaiting (LooksAt touched) t links
+nothing_else_waits touched t links alone unwanted =
     let count : ℕ = length t.setup.now.devices in
     let following : Bool = is_some links.registry.state.between in
     let owing : Bool = list_any is_duty t.part.owed in
@@ -166,7 +168,7 @@ nothing_else_waits t links alone unwanted =
         outbox = alone.outbox;
         due = alone.due;
         request = alone.request;
-        call = λ free. alone.call noted.1;
+        call = λ looked free. alone.call looked noted.1;
       },
     )
   where

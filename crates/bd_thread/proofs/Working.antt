@@ -7,7 +7,9 @@ use Rattle.bd_thread.specs.declared.turn.Turned.{Turned}
 use Rattle.bd_thread.specs.declared.turn.Turned.TheVariants.{Moved, Quiet}
 use Rattle.bd_thread.specs.Acted.{Acted}
 use Rattle.bd_thread.specs.Calls.{Finds, NoneAsks}
+use Rattle.bd_touched.specs.Reach.{Touches}
 use Rattle.bd_thread.specs.Limits.{NoLimit}
+use Rattle.bd_thread.specs.Looking.{LooksAt}
 use Rattle.bd_thread.specs.Moves.{turned_of}
 use Rattle.bd_thread.specs.Waits.{Idles, IsIdle, IsStill, NoDestruct, NoMessage, NoPiece, NoRefusal, NoRetry, NoStep, NothingToPost, NothingToSend, NothingToServe, StandsBut}
 use Rattle.bd_thread.specs.Walking.{NoVisit}
@@ -16,7 +18,7 @@ use Rattle.bd_thread.proofs.Going.{acted_then}
 use Rattle.bd_thread.proofs.Idle.{idle_last, idle_then}
 
 -- all that a thread waits for that worked alone, and an open request that waits for a decision, if there is one
-pub record WaitsBut (found : Option ReqId) (t : Thread) (links : Links) : Type 0 where
+pub record WaitsBut (Where : Thread → Type 0) (found : Option ReqId) (t : Thread) (links : Links) : Type 0 where
   pub message : NoMessage t links
   pub refusal : NoRefusal t links
   pub retry : NoRetry t links
@@ -27,11 +29,11 @@ pub record WaitsBut (found : Option ReqId) (t : Thread) (links : Links) : Type 0
   pub device : NoDestruct t links
   pub outbox : NothingToSend t links
   pub due : NothingToPost t links
-  pub request : NoStep t links
-  pub finds : Finds found t links
+  pub request : Where t → NoStep t links
+  pub finds : Where t → Finds found t links
 
 -- one part of the work after the other
-pub work_idle : (found : Option ReqId) (o : Thread) (a : Links) (p1 : Thread) (l1 : Links) (p2 : Thread) (l2 : Links) (p3 : Thread) (l3 : Links) (p4 : Thread) (l4 : Links) (p5 : Thread) (l5 : Links) (p6 : Thread) (l6 : Links) (p7 : Thread) (l7 : Links) (p8 : Thread) (l8 : Links) (n : Thread) (c : Links)
+pub work_idle : {Where : Thread → Type 0} (found : Option ReqId) (o : Thread) (a : Links) (p1 : Thread) (l1 : Links) (p2 : Thread) (l2 : Links) (p3 : Thread) (l3 : Links) (p4 : Thread) (l4 : Links) (p5 : Thread) (l5 : Links) (p6 : Thread) (l6 : Links) (p7 : Thread) (l7 : Links) (p8 : Thread) (l8 : Links) (n : Thread) (c : Links)
     → Acted o a p1 l1
     → Acted p1 l1 p2 l2
     → Acted p2 l2 p3 l3
@@ -48,10 +50,10 @@ pub work_idle : (found : Option ReqId) (o : Thread) (a : Links) (p1 : Thread) (l
     → Idles NoDestruct p4 l4 p5 l5
     → Idles NothingToSend p5 l5 p6 l6
     → Idles NothingToPost p6 l6 p7 l7
-    → (length a.entries ≡ length l7.entries → Idles (StandsBut found) p7 l7 p8 l8)
+    → (length a.entries ≡ length l7.entries → Idles (StandsBut Where found) p7 l7 p8 l8)
     → (length a.entries ≡ length l8.entries → Idles NoRefusal p8 l8 n c)
-    → Idles (WaitsBut found) o a n c
-work_idle found o a p1 l1 p2 l2 p3 l3 p4 l4 p5 l5 p6 l6 p7 l7 p8 l8 n c acted0 acted1 acted2 acted3 acted4 acted5 acted6 acted7 acted8 message retry piece line device outbox due request refusal =
+    → Idles (WaitsBut Where found) o a n c
+work_idle {Where} found o a p1 l1 p2 l2 p3 l3 p4 l4 p5 l5 p6 l6 p7 l7 p8 l8 n c acted0 acted1 acted2 acted3 acted4 acted5 acted6 acted7 acted8 message retry piece line device outbox due request refusal =
     let so1 : Idles (λ t links. NoMessage t links × NoRetry t links) o a p2 l2 =
     idle_then o a p1 l1 p2 l2 acted0 acted1 (λ first next. (first, next)) message retry in
     let both1 = acted_then o a p1 l1 p2 l2 acted0 acted1 in
@@ -70,14 +72,14 @@ work_idle found o a p1 l1 p2 l2 p3 l3 p4 l4 p5 l5 p6 l6 p7 l7 p8 l8 n c acted0 a
     let so6 : Idles (λ t links. NoMessage t links × NoRetry t links × NothingToServe t links × NoLineAlone t links × NoDestruct t links × NothingToSend t links × NothingToPost t links) o a p7 l7 =
     idle_then o a p6 l6 p7 l7 both5 acted6 (λ so next. (so.0, so.1, so.2, so.3, so.4, so.5, next)) so5 due in
     let both6 = acted_then o a p6 l6 p7 l7 both5 acted6 in
-    let so7 : Idles (λ t links. NoMessage t links × NoRetry t links × NothingToServe t links × NoLineAlone t links × NoDestruct t links × NothingToSend t links × NothingToPost t links × StandsBut found t links) o a p8 l8 =
+    let so7 : Idles (λ t links. NoMessage t links × NoRetry t links × NothingToServe t links × NoLineAlone t links × NoDestruct t links × NothingToSend t links × NothingToPost t links × StandsBut Where found t links) o a p8 l8 =
     idle_last o a p7 l7 p8 l8 both6 acted7 (λ so next. (so.0, so.1, so.2, so.3, so.4, so.5, so.6, next)) so6 request in
     idle_last o a p8 l8 n c (acted_then o a p7 l7 p8 l8 both6 acted7) acted8
     (λ so next. record { message = so.0; retry = so.1; piece = so.2.piece; limit = so.2.limit; walk = so.2.walk; line = so.3; device = so.4; outbox = so.5; due = so.6; request = so.7.none; finds = so.7.finds; refusal = next }) so7 refusal
 
 -- where that is noted, or something was before, it waits for all but what is noted
-waits_alone : (found : Option ReqId) (t : Thread) (links : Links) (u : Thread) → u.calls.items ≡ calls_with found t.calls.items → WaitsBut found t links → IsWaitingAlone (record t { calls = u.calls }) links
-waits_alone found t links u noted w = record {
+waits_alone : {Where : Thread → Type 0} (found : Option ReqId) (t : Thread) (links : Links) (u : Thread) → (Where (record t { calls = u.calls; touched = u.touched }) → Where t) → u.calls.items ≡ calls_with found t.calls.items → WaitsBut Where found t links → IsWaitingAlone Where (record t { calls = u.calls; touched = u.touched }) links
+waits_alone found t links u where_so noted w = record {
   message = w.message;
   refusal = w.refusal;
   retry = w.retry;
@@ -88,8 +90,10 @@ waits_alone found t links u noted w = record {
   device = w.device;
   outbox = w.outbox;
   due = w.due;
-  request = λ i o at. record { step = (w.request i o at).step; named = (w.request i o at).named; still = record { release = (w.request i o at).still.release; hold = (w.request i o at).still.hold; completion = (w.request i o at).still.completion }; out = (w.request i o at).out };
-  call = λ none. by found t.calls.items w.finds (subst (λ (xs : List ReqId). nat_lt 0 (length xs) ≡ false) noted none);
+  request = λ looked i o at.
+      let n = w.request (where_so looked) i o at in
+      record { step = n.step; named = n.named; still = record { release = n.still.release; hold = n.still.hold; completion = n.still.completion }; out = n.out };
+  call = λ looked none. by found t.calls.items (w.finds (where_so looked)) (subst (λ (xs : List ReqId). nat_lt 0 (length xs) ≡ false) noted none);
 }
   where
     some : {Q : Type 0} (x : ReqId) (xs : List ReqId) → nat_lt 0 (length (x ∷ xs)) ≡ false → Q
@@ -101,26 +105,29 @@ waits_alone found t links u noted w = record {
     by (Some req) (x ∷ xs) finds h = some x xs h
 
 -- quiet is answered where no entry was added, and what was found is noted
-pub quiet_alone_by : (found : Option ReqId) (o : Thread) (a : Links) (n : Thread) (c : Links) (u : Thread) (turned : Turned)
+pub quiet_alone_by : (found : Option ReqId) (o b : Thread) (x : Touches) (a : Links) (n : Thread) (c : Links) (u : Thread) (turned : Turned)
     → turned ≡ turned_of (length a.entries) (length c.entries)
-    → u ≡ record n { calls = u.calls }
+    → x ≡ o.touched
+    → b ≡ record o { touched = b.touched }
+    → u ≡ record n { calls = u.calls; touched = u.touched }
     → (turned ≡ Quiet → u.calls.items ≡ calls_with found n.calls.items)
-    → Idles (WaitsBut found) o a n c
+    → Idles (WaitsBut (LooksAt x) found) b a n c
     → QuietsAlone o a u c turned
-quiet_alone_by found o a n c u turned e is noted h = subst (QuietsAlone o a u c) (sym e) (go (length a.entries == length c.entries) refl)
+quiet_alone_by found o b x a n c u turned e was began is noted h = subst (QuietsAlone o a u c) (sym e) (go (length a.entries == length c.entries) refl)
   where
     with_calls : Thread → Thread
-    with_calls t = record t { calls = u.calls }
+    with_calls t = record t { calls = u.calls; touched = u.touched }
 
-    still : IsIdle (WaitsBut found) o a n c → u.calls.items ≡ calls_with found n.calls.items → IsStill IsWaitingAlone o a u c
+    still : IsIdle (WaitsBut (LooksAt x) found) b a n c → u.calls.items ≡ calls_with found n.calls.items → IsStill (IsWaitingAlone (LooksAt o.touched)) o a u c
     still i calls =
-        let thread-is : u ≡ with_calls o = is ∙ ap with_calls i.thread in
+        let thread-is : u ≡ with_calls b = is ∙ ap with_calls i.thread in
         record {
-          thread = thread-is;
+          thread = thread-is ∙ ap with_calls began;
           links = i.links;
-          waits = subst (λ (t : Thread). IsWaitingAlone t c) (sym thread-is)
-              (subst (λ (l : Links). IsWaitingAlone (with_calls o) l) (sym i.links)
-              (waits_alone found o a u (calls ∙ ap (λ (t : Thread). calls_with found t.calls.items) i.thread) i.waits));
+          waits = subst (λ (y : Touches). IsWaitingAlone (LooksAt y) u c) was
+              (subst (λ (t : Thread). IsWaitingAlone (LooksAt x) t c) (sym thread-is)
+              (subst (λ (l : Links). IsWaitingAlone (LooksAt x) (with_calls b) l) (sym i.links)
+              (waits_alone {Where = LooksAt x} found b a u (λ looks. looks) (calls ∙ ap (λ (t : Thread). calls_with found t.calls.items) i.thread) i.waits)));
         }
 
     go : (b : Bool) → (length a.entries == length c.entries) ≡ b → QuietsAlone o a u c (cond b Quiet (Moved (length c.entries - length a.entries)))

@@ -1,5 +1,5 @@
 -- What open requests ask of the registry: decisions of error devices, and what resets ask.
-use Rattle.std.specs.Prelude.{◌≡◌, ℕ, ◌<◌, Bool, true, false, cond, ◌||◌, ◌++◌, Option, Some, None, is_none, is_some, slice_get}
+use Rattle.std.specs.Prelude.{◌≡◌, ℕ, ◌<◌, Bool, true, false, ◌||◌, ◌++◌, List, Option, Some, None, is_none, slice_get}
 use Rattle.bd_base.specs.declared.event.RegEvent.{RegEvent}
 use Rattle.bd_base.specs.declared.id.ReqId.{ReqId}
 use Rattle.bd_machine.specs.declared.state.Open.{Open}
@@ -53,11 +53,15 @@ pub record NoCallOf (req : ReqId) (t : Thread) (links : Links) : Type 0 where
 abbrev pub asks_next : Thread → Links → ReqId → Bool
 asks_next t links req = asks_decision t links req || asks_reset t links req
 
--- none of the first n open requests does
-abbrev pub NoneAsksBelow : ℕ → Thread → Links → Type 0
-NoneAsksBelow n t links = (i : ℕ) (o : Open) → i < n → slice_get t.part.requests i ≡ Some o → asks_next t links o.id ≡ false
+-- none of the first n of these requests does
+abbrev pub NoneAsksAmong : List ReqId → ℕ → Thread → Links → Type 0
+NoneAsksAmong reqs n t links = (i : ℕ) (req : ReqId) → i < n → slice_get reqs i ≡ Some req → asks_next t links req ≡ false
 
--- none does
+-- none of these does
+abbrev pub NoneAsksNamed : List ReqId → Thread → Links → Type 0
+NoneAsksNamed reqs t links = (i : ℕ) (req : ReqId) → slice_get reqs i ≡ Some req → asks_next t links req ≡ false
+
+-- no open request does
 abbrev pub NoneAsks : Thread → Links → Type 0
 NoneAsks t links = (i : ℕ) (o : Open) → slice_get t.part.requests i ≡ Some o → asks_next t links o.id ≡ false
 
@@ -71,10 +75,15 @@ next_found asks req (Some x) = Some x
 next_found true req None = Some req
 next_found false req None = None
 
--- it is found: one of the first n open requests that asks, if there is one
-abbrev pub FindsBelow : ℕ → Option ReqId → Thread → Links → Type 0
-FindsBelow n None t links = NoneAsksBelow n t links
-FindsBelow n (Some req) t links = asks_next t links req ≡ true
+-- it is found: one of the first n of these requests that asks, if there is one
+abbrev pub FindsAmong : List ReqId → ℕ → Option ReqId → Thread → Links → Type 0
+FindsAmong reqs n None t links = NoneAsksAmong reqs n t links
+FindsAmong reqs n (Some req) t links = asks_next t links req ≡ true
+
+-- one of these that asks, if there is one
+abbrev pub FindsNamed : List ReqId → Option ReqId → Thread → Links → Type 0
+FindsNamed reqs None t links = NoneAsksNamed reqs t links
+FindsNamed reqs (Some req) t links = asks_next t links req ≡ true
 
 -- an open request that asks, if there is one
 abbrev pub Finds : Option ReqId → Thread → Links → Type 0

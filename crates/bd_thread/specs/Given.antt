@@ -33,7 +33,7 @@ held_as req k end read p here = λ j. cond (same_id (ids.Piece req k) j) (Some (
 pub record IsServedAs (req : ReqId) (k : ℕ) (dev : DevId) (end : ApplyEnd) (read : Option (List ℕ)) (old : Thread) (before : Links) (new : Thread) (after : Links) : Type 0 where
   pub piece : OpenPiece
   pub here : as_piece (here_in old.held.items (ids.Piece req k)) ≡ Some piece
-  pub thread : new ≡ record old { part = untaken (record old.part { bases = change_first (is_base dev) (applied end piece) old.part.bases }); held = new.held; outbox = new.outbox }
+  pub thread : new ≡ record old { part = untaken (record old.part { bases = change_first (is_base dev) (applied end piece) old.part.bases }); held = new.held; outbox = new.outbox; touched = new.touched }
   pub held : here_in new.held.items ≡ held_as req k end read piece (here_in old.held.items)
   pub outbox : new.outbox.items ≡ old.outbox.items ++ (req.thread, tokens.Piece req k) ∷ []
   pub links : after ≡ record before { entries = longer old.me before.entries (acts.Apply req k dev end) }

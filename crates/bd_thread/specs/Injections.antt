@@ -1,5 +1,5 @@
 -- When a request takes the decision of an error device, and when it is kept without an answer; and what that leaves.
-use Rattle.std.specs.Prelude.{◌≡◌, ℕ, ◌<◌, Bool, true, false, cond, ◌&&◌, Option, Some, None, is_none, slice_get}
+use Rattle.std.specs.Prelude.{◌≡◌, Bool, true, false, cond, ◌&&◌, Option, Some, None, is_none}
 use Rattle.bd_base.specs.declared.act.Act.TheVariants as acts
 use Rattle.bd_base.specs.declared.event.Answer.{Answer}
 use Rattle.bd_base.specs.declared.event.Answer.TheVariants as answers
@@ -13,7 +13,6 @@ use Rattle.bd_flight.specs.declared.next.Step.TheVariants as steps
 use Rattle.bd_flight.specs.Next.{may_take, next_step}
 use Rattle.bd_machine.specs.declared.state.Id.TheVariants as ids
 use Rattle.bd_machine.specs.declared.state.Kept.TheVariants as keeps
-use Rattle.bd_machine.specs.declared.state.Open.{Open}
 use Rattle.bd_machine.specs.declared.state.OpenRequest.{OpenRequest}
 use Rattle.bd_machine.specs.Injections.{asked_once_more, guards_pend, injected, pended}
 use Rattle.bd_machine.specs.Kept.{request_here}

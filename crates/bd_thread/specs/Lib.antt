@@ -11,6 +11,7 @@ pub mod Lines
 pub mod Duties
 pub mod Served
 pub mod Requests
+pub mod Looking
 pub mod Begins
 pub mod Delays
 pub mod Injections

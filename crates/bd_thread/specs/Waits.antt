@@ -29,8 +29,9 @@ use Rattle.bd_thread.specs.Delays.{StandsStill}
 use Rattle.bd_thread.specs.Destructs.{may_device_go}
 use Rattle.bd_thread.specs.Duties.{NoDuty}
 use Rattle.bd_thread.specs.Endings.{left_on, removal_due}
-use Rattle.bd_thread.specs.Calls.{asks_next, Finds, FindsBelow, NoCall}
+use Rattle.bd_thread.specs.Calls.{asks_next, Finds, FindsAmong, FindsNamed, NoCall}
 use Rattle.bd_thread.specs.Limits.{NoLimit, NoWayOut}
+use Rattle.bd_thread.specs.Looking.{LooksAt}
 use Rattle.bd_thread.specs.Lines.{claim_asked, close_asked, job_now, open_asked, outcome_now, remove_asked}
 use Rattle.bd_thread.specs.Refusals.{refusal_now}
 use Rattle.bd_thread.specs.Retries.{may_retry}
@@ -121,10 +122,6 @@ pub record NoStepOf (req : ReqId) (t : Thread) (links : Links) : Type 0 where
   pub still : StandsStill req t links
   pub out : NoWayOut req (next_step t.setup.now t.me (view_of t links) req) t links
 
--- nor can any of the first n open requests
-abbrev pub NoStepBelow : ℕ → Thread → Links → Type 0
-NoStepBelow n t links = (i : ℕ) (o : Open) → i < n → slice_get t.part.requests i ≡ Some o → NoStepOf o.id t links
-
 -- nor can any open request of the thread
 abbrev pub NoStep : Thread → Links → Type 0
 NoStep t links = (i : ℕ) (o : Open) → slice_get t.part.requests i ≡ Some o → NoStepOf o.id t links
@@ -134,15 +131,20 @@ pub record StandsOf (asks : Bool) (req : ReqId) (t : Thread) (links : Links) : T
   pub none : NoStepOf req t links
   pub asks_is : asks ≡ asks_next t links req
 
--- the same of the first n open requests, and the first of them that waits for the registry
-pub record StandsBelow (found : Option ReqId) (n : ℕ) (t : Thread) (links : Links) : Type 0 where
-  pub none : NoStepBelow n t links
-  pub finds : FindsBelow n found t links
+-- the same of the first n of these requests
+pub record StandsAmong (found : Option ReqId) (reqs : List ReqId) (n : ℕ) (t : Thread) (links : Links) : Type 0 where
+  pub none : (i : ℕ) (req : ReqId) → i < n → slice_get reqs i ≡ Some req → NoStepOf req t links
+  pub finds : FindsAmong reqs n found t links
 
--- and of all
-pub record StandsBut (found : Option ReqId) (t : Thread) (links : Links) : Type 0 where
-  pub none : NoStep t links
-  pub finds : Finds found t links
+-- and of all these
+pub record StandsNamed (found : Option ReqId) (reqs : List ReqId) (t : Thread) (links : Links) : Type 0 where
+  pub none : (i : ℕ) (req : ReqId) → slice_get reqs i ≡ Some req → NoStepOf req t links
+  pub finds : FindsNamed reqs found t links
+
+-- and of all open requests, where this holds
+pub record StandsBut (Where : Thread → Type 0) (found : Option ReqId) (t : Thread) (links : Links) : Type 0 where
+  pub none : Where t → NoStep t links
+  pub finds : Where t → Finds found t links
 
 -- ---- the next line
 
@@ -262,8 +264,8 @@ Progresses Waits old before new after false = IsIdle Waits old before new after
 abbrev pub Idles : (Thread → Links → Type 0) → Thread → Links → Thread → Links → Type 0
 Idles Waits old before new after = length after.entries ≤ length before.entries → IsIdle Waits old before new after
 
--- all that a thread waits for: nothing of this can be done
-pub record IsWaiting (t : Thread) (links : Links) : Type 0 where
+-- all that a thread waits for: nothing of this can be done, by an open request where this holds
+pub record IsWaiting (Where : Thread → Type 0) (t : Thread) (links : Links) : Type 0 where
   pub message : NoMessage t links
   pub refusal : NoRefusal t links
   pub retry : NoRetry t links
@@ -275,16 +277,16 @@ pub record IsWaiting (t : Thread) (links : Links) : Type 0 where
   pub left : NothingLeft t links
   pub outbox : NothingToSend t links
   pub due : NothingToPost t links
-  pub request : NoStep t links
-  pub call : NoCall t links
+  pub request : Where t → NoStep t links
+  pub call : Where t → NoCall t links
 
--- nothing changed but what is noted to be asked of the registry, and the thread waits for this
+-- nothing changed but what is noted to be asked of the registry and which requests are to be looked at, and the thread waits for this
 pub record IsStill (Waits : Thread → Links → Type 0) (old : Thread) (before : Links) (new : Thread) (after : Links) : Type 0 where
-  pub thread : new ≡ record old { calls = new.calls }
+  pub thread : new ≡ record old { calls = new.calls; touched = new.touched }
   pub links : after ≡ before
   pub waits : Waits new after
 
--- a quiet turn changed nothing, and the thread waits for all this
+-- a quiet turn changed nothing, and the thread waits for all this, where each open request was to be looked at, or rests
 abbrev pub Quiets : Thread → Links → Thread → Links → Turned → Type 0
-Quiets old before new after Quiet = IsStill IsWaiting old before new after
+Quiets old before new after Quiet = IsStill (IsWaiting (LooksAt old.touched)) old before new after
 Quiets old before new after (Moved n) = Unit {0}

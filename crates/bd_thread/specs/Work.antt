@@ -19,6 +19,8 @@ use Rattle.bd_thread.specs.Endings.{left_on}
 use Rattle.bd_thread.specs.Calls.{NoneAsks}
 use Rattle.bd_thread.specs.Limits.{NoLimit}
 use Rattle.bd_thread.specs.Lines.{job_now, outcome_now}
+use Rattle.bd_touched.specs.Reach.{Touches}
+use Rattle.bd_thread.specs.Looking.{LooksAt}
 use Rattle.bd_thread.specs.Waits.{IsStill, IsWaiting, NoDestruct, NoLine, NoMessage, NoPiece, NoRefusal, NoRetry, NoStep, NoSubmission, NothingToPost, NothingToSend}
 use Rattle.bd_thread.specs.Walking.{NoVisit}
 
@@ -57,8 +59,8 @@ abbrev pub calls_with : Option ReqId → List ReqId → List ReqId
 calls_with (Some req) [] = req ∷ []
 calls_with found calls = calls
 
--- all that a thread waits for but what it would ask the registry
-pub record IsWaitingAlone (t : Thread) (links : Links) : Type 0 where
+-- all that a thread waits for but what it would ask the registry, of its open requests where this holds
+pub record IsWaitingAlone (Where : Thread → Type 0) (t : Thread) (links : Links) : Type 0 where
   pub message : NoMessage t links
   pub refusal : NoRefusal t links
   pub retry : NoRetry t links
@@ -69,13 +71,14 @@ pub record IsWaitingAlone (t : Thread) (links : Links) : Type 0 where
   pub device : NoDestruct t links
   pub outbox : NothingToSend t links
   pub due : NothingToPost t links
-  pub request : NoStep t links
+  pub request : Where t → NoStep t links
   -- and where nothing is noted to be asked, no open request waits for the registry
-  pub call : has_calls t ≡ false → NoneAsks t links
+  pub call : Where t → has_calls t ≡ false → NoneAsks t links
 
--- quiet work changed nothing but what is noted to be asked, and the thread waits for all this
+-- quiet work changed nothing but what is noted to be asked and which requests are to be looked at, and the thread waits for all this, where each open
+-- request was to be looked at, or rests
 abbrev pub QuietsAlone : Thread → Links → Thread → Links → Turned → Type 0
-QuietsAlone old before new after Quiet = IsStill IsWaitingAlone old before new after
+QuietsAlone old before new after Quiet = IsStill (IsWaitingAlone (LooksAt old.touched)) old before new after
 QuietsAlone old before new after (Moved n) = Unit {0}
 
 -- ---- when it wants the registry
@@ -103,7 +106,7 @@ wants_registry t links =
 
 -- where a thread waits but for what it would ask the registry, and doesn't want that, it waits altogether: for its next line nothing can be done either
 abbrev pub NothingElseWaits : Type 0
-NothingElseWaits = (t : Thread) (links : Links) → IsWaitingAlone t links → wants_registry t links ≡ false → NoLine t links × IsWaiting t links
+NothingElseWaits = (touched : Touches) (t : Thread) (links : Links) → IsWaitingAlone (LooksAt touched) t links → wants_registry t links ≡ false → NoLine t links × IsWaiting (LooksAt touched) t links
 
 -- ---- counts of messages
 

@@ -2,7 +2,7 @@
 ghost use Rattle.std.specs.Prelude.{◌≡◌, ◌<◌, vec_len, option_copied, IfOk, OnOk};
 ghost use Rattle.bd_thread.specs.Disks.{piece_on_disk, NoPieceOnDisk};
 ghost use Rattle.bd_thread.specs.Given.{ServesAs, ServesOver};
-ghost use Rattle.bd_thread.specs.Requests.{KeepsTickets};
+ghost use Rattle.bd_thread.specs.Looking.{KeepsOwn};
 ghost use Rattle.bd_thread.specs.Seen.{block_size, number_of};
 ghost use Rattle.bd_thread.specs.Waits.{Idles};
 ghost use Rattle.bd_thread.specs.Work.{AsksNothing};
@@ -45,7 +45,7 @@ impl<'a> Thread<'a> {
     ) -> Result<bool, OutOfMemory>
         requires { number_of self.old < vec_len links.old.queues }
         ensures over { OnOk result (ServesOver dev given.end given.read self.old links.old self.new links.new) }
-        ensures tickets { OnOk result (KeepsTickets self.old → KeepsTickets self.new) }
+        ensures tickets { OnOk result (KeepsOwn self.old → KeepsOwn self.new) }
         ensures quiet { OnOk result (Idles (NoPieceOnDisk dev) self.old links.old self.new links.new) }
         ensures serves { IfOk result (ServesAs dev given.end given.read self.old links.old self.new links.new) }
         ensures alone { OnOk result (AsksNothing links.old links.new) }
@@ -70,6 +70,7 @@ impl<'a> Thread<'a> {
         let Some(piece) = served else { unreachable!() };
         self.held.hold(Id::Piece(req, k), Kept::Piece(piece))?;
         self.outbox.push_back((req.thread, Token::Piece(req, k)))?;
+        self.touched.add(req);
         self.note(links, Act::Apply { req, k, dev, end })?;
         Ok(true)
     }

@@ -6,7 +6,8 @@ ghost use Rattle.bd_thread.specs.Acted.{Acted};
 ghost use Rattle.bd_thread.specs.Requests.{KeepsTickets};
 ghost use Rattle.bd_thread.specs.Calls.{next_found};
 ghost use Rattle.bd_thread.specs.Injections.{is_inject};
-ghost use Rattle.bd_thread.specs.Waits.{Idles, StandsBut, StandsOf};
+ghost use Rattle.bd_thread.specs.Looking.{KeepsLooking, LooksAgain, LooksAt, Settles};
+ghost use Rattle.bd_thread.specs.Waits.{Idles, StandsBut, StandsNamed, StandsOf};
 ghost use Rattle.bd_thread.specs.Work.{AsksNothing};
 
 use crate::links::Links;
@@ -14,6 +15,7 @@ use crate::thread::Thread;
 use bd_base::{OutOfMemory, ReqId};
 use bd_flight::{Step, next_step};
 use bd_machine::Id;
+use bd_touched::{Touched, rests};
 
 // Whether this step asks the registry, a decision of an error device, or the request is a reset that does.
 fn asks(step: Step, as_reset: bool) -> bool
@@ -84,19 +86,75 @@ impl<'a> Thread<'a> {
         }
     }
 
-    /// Carries the open requests on, in order of acceptance, up to the first that can take a step, and only where there
-    /// are still as many entries as there were: in a turn that did nothing else. A request is cut as it is accepted,
-    /// aborted as the mark comes, held or completed as its last piece comes back, and released in the turn whose moment
-    /// it is held until, so there is hardly ever one. The first of them that asks the registry for something next.
-    pub(crate) fn carry_all(
+    // Carries those on that are to be looked at, one after another, up to the first that can take a step.
+    fn carry_named(
         &mut self,
         links: &mut Links,
         entries: usize,
+        touched: &Touched,
     ) -> Result<Option<ReqId>, OutOfMemory>
         requires { self.old.me < vec_len links.old.queues }
         ensures acted { OnOk result (Acted self.old links.old self.new links.new) }
         ensures tickets { OnOk result (KeepsTickets self.old → KeepsTickets self.new) }
-        ensures quiet { IfOk result (λ found. entries ≡ length links.old.entries → Idles (StandsBut found) self.old links.old self.new links.new) }
+        ensures quiet { IfOk result (λ found. entries ≡ length links.old.entries → Idles (StandsNamed found touched.now.reqs) self.old links.old self.new links.new) }
+        ensures alone { OnOk result (AsksNothing links.old links.new) }
+    {
+        let mut found = None;
+        for place in 0..touched.len() {
+            if entries != links.entries.len() {
+                break;
+            }
+            let Some(req) = touched.get(place) else {
+                break;
+            };
+            let asks = self.carry(links, req)?;
+            found = next_found(asks, req, found);
+        }
+        Ok(found)
+    }
+
+    // It is to be looked at again, unless it rests.
+    fn look_again(&self, links: &Links, req: ReqId, touched: &mut Touched)
+        ensures { LooksAgain req self.now touched.old touched.new }
+    {
+        let requests = &self.part.requests;
+        if rests(&self.seen(links), self.setup, self.me, requests, req) {
+            return;
+        }
+        touched.add(req);
+    }
+
+    // Where no act was made, those that rest are no longer to be looked at, until an act reaches them.
+    fn settle(&self, links: &Links, entries: usize, touched: &mut Touched)
+        ensures { Settles entries self.now links.now touched.old touched.new }
+    {
+        if entries != links.entries.len() {
+            return;
+        }
+        for _round in 0..touched.len() {
+            let Some(req) = touched.take_first() else {
+                return;
+            };
+            self.look_again(links, req, touched);
+        }
+    }
+
+    /// Carries the open requests on that are to be looked at, up to the first that can take a step, and only where there
+    /// are still as many entries as there were: in a turn that did nothing else. A request is cut as it is accepted,
+    /// aborted as the mark comes, held or completed as its last piece comes back, and released in the turn whose moment
+    /// it is held until, so there is hardly ever one. Those of them that rest then aren't looked at again before an act
+    /// reaches them. The first of them that asks the registry for something next.
+    pub(crate) fn carry_all(
+        &mut self,
+        links: &mut Links,
+        entries: usize,
+        touched: &mut Touched,
+    ) -> Result<Option<ReqId>, OutOfMemory>
+        requires { self.old.me < vec_len links.old.queues }
+        ensures acted { OnOk result (Acted self.old links.old self.new links.new) }
+        ensures tickets { OnOk result (KeepsTickets self.old → KeepsTickets self.new) }
+        ensures scanned { OnOk result (KeepsLooking entries touched.old self.old links.old touched.new self.new links.new) }
+        ensures quiet { IfOk result (λ found. entries ≡ length links.old.entries → Idles (StandsBut (LooksAt touched.old) found) self.old links.old self.new links.new) }
         ensures alone { OnOk result (AsksNothing links.old links.new) }
     {
         if entries != links.entries.len() {
@@ -105,18 +163,9 @@ impl<'a> Thread<'a> {
         if self.is_bare() {
             return Ok(None);
         }
-        let mut found = None;
-        for place in 0..self.part.requests.len() {
-            if entries != links.entries.len() {
-                break;
-            }
-            let Some(request) = self.part.requests.get(place) else {
-                break;
-            };
-            let req = request.id;
-            let asks = self.carry(links, req)?;
-            found = next_found(asks, req, found);
-        }
+        touched.name_all(&self.part.requests)?;
+        let found = self.carry_named(links, entries, touched)?;
+        self.settle(links, entries, touched);
         Ok(found)
     }
 }

@@ -1,7 +1,7 @@
 //! A thread: what it holds.
 ghost use Rattle.std.specs.Prelude.{◌≡◌, IfOk, OnOk};
 ghost use Rattle.bd_links.specs.Entries.{longer};
-ghost use Rattle.bd_thread.specs.Requests.{KeepsTickets};
+ghost use Rattle.bd_thread.specs.Looking.{KeepsOwn};
 ghost use Rattle.bd_thread.specs.Seen.{untaken};
 ghost use Rattle.bd_thread.specs.Starts.{IsNew};
 
@@ -15,6 +15,7 @@ use bd_moment::Time;
 use bd_msg::Purse;
 use bd_retries::Retries;
 use bd_tokens::Tokens;
+use bd_touched::Touched;
 use std::alloc::Global;
 use std::collections::VecDeque;
 
@@ -39,6 +40,8 @@ pub struct Thread<'a> {
     // requests that needed a decision of the registry as they were accepted or came back, or that were found waiting for
     // one: what is to be asked next, also some for which there is nothing to ask any more
     pub(crate) calls: VecDeque<ReqId>,
+    // its open requests that it still has to look at for a step
+    pub(crate) touched: Touched,
 }
 
 impl<'a> Thread<'a> {
@@ -46,7 +49,7 @@ impl<'a> Thread<'a> {
     /// its disks nothing is told.
     pub fn new(alloc: Global, me: u32, setup: &'a Setup) -> Result<Thread<'a>, OutOfMemory>
         ensures new { IfOk result (IsNew me setup.now) }
-        ensures tickets { IfOk result (λ t. KeepsTickets t) }
+        ensures tickets { IfOk result (λ t. KeepsOwn t) }
     {
         let part = part_at_start(alloc, setup, me)?;
         Ok(Thread {
@@ -61,6 +64,7 @@ impl<'a> Thread<'a> {
             time: Time::new(),
             holds: Held::new(alloc),
             calls: VecDeque::new(alloc),
+            touched: Touched::new(alloc),
         })
     }
 
@@ -88,6 +92,7 @@ impl<'a> Thread<'a> {
             time: _,
             holds: _,
             calls: _,
+            touched: _,
         } = self;
         purse.abandon();
     }

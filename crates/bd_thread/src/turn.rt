@@ -1,9 +1,10 @@
 //! A thread's turn: messages, pieces that are sent again, the work of its stores, the script, and what is
 //! still to be put.
-ghost use Rattle.std.specs.Prelude.{◌≡◌, ◌<◌, ◌≤◌, Some, true, vec_len, IfOk, OnOk};
+ghost use Rattle.std.specs.Prelude.{◌≡◌, ◌<◌, ◌≤◌, Some, true, drop, length, vec_len, IfOk, OnOk};
 ghost use Rattle.bd_thread.specs.Acted.{Acted};
 ghost use Rattle.bd_thread.specs.Begins.{Begins, CutsOrSetsOut, Submits, SubmitsThrough};
 ghost use Rattle.bd_thread.specs.Seen.{number_of, setup_of};
+ghost use Rattle.bd_thread.specs.Looking.{IsLookedAfter, KeepsOwn, LooksBut};
 ghost use Rattle.bd_thread.specs.Requests.{IsAsked, IsFresh, KeepsTickets};
 ghost use Rattle.bd_machine.specs.declared.state.Id.TheVariants as ids;
 ghost use Rattle.bd_machine.specs.Kept.{as_piece};
@@ -23,6 +24,8 @@ use bd_rule_lines::has_room;
 use bd_rule_script::{bound_to, op_asked, undecided_job};
 use bd_rule_view::{Submission, as_piece};
 use bd_steps::{first_due, next_ticket};
+use bd_touched::Touched;
+use std::mem::replace;
 
 /// How many messages a turn takes, pieces of a store it serves, and lines it does, at most (SPDK's
 /// batch of messages).
@@ -416,6 +419,32 @@ impl<'a> Thread<'a> {
         }
     }
 
+    // What it has to look at, for a turn.
+    pub(crate) fn take_touched(&mut self) -> Touched
+        ensures result { result ≡ self.old.touched }
+        ensures rest { self.new ≡ record self.old { touched = self.new.touched } }
+    {
+        replace(&mut self.touched, Touched::new(self.alloc))
+    }
+
+    // After a turn it has to look at this, and at what the turn's acts reached: those from this number on.
+    pub(crate) fn look_at(
+        &mut self,
+        links: &Links,
+        before: usize,
+        touched: Touched,
+    ) -> Result<(), OutOfMemory>
+        requires { before ≤ length links.now.entries }
+        ensures rest { OnOk result (self.new ≡ record self.old { touched = self.new.touched }) }
+        ensures looks { OnOk result (LooksBut (drop before links.now.entries) touched self.old → IsLookedAfter self.new) }
+    {
+        let mut looks = touched;
+        let entries = &links.entries.as_slice()[before..];
+        looks.take_in(self.setup, self.me, &self.part.requests, entries)?;
+        self.touched = looks;
+        Ok(())
+    }
+
     /// A turn: at most 8 messages, at most 8 pieces of each base device that are sent again, the pending actions, at
     /// most 8 pieces of each base device whose home it is and that is no aio device, at most 64 steps for the line of
     /// each limited device whose home it is, the releases of held requests that are due, at most 8 lines of the script,
@@ -429,11 +458,12 @@ impl<'a> Thread<'a> {
         requires me { number_of self.old < vec_len links.old.queues }
         requires rows { links.old.registry.setup ≡ rows_of (setup_of self.old) }
         ensures acted { OnOk result (Acted self.old links.old self.new links.new) }
-        ensures tickets { OnOk result (KeepsTickets self.old → KeepsTickets self.new) }
+        ensures tickets { OnOk result (KeepsOwn self.old → KeepsOwn self.new) }
         ensures turned { IfOk result (AddsMore links.old links.new) }
         ensures quiet { IfOk result (Quiets self.old links.old self.new links.new) }
     {
         let before = links.entries.len();
+        let mut touched = self.take_touched();
         self.receive_all(links)?;
         self.retry_all(links)?;
         self.discharge_all(links)?;
@@ -446,10 +476,11 @@ impl<'a> Thread<'a> {
         self.end_all(links)?;
         self.put_outbox(links)?;
         self.put_all_due(links)?;
-        let found = self.carry_all(links, before)?;
+        let found = self.carry_all(links, before, &mut touched)?;
         self.call_found(links, before, found)?;
         self.refuse_all(links, before)?;
         let turned = tell(before, links.entries.len());
+        self.look_at(links, before, touched)?;
         self.forget_calls(turned);
         Ok(turned)
     }

@@ -2,6 +2,7 @@
 ghost use Rattle.std.specs.Prelude.{◌≡◌, ◌-◌, ◌<◌, length, vec_len, IfOk, OnOk};
 ghost use Rattle.std.specs.List.{list_any, range_with_len};
 ghost use Rattle.bd_thread.specs.Acted.{Acted};
+ghost use Rattle.bd_thread.specs.Looking.{KeepsOwn};
 ghost use Rattle.bd_thread.specs.Moves.{AddsMore};
 ghost use Rattle.bd_thread.specs.Requests.{KeepsTickets};
 ghost use Rattle.bd_thread.specs.Seen.{number_of};
@@ -59,12 +60,13 @@ impl<'a> Thread<'a> {
     pub fn work(&mut self, links: &mut Links) -> Result<Turned, OutOfMemory>
         requires { number_of self.old < vec_len links.old.queues }
         ensures acted { OnOk result (Acted self.old links.old self.new links.new) }
-        ensures tickets { OnOk result (KeepsTickets self.old → KeepsTickets self.new) }
+        ensures tickets { OnOk result (KeepsOwn self.old → KeepsOwn self.new) }
         ensures turned { IfOk result (AddsMore links.old links.new) }
         ensures quiet { IfOk result (QuietsAlone self.old links.old self.new links.new) }
         ensures alone { OnOk result (ActedAlone self.old links.old self.new links.new) }
     {
         let before = links.entries.len();
+        let mut touched = self.take_touched();
         self.receive_all(links)?;
         self.retry_all(links)?;
         self.serve_all(links)?;
@@ -75,9 +77,10 @@ impl<'a> Thread<'a> {
         self.destruct_all(links)?;
         self.put_outbox(links)?;
         self.put_all_due(links)?;
-        let found = self.carry_all(links, before)?;
+        let found = self.carry_all(links, before, &mut touched)?;
         self.refuse_all(links, before)?;
         let turned = tell(before, links.entries.len());
+        self.look_at(links, before, touched)?;
         self.note_found(turned, found)?;
         Ok(turned)
     }

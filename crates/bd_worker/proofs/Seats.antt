@@ -57,7 +57,7 @@ begun_worker setup t p c past contents now w a = record {
   number = a.number;
   given = a.given;
   within = a.within;
-  tickets = same_tickets w.thread (begun_at now w.thread) refl refl refl a.tickets;
+  tickets = record { tickets = same_tickets w.thread (begun_at now w.thread) refl refl refl a.tickets.tickets; looks = a.tickets.looks };
   queues = a.queues;
   rows = a.rows;
   empty = a.empty;

@@ -7,6 +7,7 @@ use Rattle.bd_thread.specs.declared.links.Links.{Links}
 use Rattle.bd_thread.specs.declared.thread.Thread.{Thread}
 use Rattle.bd_thread.specs.declared.turn.Turned.{Turned}
 use Rattle.bd_thread.specs.declared.turn.Turned.TheVariants.{Moved, Quiet}
+use Rattle.bd_thread.specs.Looking.{touched_of, LooksAt}
 use Rattle.bd_thread.specs.Waits.{IsWaiting, Quiets}
 use Rattle.bd_thread.specs.Work.{wants_registry, IsWaitingAlone, QuietsAlone}
 use Rattle.bd_worker.specs.declared.seat.Seat.{Seat}
@@ -22,9 +23,9 @@ emptied l = record l { entries = [] }
 emptied_is : (l : Links) → l.entries ≡ [] → emptied l ≡ l
 emptied_is l empty = ap (λ (es : List Entry). record l { entries = es }) (sym empty)
 
--- but for what is noted to be asked, a thread that is this one is that one
-noted_as : (old new t : Thread) → new ≡ t → t ≡ record old { calls = t.calls } → new ≡ record old { calls = new.calls }
-noted_as old new t same is = same ∙ is ∙ ap (λ (x : Thread). let y : Thread = record old { calls = x.calls } in y) (sym same)
+-- but for what is noted to be asked and which requests are to be looked at, a thread that is this one is that one
+noted_as : (old new t : Thread) → new ≡ t → t ≡ record old { calls = t.calls; touched = t.touched } → new ≡ record old { calls = new.calls; touched = new.touched }
+noted_as old new t same is = same ∙ is ∙ ap (λ (x : Thread). let y : Thread = record old { calls = x.calls; touched = x.touched } in y) (sym same)
 
 pub idles_alone : (old new : Worker) (t : Thread) (l : Links) (turned : Turned) → old.links.entries ≡ [] → QuietsAlone old.thread old.links t l turned → new.thread ≡ t → new.links ≡ emptied l → IdlesAlone old new turned
 idles_alone old new t l Quiet empty q thread links =
@@ -32,7 +33,7 @@ idles_alone old new t l Quiet empty q thread links =
     record {
       thread = noted_as old.thread new.thread t thread q.thread;
       links = links-are;
-      waits = subst (λ (x : Thread). IsWaitingAlone x new.links) (sym thread) (subst (λ (x : Links). IsWaitingAlone t x) (q.links ∙ sym links-are) q.waits);
+      waits = subst (λ (x : Thread). IsWaitingAlone (LooksAt (touched_of old.thread)) x new.links) (sym thread) (subst (λ (x : Links). IsWaitingAlone (LooksAt (touched_of old.thread)) t x) (q.links ∙ sym links-are) q.waits);
     }
 idles_alone old new t l (Moved n) empty q thread links = tt
 
@@ -44,7 +45,7 @@ idles_with lent old new r t l Quiet empty state q thread links =
       thread = noted_as old.thread new.thread t thread q.thread;
       links = links-are ∙ ap (λ (x : Registered). record old.links { registry = x }) (sym (ap (λ (x : Links). x.registry) links-are));
       registry = ap (λ (x : Links). x.registry.state) links-are ∙ state;
-      waits = subst (λ (x : Thread). IsWaiting x new.links) (sym thread) (subst (λ (x : Links). IsWaiting t x) (q.links ∙ sym links-are) q.waits);
+      waits = subst (λ (x : Thread). IsWaiting (LooksAt (touched_of old.thread)) x new.links) (sym thread) (subst (λ (x : Links). IsWaiting (LooksAt (touched_of old.thread)) t x) (q.links ∙ sym links-are) q.waits);
     }
 idles_with lent old new r t l (Moved n) empty state q thread links = tt
 

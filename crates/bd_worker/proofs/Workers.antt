@@ -35,7 +35,7 @@ use Rattle.bd_storage.specs.Served.{WentAloneWithDisks, WentWithDisks}
 use Rattle.bd_thread.specs.declared.links.Links.{Links}
 use Rattle.bd_thread.specs.declared.thread.Thread.{Thread}
 use Rattle.bd_thread.specs.Over.{WentOver}
-use Rattle.bd_thread.specs.Requests.{KeepsTickets}
+use Rattle.bd_thread.specs.Looking.{KeepsOwn}
 use Rattle.bd_thread.specs.Seen.{local, number_of, setup_of}
 use Rattle.bd_thread.specs.Timely.{AreTimely, HasBegun, IsOnTime}
 use Rattle.bd_thread.proofs.OnTime.{on_time_then}
@@ -218,7 +218,7 @@ pub acted_at : (setup : Setup) (t : ℕ) (p : Phase) (c : Course) (past : Past) 
     → IsAt setup t p c past before w
     → HasBegun w.thread
     → (acted : WentOver before after w.thread w.links thread links)
-    → KeepsTickets thread
+    → KeepsOwn thread
     → Appends w.log (restamped w.log.thread w.log.last (acts_of links.entries)) log
     → Acts setup t p c past after links (serves setup t before w acted.entries) (after_turn w thread links log)
 acted_at setup t p c past before after w thread links log a begun acted tickets appends =
@@ -316,7 +316,7 @@ all_own t last (act ∷ acts) = one (is_event e) (all_own t (last + 1) acts)
 pub goes_alone : {D : Type 0} (state : D → DiskState) (before after : List (DevId × D)) (w : Worker) (thread : Thread) (links : Links) (log : Written)
     → HasBegun w.thread
     → WentAloneWithDisks state before w.thread w.links after thread links
-    → (KeepsTickets w.thread → KeepsTickets thread)
+    → (KeepsOwn w.thread → KeepsOwn thread)
     → AppendsAlone w.log (restamped w.log.thread w.log.last (acts_of links.entries)) log
     → GoesAlone state before after w (after_turn w thread links log)
 goes_alone {D} state before after w thread links log begun acted keeps appends = (
@@ -370,7 +370,7 @@ module _ {D : Type 0} (state : D → DiskState) (before after : List (DevId × D
       (record { start = lends.start; begins = lends.begins; own = lends.own; count = lends.count })
       (sym (leaves setup lends.start)) setup-is state-is
 
-  pub goes_with : HasBegun w.thread → WentWithDisks state before w.thread caught_up.links after thread links → (KeepsTickets w.thread → KeepsTickets thread)
+  pub goes_with : HasBegun w.thread → WentWithDisks state before w.thread caught_up.links after thread links → (KeepsOwn w.thread → KeepsOwn thread)
       → TakesOver caught_up.log lent (restamped caught_up.log.thread caught_up.log.last (acts_of links.entries)) log lent'
       → GoesWith state before after seen w lent (after_turn caught_up thread links log) lent'
   goes_with begun acted keeps takes = (

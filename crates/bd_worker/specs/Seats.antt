@@ -19,7 +19,7 @@ use Rattle.bd_law_served.specs.Served.{ServedPiece}
 use Rattle.bd_law_threads.specs.Course.{all_rows, Course, IsCourse, Phase}
 use Rattle.bd_disks.specs.Contents.{contents_of}
 use Rattle.bd_disks.specs.Done.{AreDoneBy}
-use Rattle.bd_thread.specs.Requests.{KeepsTickets}
+use Rattle.bd_thread.specs.Looking.{KeepsOwn}
 use Rattle.bd_thread.specs.declared.turn.Turned.{Turned}
 use Rattle.bd_thread.specs.declared.turn.Turned.TheVariants.{Moved, Quiet}
 use Rattle.bd_thread.specs.Seen.{local, number_of, setup_of, time_of}
@@ -58,7 +58,7 @@ pub record IsAt (setup : Setup) (t : ℕ) (p : Phase) (c : Course) (past : Past)
   pub number : number_of w.thread ≡ t
   pub given : setup_of w.thread ≡ setup
   pub within : t < setup.threads
-  pub tickets : KeepsTickets w.thread
+  pub tickets : KeepsOwn w.thread
   pub queues : vec_len w.links.queues ≡ setup.threads
   pub rows : w.links.registry.setup ≡ rows_of setup
   -- what a turn did is in the log alone

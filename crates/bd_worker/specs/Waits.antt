@@ -7,6 +7,7 @@ use Rattle.bd_seat.specs.Outgoing.{FlushedAll}
 use Rattle.bd_thread.specs.declared.turn.Turned.{Turned}
 use Rattle.bd_thread.specs.declared.turn.Turned.TheVariants.{Moved, Quiet}
 use Rattle.bd_thread.specs.Asleep.{begun_at}
+use Rattle.bd_thread.specs.Looking.{touched_of, LooksAt}
 use Rattle.bd_thread.specs.Waits.{IsStill, IsWaiting}
 use Rattle.bd_thread.specs.Work.{wants_registry, IsWaitingAlone}
 use Rattle.bd_worker.specs.declared.seat.Seat.{Seat}
@@ -14,16 +15,17 @@ use Rattle.bd_worker.specs.declared.worker.Worker.{Worker}
 
 -- ---- a worker
 
--- its thread, but for what is noted to be asked, and its links are as before, and it waits for all but what it would ask the registry
+-- its thread, but for what is noted to be asked and which requests are to be looked at, and its links are as before, and it waits for all but what it would
+-- ask the registry, where each open request was to be looked at, or rests
 abbrev pub IsIdleAlone : Worker → Worker → Type 0
-IsIdleAlone old new = IsStill IsWaitingAlone old.thread old.links new.thread new.links
+IsIdleAlone old new = IsStill (IsWaitingAlone (LooksAt (touched_of old.thread))) old.thread old.links new.thread new.links
 
 -- the same, but that its registry is what the one is that it was lent, and with that it waits altogether
 pub record IsIdleWith (lent : Registered) (old new : Worker) : Type 0 where
-  pub thread : new.thread ≡ record old.thread { calls = new.thread.calls }
+  pub thread : new.thread ≡ record old.thread { calls = new.thread.calls; touched = new.thread.touched }
   pub links : new.links ≡ record old.links { registry = new.links.registry }
   pub registry : new.links.registry.state ≡ lent.state
-  pub waits : IsWaiting new.thread new.links
+  pub waits : IsWaiting (LooksAt (touched_of old.thread)) new.thread new.links
 
 -- quiet is answered where it is so
 abbrev pub IdlesAlone : Worker → Worker → Turned → Type 0

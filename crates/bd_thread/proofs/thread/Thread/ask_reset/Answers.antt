@@ -1,5 +1,4 @@
-use Rattle.std.proofs.Common.{sym, ◌∙◌, subst}
-use Rattle.bd_thread.specs.Lines.{AsksBy}
+use Rattle.std.proofs.Common.{sym, ◌∙◌}
 use Rattle.bd_thread.proofs.Calling.{reset_may}
 use Rattle.bd_thread.proofs.thread.Thread.ask_reset.Goals as goal
 

@@ -13,10 +13,10 @@ use Rattle.bd_thread.specs.declared.links.Links.{Links}
 use Rattle.bd_thread.specs.declared.thread.Thread.{Thread}
 use Rattle.bd_thread.specs.Disks.{disk_due}
 use Rattle.bd_thread.specs.Given.{IsServedAs, ServesAs, ServesOver}
-use Rattle.bd_thread.specs.Requests.{KeepsTickets}
+use Rattle.bd_thread.specs.Looking.{KeepsOwn}
 use Rattle.bd_thread.specs.Seen.{untaken}
 use Rattle.bd_thread.proofs.Going.{carried}
-use Rattle.bd_thread.proofs.OnDisk.{held_by, served_as_tickets, serves_one_as, serves_over}
+use Rattle.bd_thread.proofs.OnDisk.{held_by, served_as_looks, served_as_tickets, serves_one_as, serves_over}
 use Rattle.bd_thread.proofs.thread.Thread.serve_as_given.Goals as goal
 
 pub returns-clause-over : goal.returns-clause-over
@@ -29,7 +29,7 @@ returns-clause-over c =
     let n = c.in-Some.next in
     let next = c.in-Some.ensures.next in
     let bases = change_first (is_base dev) (applied end n.piece.now) t.part.bases in
-    let new : Thread = record t { part = untaken (record t.part { bases = bases }); held = c.hold.new.self; outbox = c.push_back.new.self } in
+    let new : Thread = record t { part = untaken (record t.part { bases = bases }); held = c.hold.new.self; outbox = c.push_back.new.self; touched = c.add.new.self } in
     let after : Links = record links { entries = longer t.me links.entries (acts.Apply n.req n.k dev end) } in
     let thread = c.in_ok-note.ensures.thread ∙ ap (λ (bs : List Base). let m : Thread = record new { part = untaken (record t.part { bases = bs }) } in m) c.in_ok-served.ensures.bases in
     let bases-are : t.part.bases ≡ c.as_slice-bases.result.now = sym c.as_slice-bases.ensures in
@@ -58,7 +58,7 @@ returns-clause-tickets c =
     let n = c.in-Some.next in
     let next = c.in-Some.ensures.next in
     let bases = change_first (is_base dev) (applied end n.piece.now) t.part.bases in
-    let new : Thread = record t { part = untaken (record t.part { bases = bases }); held = c.hold.new.self; outbox = c.push_back.new.self } in
+    let new : Thread = record t { part = untaken (record t.part { bases = bases }); held = c.hold.new.self; outbox = c.push_back.new.self; touched = c.add.new.self } in
     let after : Links = record links { entries = longer t.me links.entries (acts.Apply n.req n.k dev end) } in
     let thread = c.in_ok-note.ensures.thread ∙ ap (λ (bs : List Base). let m : Thread = record new { part = untaken (record t.part { bases = bs }) } in m) c.in_ok-served.ensures.bases in
     let is : IsServedAs n.req n.k dev end read t links new after = record {
@@ -69,7 +69,8 @@ returns-clause-tickets c =
       outbox = c.in_ok-push_back.ensures.items;
       links = refl;
     } in
-    carried (λ m l. KeepsTickets t → KeepsTickets m) new after _ _ thread c.in_ok-note.ensures.links (served_as_tickets t links new after n.req n.k dev end read is)
+    carried (λ m l. KeepsOwn t → KeepsOwn m) new after _ _ thread c.in_ok-note.ensures.links
+    (λ keeps. record { tickets = served_as_tickets t links new after n.req n.k dev end read is keeps.tickets; looks = served_as_looks t links new after n.req n.k dev end read is c.add.ensures.covers c.add.ensures.named keeps.looks })
 
 pub returns-clause-serves : goal.returns-clause-serves
 returns-clause-serves c =
@@ -81,7 +82,7 @@ returns-clause-serves c =
     let n = c.in-Some.next in
     let next = c.in-Some.ensures.next in
     let bases = change_first (is_base dev) (applied end n.piece.now) t.part.bases in
-    let new : Thread = record t { part = untaken (record t.part { bases = bases }); held = c.hold.new.self; outbox = c.push_back.new.self } in
+    let new : Thread = record t { part = untaken (record t.part { bases = bases }); held = c.hold.new.self; outbox = c.push_back.new.self; touched = c.add.new.self } in
     let after : Links = record links { entries = longer t.me links.entries (acts.Apply n.req n.k dev end) } in
     let thread = c.in_ok-note.ensures.thread ∙ ap (λ (bs : List Base). let m : Thread = record new { part = untaken (record t.part { bases = bs }) } in m) c.in_ok-served.ensures.bases in
     let bases-are : t.part.bases ≡ c.as_slice-bases.result.now = sym c.as_slice-bases.ensures in

@@ -1,7 +1,6 @@
-use Rattle.std.proofs.Common.{◌≡◌, ℕ, Bool, true, nat_lt, length, Some, sym, ◌∙◌, ap, subst}
+use Rattle.std.proofs.Common.{◌≡◌, ℕ, true, nat_lt, length, Some, sym, ◌∙◌, ap, subst}
 use Rattle.std.specs.Option.{option_copied}
 use Rattle.bd_base.specs.declared.id.HandleId.{HandleId}
-use Rattle.bd_base.specs.declared.request.Op.{Op}
 use Rattle.bd_machine.specs.Asked.{most_requests, op_asked}
 use Rattle.std.specs.Prelude.{Option}
 use Rattle.bd_thread.specs.declared.thread.Thread.{Thread}

@@ -12,7 +12,6 @@ use Rattle.bd_links.specs.Entries.{longer}
 use Rattle.bd_links.specs.Queues.{queues_of}
 use Rattle.bd_rule_effects.specs.Begun.{begun, token_moved}
 use Rattle.bd_tokens.specs.Tokens.{here_in, left_of}
-use Rattle.bd_turns.specs.Tied.{id_next}
 use Rattle.bd_thread.specs.declared.links.Links.{Links}
 use Rattle.bd_thread.specs.declared.thread.Thread.{Thread}
 use Rattle.bd_thread.specs.Acted.{Acted}

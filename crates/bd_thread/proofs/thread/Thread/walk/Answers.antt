@@ -1,4 +1,4 @@
-use Rattle.std.proofs.Common.{false, subst}
+use Rattle.std.proofs.Common.{subst}
 use Rattle.bd_thread.specs.Walking.{Visits}
 use Rattle.bd_thread.proofs.Alone.{visits_alone}
 use Rattle.bd_thread.proofs.Waiting.{acted_noted, tickets_noted}

@@ -1,14 +1,23 @@
-use Rattle.std.proofs.Common.{length, ◌∙◌, ap}
+use Rattle.std.proofs.Common.{◌≡◌, ◌≤◌, length, ◌∙◌, ap, arith}
+use Rattle.bd_thread.specs.declared.thread.Thread.{Thread}
 use Rattle.bd_thread.specs.Moves.{turned_of}
+use Rattle.bd_thread.specs.Requests.{KeepsTickets}
+use Rattle.bd_thread.specs.Work.{calls_with}
 use Rattle.bd_thread.proofs.Alone.{acted_alone, alone_then}
-use Rattle.bd_thread.proofs.Going.{acted_then}
+use Rattle.bd_thread.proofs.Going.{acted_none, acted_then}
+use Rattle.bd_thread.proofs.Idle.{grown}
 use Rattle.bd_thread.proofs.Limiting.{then_served}
-use Rattle.bd_thread.proofs.Waiting.{acted_noted, tickets_noted}
+use Rattle.bd_thread.proofs.Looked.{look_acted, look_began, look_noted}
+use Rattle.bd_thread.proofs.Waiting.{acted_looked, acted_noted, noted_both, tickets_looked, tickets_noted}
 use Rattle.bd_thread.proofs.Working.{quiet_alone_by, work_idle}
 use Rattle.bd_thread.proofs.thread.Thread.work.Goals as goal
 
 pub returns : goal.returns
 returns c =
+    let o = c.args.self.now in
+    let a = c.args.links.now in
+    let b = c.take_touched-touched.new.self in
+    let began = acted_looked _ _ _ _ b c.take_touched-touched.ensures.rest (acted_none o a) in
     let retried = acted_then _ _ _ _ _ _ c.in_ok-receive_all.ensures.acted c.in_ok-retry_all.ensures.acted in
     let served = acted_then _ _ _ _ _ _ retried c.in_ok-serve_all.ensures.acted in
     let limited = acted_then _ _ _ _ _ _ served c.in_ok-limit_all.ensures.acted in
@@ -19,7 +28,8 @@ returns c =
     let sent = acted_then _ _ _ _ _ _ destructed c.in_ok-put_outbox.ensures.acted in
     let posted = acted_then _ _ _ _ _ _ sent c.in_ok-put_all_due.ensures.acted in
     let carried = acted_then _ _ _ _ _ _ posted c.in_ok-found.ensures.acted in
-    let acted = acted_noted _ _ c.refuse_all.new.self _ c.note_found.new.self c.in_ok-note_found.ensures.thread (acted_then _ _ _ _ _ _ carried c.in_ok-refuse_all.ensures.acted) in
+    let done = acted_then _ _ _ _ _ _ began (acted_then _ _ _ _ _ _ carried c.in_ok-refuse_all.ensures.acted) in
+    let acted = acted_noted _ _ c.look_at.new.self _ c.note_found.new.self c.in_ok-note_found.ensures.thread (acted_looked _ _ c.refuse_all.new.self _ c.look_at.new.self c.in_ok-look_at.ensures.rest done) in
     let alone-retried = alone_then _ _ _ c.in_ok-receive_all.ensures.alone c.in_ok-retry_all.ensures.alone in
     let alone-served = alone_then _ _ _ alone-retried c.in_ok-serve_all.ensures.alone in
     let alone-limited = alone_then _ _ _ alone-served c.in_ok-limit_all.ensures.alone in
@@ -40,14 +50,34 @@ returns c =
     record {
       acted = acted;
       tickets = λ keeps.
-          let received = c.in_ok-retry_all.ensures.tickets (c.in_ok-receive_all.ensures.tickets keeps) in
-          let done = c.in_ok-destruct_all.ensures.tickets (c.in_ok-submit_all.ensures.tickets (c.in_ok-walk_all.ensures.tickets (c.in_ok-release_all.ensures.tickets (c.in_ok-limit_all.ensures.tickets (c.in_ok-serve_all.ensures.tickets received))))) in
-          let put = c.in_ok-put_all_due.ensures.tickets (c.in_ok-put_outbox.ensures.tickets done) in
-          tickets_noted c.refuse_all.new.self c.note_found.new.self c.in_ok-note_found.ensures.thread (c.in_ok-refuse_all.ensures.tickets (c.in_ok-found.ensures.tickets put));
+          let before = c.len-before.result in
+          let p = c.put_all_due.new.self in
+          let l = c.put_all_due.new.links in
+          let m = c.carry_all.new.self in
+          let d = c.carry_all.new.links in
+          let n = c.refuse_all.new.self in
+          let e = c.refuse_all.new.links in
+          let first : KeepsTickets b = tickets_looked o b c.take_touched-touched.ensures.rest keeps.tickets in
+          let received = c.in_ok-retry_all.ensures.tickets (c.in_ok-receive_all.ensures.tickets first) in
+          let went = c.in_ok-destruct_all.ensures.tickets (c.in_ok-submit_all.ensures.tickets (c.in_ok-walk_all.ensures.tickets (c.in_ok-release_all.ensures.tickets (c.in_ok-limit_all.ensures.tickets (c.in_ok-serve_all.ensures.tickets received))))) in
+          let put : KeepsTickets p = c.in_ok-put_all_due.ensures.tickets (c.in_ok-put_outbox.ensures.tickets went) in
+          let last : KeepsTickets n = c.in_ok-refuse_all.ensures.tickets (c.in_ok-found.ensures.tickets put) in
+          let grows : length a.entries ≤ length l.entries = grown b a p l posted in
+          let carries : length l.entries ≤ length d.entries = grown p l m d c.in_ok-found.ensures.acted in
+          let at : before ≡ length a.entries = c.len-before.ensures in
+          let looked = look_acted before c.take_touched-touched.result b a p l posted (omega (arith, at))
+          (look_began before o b c.take_touched-touched.result a c.take_touched-touched.ensures.rest c.take_touched-touched.ensures.result at keeps.looks) in
+          let scanned = c.in_ok-found.ensures.scanned (omega (arith, at, grows)) put looked in
+          let all = look_acted before c.carry_all.new.touched m d n e c.in_ok-refuse_all.ensures.acted (omega (arith, at, grows, carries)) scanned in
+          record {
+            tickets = tickets_noted c.look_at.new.self c.note_found.new.self c.in_ok-note_found.ensures.thread (tickets_looked n c.look_at.new.self c.in_ok-look_at.ensures.rest last);
+            looks = look_noted c.look_at.new.self c.note_found.new.self c.in_ok-note_found.ensures.thread (c.in_ok-look_at.ensures.looks all);
+          };
       turned = answer;
-      quiet = quiet_alone_by c.in_ok-found.found c.args.self.now before c.refuse_all.new.self c.refuse_all.new.links c.note_found.new.self c.tell-turned.result answer
-          c.in_ok-note_found.ensures.thread
-          c.in_ok-note_found.ensures.noted
+      quiet = quiet_alone_by c.in_ok-found.found o b c.take_touched-touched.result before c.refuse_all.new.self c.refuse_all.new.links c.note_found.new.self c.tell-turned.result answer
+          c.take_touched-touched.ensures.result c.take_touched-touched.ensures.rest
+          (noted_both c.refuse_all.new.self c.look_at.new.self c.note_found.new.self c.in_ok-look_at.ensures.rest c.in_ok-note_found.ensures.thread)
+          (λ quiet. c.in_ok-note_found.ensures.noted quiet ∙ ap (λ (t : Thread). calls_with c.in_ok-found.found t.calls.items) c.in_ok-look_at.ensures.rest)
           (work_idle c.in_ok-found.found _ _ _ _ _ _ _ _ _ _ _ _ _ _ _ _ _ _ _ _
           c.in_ok-receive_all.ensures.acted c.in_ok-retry_all.ensures.acted piece-acted c.in_ok-submit_all.ensures.acted c.in_ok-destruct_all.ensures.acted
           c.in_ok-put_outbox.ensures.acted c.in_ok-put_all_due.ensures.acted c.in_ok-found.ensures.acted c.in_ok-refuse_all.ensures.acted

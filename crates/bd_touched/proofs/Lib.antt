@@ -1,0 +1,6 @@
+pub mod Apart
+pub mod Marking
+pub mod Waiting
+pub mod Rested
+pub mod Looking
+pub mod Adding

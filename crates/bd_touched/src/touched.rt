@@ -1,0 +1,196 @@
+//! The open requests that a thread still has to look at.
+ghost use Rattle.std.specs.Prelude.{◌≡◌, ℕ, ◌∷◌, ◌++◌, [], false, true, cond, length, slice_get, IfSome, OnOk};
+ghost use Rattle.std.specs.List.{AllByRecursion};
+ghost use Rattle.bd_base.specs.declared.id.ReqId.{ReqId};
+ghost use Rattle.bd_machine.specs.declared.state.Open.{Open};
+ghost use Rattle.bd_touched.specs.Reach.{is_touched, reach_of, reaches, Covers, TakesIn};
+
+use crate::reach::{Reach, any_over, reach_of};
+use bd_base::{Act, DevId, Entry, OutOfMemory, ReqId, Setup};
+use bd_blocks::below;
+use bd_machine::{Open, OpenList};
+use bd_rule_view::same_request;
+use std::alloc::Global;
+use std::collections::VecDeque;
+use std::marker::Model;
+
+/// How many requests are kept at most, before all are to be looked at.
+const MOST: usize = 1024;
+
+/// The open requests that a thread still has to look at: all of them, or those that acts reached since it did.
+#[derive(Drop)]
+pub struct Touched {
+    all: bool,
+    reqs: VecDeque<ReqId>,
+}
+
+impl Model for Touched {
+    ghost use Rattle.bd_touched.specs.Reach.{Touches};
+
+    ghost Value = { Touches };
+
+    ghost view = { λ t. record { all = t.all; reqs = t.reqs.items } };
+}
+
+impl Touched {
+    /// None. It takes no memory.
+    pub fn new(alloc: Global) -> Touched
+        ensures all { result.all ≡ false }
+        ensures reqs { result.reqs ≡ [] }
+    {
+        Touched {
+            all: false,
+            reqs: VecDeque::new(alloc),
+        }
+    }
+
+    /// How many are named.
+    pub fn len(&self) -> usize
+        ensures { result ≡ length self.now.reqs }
+    {
+        self.reqs.len()
+    }
+
+    /// The one at this place, from 0, of those that are named.
+    pub fn get(&self, place: usize) -> Option<ReqId>
+        ensures { result ≡ slice_get self.now.reqs place }
+    {
+        self.reqs.get(place).copied()
+    }
+
+    // All of them.
+    fn set_all(&mut self)
+        ensures { self.new.all ≡ true }
+    {
+        self.all = true;
+        self.reqs.clear();
+    }
+
+    // Whether the request was named last, or all are to be looked at.
+    fn is_last(&self, req: ReqId) -> bool
+        ensures { result ≡ true → is_touched self.now req ≡ true }
+    {
+        if self.all {
+            return true;
+        }
+        match self.reqs.back() {
+            Some(last) => same_request(*last, req),
+            None => false,
+        }
+    }
+
+    /// One more. Where there is no room for it, all of them.
+    pub fn add(&mut self, req: ReqId)
+        ensures covers { Covers self.old self.new }
+        ensures named { is_touched self.new req ≡ true }
+    {
+        if self.is_last(req) {
+            return;
+        }
+        if self.reqs.len() >= MOST || self.reqs.push_back(req).is_err() {
+            self.set_all();
+        }
+    }
+
+    // Those that have the device below, among these open ones: all, where there is one.
+    fn add_over(&mut self, setup: &Setup, requests: &OpenList, dev: DevId)
+        ensures covers { Covers self.old self.new }
+        ensures over { AllByRecursion (λ (o : Open). reaches setup.now (Reach.Over dev) o ≡ true → is_touched self.new o.id ≡ true) requests.now }
+    {
+        if any_over(setup, requests, dev) {
+            self.set_all();
+        }
+    }
+
+    // Those that have a device below which this one has below, among these open ones: all, where there is one.
+    fn add_along(&mut self, setup: &Setup, requests: &OpenList, dev: DevId)
+        ensures covers { Covers self.old self.new }
+        ensures along { AllByRecursion (λ (o : Open). reaches setup.now (Reach.Along dev) o ≡ true → is_touched self.new o.id ≡ true) requests.now }
+    {
+        for lower in below(setup, dev) {
+            self.add_over(setup, requests, lower);
+        }
+    }
+
+    // What an act reaches, of these open requests, as far as they are this thread's own.
+    fn take_in_act(&mut self, setup: &Setup, me: u32, requests: &OpenList, act: &Act)
+        ensures covers { Covers self.old self.new }
+        ensures reached { AllByRecursion (λ (o : Open). o.id.thread ≡ me → reaches setup.now (reach_of act.now) o ≡ true → is_touched self.new o.id ≡ true) requests.now }
+    {
+        match reach_of(act) {
+            Reach::Nobody => {}
+            Reach::Named(req) => {
+                if req.thread == me {
+                    self.add(req);
+                }
+            }
+            Reach::Over(dev) => self.add_over(setup, requests, dev),
+            Reach::Along(dev) => self.add_along(setup, requests, dev),
+        }
+    }
+
+    // There is room for so many.
+    fn make_room(&mut self, count: usize) -> Result<(), OutOfMemory>
+        ensures { OnOk result (self.new ≡ self.old) }
+    {
+        self.reqs.reserve(count)?;
+        Ok(())
+    }
+
+    /// What these entries reach, of these open requests, is to be looked at too, as far as they are this thread's own.
+    /// There is room for all of them then: it takes memory for that.
+    pub fn take_in(
+        &mut self,
+        setup: &Setup,
+        me: u32,
+        requests: &OpenList,
+        entries: &[Entry],
+    ) -> Result<(), OutOfMemory>
+        ensures { OnOk result (TakesIn setup.now me requests.now entries.now self.old self.new) }
+    {
+        if entries.is_empty() {
+            return Ok(());
+        }
+        self.make_room(requests.len())?;
+        for entry in entries {
+            self.take_in_act(setup, me, requests, &entry.act);
+        }
+        Ok(())
+    }
+
+    // One more by its name.
+    fn name_one(&mut self, request: &Open) -> Result<(), OutOfMemory>
+        ensures { OnOk result (self.new ≡ record self.old { reqs = self.old.reqs ++ request.now.id ∷ [] }) }
+    {
+        self.reqs.push_back(request.id)?;
+        Ok(())
+    }
+
+    /// Each of these open requests by its name, where all of them are to be looked at.
+    pub fn name_all(&mut self, requests: &OpenList) -> Result<(), OutOfMemory>
+        ensures named { OnOk result (self.new.all ≡ false) }
+        ensures same { OnOk result (AllByRecursion (λ (o : Open). is_touched self.old o.id ≡ true → is_touched self.new o.id ≡ true) requests.now) }
+    {
+        if !self.all {
+            return Ok(());
+        }
+        self.reqs.clear();
+        for place in 0..requests.len() {
+            let Some(open) = requests.get(place) else {
+                break;
+            };
+            self.name_one(open)?;
+        }
+        self.all = false;
+        Ok(())
+    }
+
+    /// The first of those that are named is no longer to be looked at for that.
+    pub fn take_first(&mut self) -> Option<ReqId>
+        ensures all { self.new.all ≡ self.old.all }
+        ensures first { IfSome result (λ req. self.old.reqs ≡ req ∷ self.new.reqs) }
+        ensures none { result ≡ None → self.new.reqs ≡ self.old.reqs }
+    {
+        self.reqs.pop_front()
+    }
+}
