@@ -1,5 +1,5 @@
 -- The seats of a reactor from turn to turn: each sits, unless it has to halt.
-use Rattle.std.proofs.Common.{◌≡◌, ℕ, ◌<◌, List, length, set, Option, Some, ◌⊎◌, inl, inr, refl, sym, ◌∙◌, subst}
+use Rattle.std.proofs.Common.{◌≡◌, ℕ, ◌<◌, ◌≤◌, List, length, set, Option, Some, None, ◌⊎◌, inl, inr, refl, sym, ◌∙◌, ap, subst, arith}
 use Rattle.std.specs.List.{All, slice_get}
 use Rattle.std.specs.Prelude.{slice_index_or}
 use Rattle.std.proofs.lemmas.Bool.{cases_eq}
@@ -8,20 +8,46 @@ use Rattle.bd_outside.specs.Clock.{Moments}
 use Rattle.bd_outside.specs.Disk.{DiskState}
 use Rattle.bd_wires.specs.declared.wires.Wires.{Wires}
 use Rattle.bd_worker.specs.declared.seat.Seat.{Seat}
-use Rattle.bd_worker.specs.Seats.{AllWentOn, SitsOrHalts, WentOn}
+use Rattle.bd_seat.specs.declared.seat_error.SeatError.{SeatError}
+use Rattle.bd_worker.specs.Seats.{made_by, AllWentOn, HasCause, SitsOrHalts, WentOn}
 use Rattle.bd_worker.proofs.Places.{set_else, set_here}
 use Rattle.bd_worker.proofs.Seats.{continues_still, continues_then, sitting_then}
 
+some_none : (e : SeatError) → Some e ≡ None → ⊥
+some_none e h = cc
+
 module _ {D : Type 0} (state : D → DiskState) (w : Wires) (range : Option Moments) where
   went_still : (s : Seat D) → WentOn state w range s s
-  went_still s = record { kept = refl; on = λ goes. continues_still state w s; times = λ goes h. h }
+  went_still s = record {
+    kept = refl;
+    on = λ goes. continues_still state w s;
+    times = λ goes h. h;
+    grows = λ goes. omega arith;
+    cause = λ error goes halted. absurd (some_none error (sym halted ∙ goes));
+    stays = λ error halted. refl;
+  }
 
   went_then : (a b c : Seat D) → WentOn state w range a b → WentOn state w range b c → WentOn state w range a c
   went_then a b c first second = record {
     kept = second.kept ∙ first.kept;
     on = λ goes. continues_then w a b c (first.on (sym (second.on goes).halted ∙ goes)) (second.on goes);
     times = λ goes h. second.times goes (first.times (sym (second.on goes).halted ∙ goes) h);
+    grows = λ goes.
+        let before : made_by a ≤ made_by b = first.grows (sym (second.on goes).halted ∙ goes) in
+        let after : made_by b ≤ made_by c = second.grows goes in
+        omega arith;
+    cause = λ error goes halted. cause_then error goes halted b.halted refl;
+    stays = λ error halted.
+        let same : b ≡ a = first.stays error halted in
+        second.stays error (ap (λ (s : Seat D). s.halted) same ∙ halted) ∙ same;
   }
+    where
+      -- it has to halt for the cause of the turn after which it first has to
+      cause_then : (error : SeatError) → a.halted ≡ None → c.halted ≡ Some error → (o : Option SeatError) → b.halted ≡ o → HasCause error c.worker
+      cause_then error goes halted None still = second.cause error still halted
+      cause_then error goes halted (Some e) refused =
+          let same : c ≡ b = second.stays e refused in
+          subst (λ (s : Seat D). HasCause error s.worker) (sym same) (first.cause error goes (ap (λ (s : Seat D). s.halted) (sym same) ∙ halted))
 
   still_sits : (a b : Seat D) → SitsOrHalts state w a → WentOn state w range a b → SitsOrHalts state w b
   still_sits a b sits went goes = sitting_then w a b (sits (sym (went.on goes).halted ∙ goes)) (went.on goes)

@@ -23,7 +23,7 @@ use Rattle.bd_report.specs.Counter.{HasCounted}
 use Rattle.bd_report.specs.declared.counter.Counter.{Counter}
 use Rattle.bd_node.specs.Shutting.{IsUnchanged}
 use Rattle.bd_node.specs.Disks.{disks_at, told_of}
-use Rattle.bd_node.specs.Gathering.{Gathers}
+use Rattle.bd_node.specs.Gathering.{greatest_last, Gathers}
 use Rattle.bd_worker.specs.Seats.{part_in, IsHandedOut, seen_over, made_by, IsAt, IsSeat}
 use Rattle.bd_node.specs.declared.node.Node.{Node}
 use Rattle.bd_node.specs.declared.node.NodeState.{NodeState}
@@ -372,6 +372,7 @@ gathers_then {D} a b c same g = record {
   is_merge = subst (λ (ss : List (Seat D)). IsMerge (map part_in ss) g.merged) same.seats g.is_merge;
   trace = g.trace ∙ ap (λ (es : List Entry). es ++ g.merged) same.trace;
   stamp = g.stamp;
+  greatest = g.greatest ∙ ap (λ (ss : List (Seat D)). greatest_last ss) same.seats;
   below = subst (λ (ss : List (Seat D)). All (λ s. s.worker.log.last ≤ g.stamp) ss) same.seats g.below;
   len = g.len ∙ ap (λ (ss : List (Seat D)). length ss) same.seats;
   each = λ i x y h k. g.each i x y (ap (λ (ss : List (Seat D)). slice_get ss i) same.seats ∙ h) k;

@@ -15,3 +15,5 @@ pub mod Marks
 pub mod Advancing
 pub mod Gathered
 pub mod Times
+pub mod Greatest
+pub mod Growing

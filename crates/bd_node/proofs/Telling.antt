@@ -13,7 +13,7 @@ use Rattle.bd_thread.specs.declared.turn.Turned.{Turned}
 use Rattle.bd_thread.specs.declared.turn.Turned.TheVariants.{Moved, Quiet}
 use Rattle.bd_wires.specs.declared.wires.Passes.{Passes}
 use Rattle.bd_worker.specs.declared.seat.Seat.{Seat}
-use Rattle.bd_worker.specs.Seats.{has_moved, made_by, HasMoved, Tells}
+use Rattle.bd_worker.specs.Seats.{made_by, HasMoved, Tells}
 use Rattle.bd_node.specs.Starting.{AreNewSeats}
 use Rattle.bd_node.specs.Whole.{log_with}
 use Rattle.bd_worker.proofs.Places.{has_at, is_below}
@@ -75,11 +75,6 @@ both_ok (Err e) P Q R f p q = tt
 pub ok_of : {A E P : Type 0} (r : Result A E) → P → OnOk r P
 ok_of (Ok x) p = p
 ok_of (Err e) p = tt
-
--- whether entries were added, as an answer tells it
-pub moved_as_told : (before after : ℕ) (turned : Turned) → Tells before after turned → HasMoved before after (has_moved turned)
-moved_as_told before after Quiet e = e
-moved_as_told before after (Moved n) e = let more : 0 < n = e.0 in let is : after ≡ before + n = e.1 in omega arith
 
 pub moved_more : (a b c : ℕ) (m t : Bool) → HasMoved a b m → HasMoved b c t → HasMoved a c (m || t)
 moved_more a b c true true p q = let x : a < b = p in let y : b < c = q in omega arith

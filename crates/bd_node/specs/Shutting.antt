@@ -1,5 +1,5 @@
 -- How the seats of a node are shut down.
-use Rattle.std.specs.Prelude.{◌≡◌, ◌≢◌, ℕ, ◌<◌, List, ◌++◌, Some, slice_get}
+use Rattle.std.specs.Prelude.{◌≡◌, ◌≢◌, ℕ, ◌<◌, All, List, ◌++◌, Some, slice_get}
 use Rattle.bd_node.specs.declared.node.Node.{Node}
 use Rattle.bd_worker.specs.declared.seat.Seat.{Seat}
 use Rattle.bd_worker.specs.Seats.{entries_in}
@@ -11,9 +11,10 @@ AreToLearn {D} stamp seats = (i : ℕ) (s : Seat D) → 0 < i → slice_get seat
 
 -- ---- a node
 
--- each thread's log is as before, but that of thread 0 has the Shutdown more, and the trace is as before
+-- each thread's log is as before, but that of thread 0 has the Shutdown more, whose stamp is above all others, and the trace is as before
 pub record AddsShutdown {D : Type 0} (old new : Node D) : Type 0 where
   pub stamp : ℕ
+  pub above : All (λ s. s.worker.log.last < stamp) old.seats.items
   pub trace : new.trace.items ≡ old.trace.items
   pub each : (t : ℕ) (a b : Seat D) → slice_get old.seats.items t ≡ Some a → slice_get new.seats.items t ≡ Some b → entries_in b ≡ entries_in a ++ shutdown_by stamp t
 

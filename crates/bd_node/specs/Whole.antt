@@ -1,5 +1,5 @@
 -- A node: when all its seats are on their courses, and how far it is.
-use Rattle.std.specs.Prelude.{◌≡◌, ℕ, ◌<◌, ◌≤◌, ◌==◌, Bool, true, false, cond, ◌&&◌, ◌++◌, List, [], length, map, sum_by, slice_get, Option, Some, None, is_none, not}
+use Rattle.std.specs.Prelude.{◌≡◌, ℕ, ◌+◌, ◌<◌, ◌≤◌, ◌==◌, Bool, true, false, cond, ◌&&◌, ◌++◌, List, [], length, map, sum_by, slice_get, Option, Some, None, is_none, not}
 use Rattle.std.specs.List.{list_all, AllByRecursion}
 use Rattle.bd_base.specs.declared.act.Entry.{Entry}
 use Rattle.bd_base.specs.declared.id.DevId.{DevId}
@@ -175,6 +175,11 @@ entries_made n = sum_by (λ p. length p.entries) (logs_of n)
 -- how many of these are still in logs
 abbrev pub entries_left : {D : Type 0} → Node D → ℕ
 entries_left n = sum_by made_by n.seats.items
+
+-- turns made more entries, or none, and they are in the logs: all that the threads made grew as what is in the logs did
+pub record MakesMore {D : Type 0} (old new : Node D) : Type 0 where
+  pub more : entries_left old ≤ entries_left new
+  pub same : entries_made new + entries_left old ≡ entries_made old + entries_left new
 
 -- nothing was added to what its threads did, nothing was lost, and it is as far as before
 pub record HasSameLogs {D : Type 0} (old new : Node D) : Type 0 where

@@ -1,5 +1,5 @@
 //! What a node does: its turns and rounds, its shutdown, and its end.
-ghost use Rattle.std.specs.Prelude.{◌≡◌, ◌<◌, ◌≤◌, ◌+◌, List, Option, [], None, false, length, sum_by, vec_len, IfErr, IfOk, IsPermutation, MatchBool, OnErr, OnOk};
+ghost use Rattle.std.specs.Prelude.{◌≡◌, ◌<◌, ◌≤◌, ◌+◌, List, Option, [], None, false, length, sum_by, vec_len, true, IfErr, IfOk, IsPermutation, OnErr, OnOk};
 ghost use Rattle.std.specs.List.{list_all};
 ghost use Rattle.bd_law_threads.specs.Steps.{first_phase};
 ghost use Rattle.bd_log.specs.Merge.{IsMerge};
@@ -9,12 +9,12 @@ ghost use Rattle.bd_base.specs.declared.id.DevId.{DevId};
 ghost use Rattle.bd_law_disks.specs.Told.{AreBasesLowest};
 ghost use Rattle.bd_node.specs.Disks.{disks_of, told_of, SaysOfDisks};
 ghost use Rattle.bd_node.specs.Schedule.{advance, advance_by};
-ghost use Rattle.bd_worker.specs.Seats.{has_moved, made_by, HasMoved, Tells};
-ghost use Rattle.bd_node.specs.Shutting.{AddsShutdown, IsUnchanged};
+ghost use Rattle.bd_worker.specs.Seats.{made_by, HasMoved, Tells};
+ghost use Rattle.bd_node.specs.Shutting.{AddsShutdown};
 ghost use Rattle.bd_node.specs.Times.{AreHoldsWithin, AreMomentsWithin, AreStartsWithin, HaveTimesWithin, KeepsTimes};
 ghost use Rattle.bd_node.specs.Waits.{TurnsQuietly};
 ghost use Rattle.bd_report.specs.Stats.{stats_of};
-ghost use Rattle.bd_node.specs.Whole.{disks_in, AreSeated, HasAllDisks, HasSameFlag, HasSameLogs, KeepsDisks, HasSameSetup, IsNode, IsNodeOf, are_all_taken, entries_left, entries_made, halt_of, has_taken, is_spent, is_at_rest, is_idle, is_over, logs_of, past_of, seat_goes, seat_has_destructed, seat_has_stamps, seat_is_blocked, seat_is_done, seat_rests, seed_of, setup_in, state_of};
+ghost use Rattle.bd_node.specs.Whole.{disks_in, AreSeated, HasAllDisks, HasSameFlag, HasSameLogs, KeepsDisks, HasSameSetup, IsNode, IsNodeOf, MakesMore, are_all_taken, entries_left, entries_made, halt_of, has_taken, is_spent, is_at_rest, is_idle, is_over, logs_of, past_of, seat_goes, seat_has_destructed, seat_has_stamps, seat_is_blocked, seat_is_done, seat_rests, seed_of, setup_in, state_of};
 
 use crate::building::{abandon_all, seats_of};
 use crate::crew::Watch;
@@ -34,7 +34,7 @@ use bd_report::stats::Stats;
 use bd_seat::SeatError;
 use bd_thread::Turned;
 use bd_wires::{Wires, connect, disconnect};
-use bd_worker::Seat;
+use bd_worker::{Seat, has_moved};
 use std::alloc::Global;
 use std::sync::Wait;
 use std::thread::Threads;
@@ -121,13 +121,6 @@ fn halt_of<'a, D>(seats: &[Seat<'a, D>]) -> SeatError
     } else {
         SeatError::StampsSpent
     }
-}
-
-// Whether entries were added.
-fn has_moved(turned: Turned) -> bool
-    ensures { result ≡ has_moved turned }
-{
-    matches!(turned, Turned::Moved(_))
 }
 
 fn is_spent(halted: Option<SeatError>) -> bool
@@ -313,6 +306,7 @@ impl<'a, D: Disk + Send> Node<'a, D> {
         ensures schedule { OnOk result (seed_of self.new ≡ seed_of self.old) }
         ensures disks { OnOk result (KeepsDisks D.state self.old self.new) }
         ensures times { OnOk result (KeepsTimes (C.range outside.now.clock.now) self.old self.new) }
+        ensures made { OnOk result (MakesMore self.old self.new) }
         ensures kept { HasAllDisks D.state self.old self.new }
     {
         self.rounds = self.rounds.saturating_add(1);
@@ -339,13 +333,13 @@ impl<'a, D: Disk + Send> Node<'a, D> {
     /// threads for them. A reactor goes over its threads, a turn each, and after each that moved one more for the
     /// first, until none of them moved in a pass while no other reactor was at work, or until 64 turns moved something
     /// and that pass ended. Before each turn it passes the gate, and then asks the clock once for the turn's moment.
-    /// Then what they did is gathered.
+    /// Then what they did is gathered. True where some turn moved.
     pub fn round<R: Threads + Wait + Sync, C: Clock + Sync, G: Gate + Sync>(
         &mut self,
         rt: &R,
         reactors: u32,
         outside: &Outside<C, G>,
-    ) -> Result<(), SeatError>
+    ) -> Result<bool, SeatError>
         requires { IsNode D.state self.old }
         ensures node { OnOk result (IsNode D.state self.new) }
         ensures setup { OnOk result (HasSameSetup self.old self.new) }
@@ -353,12 +347,15 @@ impl<'a, D: Disk + Send> Node<'a, D> {
         ensures schedule { OnOk result (seed_of self.new ≡ seed_of self.old) }
         ensures disks { OnOk result (KeepsDisks D.state self.old self.new) }
         ensures times { OnOk result (KeepsTimes (C.range outside.now.clock.now) self.old self.new) }
+        ensures moved { IfOk result (HasMoved (entries_made self.old) (entries_made self.new)) }
         ensures gathered { OnOk result (entries_left self.new ≡ 0) }
         ensures kept { HasAllDisks D.state self.old self.new }
     {
+        let before = self.entries_left()?;
         self.turn_in_round(rt, reactors, outside)?;
+        let after = self.entries_left()?;
         self.gather()?;
-        Ok(())
+        Ok(before < after)
     }
 }
 
@@ -428,27 +425,24 @@ impl<'a, D> Node<'a, D> {
 }
 
 impl<'a, D: Disk> Node<'a, D> {
-    /// Thread 0 shuts down, with a stamp above all others. False where the registry wasn't in its slot; then
-    /// the node isn't shut.
-    pub fn shut<R: Wait>(&mut self, rt: &R) -> Result<bool, SeatError>
+    /// Thread 0 shuts down, with a stamp above all others, and each other thread learns of it.
+    pub fn shut<R: Wait>(&mut self, rt: &R) -> Result<(), SeatError>
         requires node { IsNode D.state self.old }
         requires idle { state_of self.old ≡ NodeState.Idle }
         ensures node { OnOk result (IsNode D.state self.new) }
         ensures setup { OnOk result (HasSameSetup self.old self.new) }
-        ensures shut { IfOk result (λ shut. self.new.shut ≡ shut) }
-        ensures logs { IfOk result (λ shut. MatchBool shut (AddsShutdown self.old self.new) (IsUnchanged self.old self.new)) }
+        ensures shut { OnOk result (self.new.shut ≡ true) }
+        ensures logs { OnOk result (AddsShutdown self.old self.new) }
         ensures disks { OnOk result (KeepsDisks D.state self.old self.new) }
         ensures times { OnOk result ((range : Option Moments) → KeepsTimes range self.old self.new) }
         ensures kept { HasAllDisks D.state self.old self.new }
     {
         let above = greatest(self.seats.as_slice());
         let first = &mut self.seats[0];
-        let Some(stamp) = first.shut(rt, self.alloc, &self.wires, above)? else {
-            return Ok(false);
-        };
+        let stamp = first.shut(rt, self.alloc, &self.wires, above)?;
         learn_all(self.seats.as_mut_slice(), stamp);
         self.shut = true;
-        Ok(true)
+        Ok(())
     }
 
     /// The history of a run that is complete, with its statistics: all that the threads did, merged by stamp and

@@ -1,7 +1,7 @@
 //! What the threads of a node did, gathered: merged after the trace, counted, and gone from their logs.
-ghost use Rattle.std.specs.Prelude.{◌≡◌, ◌≤◌, ◌+◌, ◌++◌, ℕ, Option, Some, All, [], length, map, sum_by, vec_len, vec_capacity, slice_get, IfOk, SomeIff, IsOk, OnOk, OnErr};
+ghost use Rattle.std.specs.Prelude.{◌≡◌, ◌≤◌, ◌+◌, ◌++◌, ℕ, Option, Some, All, [], length, map, max, sum_by, vec_len, vec_capacity, slice_get, IfOk, SomeIff, IsOk, OnOk, OnErr};
 ghost use Rattle.bd_log.specs.Merge.{AreOfDifferentThreads};
-ghost use Rattle.bd_node.specs.Gathering.{Gathers};
+ghost use Rattle.bd_node.specs.Gathering.{greatest_last, Gathers};
 ghost use Rattle.bd_outside.specs.Clock.{Moments};
 ghost use Rattle.bd_worker.specs.Seats.{part_in, IsHandedOut, made_by};
 ghost use Rattle.bd_node.specs.Shutting.{IsUnchanged};
@@ -16,15 +16,15 @@ use bd_worker::Seat;
 
 // The greater of two stamps.
 fn greater(first: u128, second: u128) -> u128
-    ensures first { first ≤ result }
-    ensures second { second ≤ result }
+    ensures { result ≡ max first second }
 {
     if first < second { second } else { first }
 }
 
-/// A stamp that no log's last is above.
+/// The greatest of the logs' last stamps; 0 where there is no log.
 pub(crate) fn greatest<'a, D>(seats: &[Seat<'a, D>]) -> u128
-    ensures { All (λ s. s.worker.log.last ≤ result) seats.now }
+    ensures is { result ≡ greatest_last seats.now }
+    ensures above { All (λ s. s.worker.log.last ≤ result) seats.now }
 {
     let mut greatest = 0;
     for seat in seats {
@@ -59,6 +59,13 @@ fn hand_out_all<'a, D>(seats: &mut [Seat<'a, D>], stamp: u128, parts: &mut Vec<L
 }
 
 impl<'a, D> Node<'a, D> {
+    /// How many entries are in the threads' logs. Out of memory where that number doesn't fit.
+    pub(crate) fn entries_left(&self) -> Result<usize, OutOfMemory>
+        ensures { IfOk result (λ left. left ≡ entries_left self.now) }
+    {
+        count_left(self.seats.as_slice()).ok_or(OutOfMemory)
+    }
+
     // Room for the parts of all logs, and for this number of entries more after the trace.
     fn make_room(&mut self, left: usize) -> Result<Vec<LogPart>, OutOfMemory>
         ensures same { IsUnchanged self.old self.new }
@@ -89,7 +96,7 @@ impl<'a, D> Node<'a, D> {
 
 impl<'a, D: Disk> Node<'a, D> {
     /// What is in the threads' logs is merged, put after the trace, counted, and gone from the logs; whatever comes
-    /// there later has greater stamps. Where there is nothing it takes no memory. Out of memory loses no entry.
+    /// there later has greater stamps, the first one above the greatest so far. Where there is nothing it takes no memory. Out of memory loses no entry.
     pub fn gather(&mut self) -> Result<(), OutOfMemory>
         requires { IsNode D.state self.old }
         ensures node { OnOk result (IsNode D.state self.new) }
@@ -97,6 +104,7 @@ impl<'a, D: Disk> Node<'a, D> {
         ensures disks { OnOk result (KeepsDisks D.state self.old self.new) }
         ensures times { OnOk result ((range : Option Moments) → KeepsTimes range self.old self.new) }
         ensures left { OnOk result (entries_left self.new ≡ 0) }
+        ensures stamps { OnOk result (greatest_last self.new.seats.items ≡ greatest_last self.old.seats.items) }
         ensures none { entries_left self.old ≡ 0 → IsOk result × (self.new ≡ self.old) }
         ensures err { OnErr result (CountsTheSame self.old self.new) }
         ensures kept { disks_in self.new ≡ disks_in self.old }

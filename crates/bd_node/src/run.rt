@@ -81,7 +81,9 @@ fn play_out<'a, R: Threads + Wait + Sync, C: Clock + Sync, G: Gate + Sync, D: Di
                     Drive::Schedule(_) => {
                         node.round_by(rt, outside.clock)?;
                     }
-                    Drive::Reactors(reactors) => node.round(rt, reactors, outside)?,
+                    Drive::Reactors(reactors) => {
+                        node.round(rt, reactors, outside)?;
+                    }
                 }
             }
         }

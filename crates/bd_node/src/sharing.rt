@@ -1,11 +1,12 @@
 //! How reactors share the threads of a node.
-ghost use Rattle.std.specs.Prelude.{◌≡◌, ◌<◌, All, IsPermutation, length};
+ghost use Rattle.std.specs.Prelude.{◌≡◌, ◌<◌, ◌≤◌, true, All, IsPermutation, length, sum_by};
+ghost use Rattle.std.specs.List.{list_all};
 ghost use Rattle.std.specs.List.Sorted.{IsNonDecreasingBy};
 ghost use Rattle.bd_disks.specs.Shelf.{AreAllThere};
 ghost use Rattle.bd_node.specs.Disks.{disks_of};
-ghost use Rattle.bd_worker.specs.Seats.{AllWentOn, IsSitting, number_in};
+ghost use Rattle.bd_worker.specs.Seats.{made_by, AllWentOn, IsSitting, number_in};
 ghost use Rattle.bd_node.specs.Times.{StayWithin};
-ghost use Rattle.bd_node.specs.Whole.{StaySeated};
+ghost use Rattle.bd_node.specs.Whole.{seat_goes, StaySeated};
 
 use crate::crew::{Watch, give_turns};
 use bd_outside::{Clock, Disk, Gate};
@@ -106,6 +107,7 @@ pub(crate) fn turn_all<R: Threads + Wait + Sync, C: Clock + Sync, G: Gate + Sync
     ensures len { length seats.new ≡ length seats.old }
     ensures seats { StaySeated D.state wires.now seats.old seats.new }
     ensures times { StayWithin (C.range watch.now.outside.now.clock.now) seats.old seats.new }
+    ensures grows { list_all seat_goes seats.new ≡ true → sum_by made_by seats.old ≤ sum_by made_by seats.new }
     ensures kept { AreAllThere D.state (disks_of seats.old) (disks_of seats.new) }
 {
     deal_out(&deal, seats);

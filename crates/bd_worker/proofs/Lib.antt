@@ -10,3 +10,4 @@ pub mod Lent
 pub mod Telling
 pub mod Waiting
 pub mod Shut
+pub mod Stepping

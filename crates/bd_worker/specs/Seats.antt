@@ -1,5 +1,5 @@
 -- Seats: each thread with what it has for itself and its passes, and when it is on its course.
-use Rattle.std.specs.Prelude.{◌≡◌, ℕ, ◌+◌, ◌<◌, ◌≤◌, ◌++◌, Bool, true, false, List, [], length, vec_len, slice_index_or, Option, Some, None}
+use Rattle.std.specs.Prelude.{◌≡◌, ℕ, ◌+◌, ◌<◌, ◌≤◌, ◌++◌, Bool, true, false, List, [], length, vec_len, slice_index_or, Option, Some, None, ◌⊎◌}
 use Rattle.std.specs.List.{AllByRecursion}
 use Rattle.bd_base.specs.declared.act.Entry.{Entry}
 use Rattle.bd_base.specs.declared.id.DevId.{DevId}
@@ -19,6 +19,8 @@ use Rattle.bd_law_served.specs.Served.{ServedPiece}
 use Rattle.bd_law_threads.specs.Course.{all_rows, Course, IsCourse, Phase}
 use Rattle.bd_disks.specs.Contents.{contents_of}
 use Rattle.bd_disks.specs.Done.{AreDoneBy}
+use Rattle.bd_seat.specs.declared.seat_error.SeatError.{SeatError}
+use Rattle.bd_seat.specs.declared.seat_error.SeatError.TheVariants.{OutOfMemory, StampsSpent}
 use Rattle.bd_thread.specs.Looking.{KeepsOwn}
 use Rattle.bd_thread.specs.declared.turn.Turned.{Turned}
 use Rattle.bd_thread.specs.declared.turn.Turned.TheVariants.{Moved, Quiet}
@@ -242,11 +244,22 @@ KeepsOn state old new = (w : Wires) → Continues state w old new
 abbrev pub HasSameDisks : {D : Type 0} → (D → DiskState) → Seat D → Seat D → Type 0
 HasSameDisks state old new = places state new.disks ≡ places state old.disks
 
--- the same disks are there however it went, and it went on, at moments that a clock may tell, unless it has to halt
+-- ---- why it has to halt
+
+-- there was no memory, or no stamp is left, in its log or in the journal of its replica
+abbrev pub HasCause : SeatError → Worker → Type 0
+HasCause OutOfMemory w = Unit {0}
+HasCause StampsSpent w = (w.log.last ≡ 340282366920938463463374607431768211455) ⊎ (w.links.registry.last ≡ 340282366920938463463374607431768211455)
+
+-- the same disks are there however it went, and it went on, at moments that a clock may tell, and lost nothing, unless it has to halt; then for a
+-- cause, and from then on nothing changes
 pub record WentOn {D : Type 0} (state : D → DiskState) (w : Wires) (range : Option Moments) (old new : Seat D) : Type 0 where
   pub kept : HasSameDisks state old new
   pub on : new.halted ≡ None → Continues state w old new
   pub times : new.halted ≡ None → HasTimesWithin range old → HasTimesWithin range new
+  pub grows : new.halted ≡ None → made_by old ≤ made_by new
+  pub cause : (error : SeatError) → old.halted ≡ None → new.halted ≡ Some error → HasCause error new.worker
+  pub stays : (error : SeatError) → old.halted ≡ Some error → new ≡ old
 
 abbrev pub AllWentOn : {D : Type 0} → (D → DiskState) → Wires → Option Moments → List (Seat D) → List (Seat D) → Type 0
 AllWentOn {D} state w range old new = (i : ℕ) (d : Seat D) → i < length old → WentOn state w range (slice_index_or old i d) (slice_index_or new i d)

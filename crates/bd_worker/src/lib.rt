@@ -9,4 +9,5 @@ mod worker;
 mod working;
 
 pub use seat::Seat;
+pub use turning::has_moved;
 pub use worker::Worker;

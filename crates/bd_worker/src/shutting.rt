@@ -1,5 +1,7 @@
 //! How a thread at its seat is shut down.
-ghost use Rattle.std.specs.Prelude.{◌≡◌, ◌≢◌, ◌<◌, IfOk, MatchOption};
+ghost use Rattle.std.specs.Prelude.{◌≡◌, ◌≢◌, ◌<◌, false, IfOk};
+ghost use Rattle.bd_registry.specs.State.{start_of};
+ghost use Rattle.bd_ring.specs.Slots.{IsTakenBy};
 ghost use Rattle.bd_worker.specs.Seats.{IsLentTo, IsSitting};
 ghost use Rattle.bd_worker.specs.Shutting.{LearnsShut, Shuts, ShutsWith};
 
@@ -8,10 +10,12 @@ use crate::worker::Worker;
 use bd_base::Act;
 use bd_outside::Disk;
 use bd_registry::Registry;
+use bd_ring::SlotPass;
 use bd_seat::{SeatError, catch_up};
 use bd_wires::Wires;
 use std::alloc::Global;
 use std::sync::Wait;
+use std::thread;
 
 impl<'a> Worker<'a> {
     // Thread 0 shuts down, with the stamp after this one and after all of its log and of the journal of the
@@ -37,28 +41,41 @@ impl<'a> Worker<'a> {
     }
 }
 
+// The registry out of its slot, once it is there.
+fn take<W: Wait>(rt: &W, wires: &Wires, pass: &mut SlotPass<Registry>) -> Registry
+    requires slot { pass.old.slot ≡ wires.now.slot }
+    requires free { pass.old.holds ≡ false }
+    ensures { IsTakenBy pass.old result.journal (start_of result.setup) pass.new }
+{
+    for _ in rt.forever() {
+        if let Some(lent) = wires.slot.try_take(rt, pass) {
+            return lent;
+        }
+        thread::yield_now();
+    }
+    unreachable!()
+}
+
 impl<'a, D: Disk> Seat<'a, D> {
-    /// Thread 0 shuts down, with a stamp above this one, which it answers. None where the registry wasn't in its
-    /// slot; then nothing changes.
+    /// Thread 0 shuts down, with a stamp above this one, which it answers. Where the registry isn't in its slot it waits
+    /// until it is.
     pub fn shut<W: Wait>(
         &mut self,
         rt: &W,
         alloc: Global,
         wires: &Wires,
         above: u128,
-    ) -> Result<Option<u128>, SeatError>
+    ) -> Result<u128, SeatError>
         requires sits { IsSitting D.state wires.now self.old }
         requires first { self.old.worker.me ≡ 0 }
-        ensures shut { IfOk result (λ o. MatchOption o (self.new ≡ self.old) (λ stamp. (above < stamp) × Shuts D.state wires.now stamp self.old self.new)) }
+        ensures shut { IfOk result (λ stamp. (above < stamp) × Shuts D.state wires.now stamp self.old self.new) }
         ensures disks { self.new.disks ≡ self.old.disks }
     {
-        let Some(mut lent) = wires.slot.try_take(rt, &mut self.passes.slot) else {
-            return Ok(None);
-        };
+        let mut lent = take(rt, wires, &mut self.passes.slot);
         let stamp = self.worker.shut(alloc, &mut lent, self.seen, above)?;
         self.seen = lent.journal().len();
         wires.slot.give(rt, &mut self.passes.slot, lent);
-        Ok(Some(stamp))
+        Ok(stamp)
     }
 }
 

@@ -1,8 +1,8 @@
 //! A seat's turns.
-ghost use Rattle.std.specs.Prelude.{◌≡◌, IfOk, OnOk, Option};
+ghost use Rattle.std.specs.Prelude.{◌≡◌, None, IfErr, IfOk, OnOk, Option};
 ghost use Rattle.bd_outside.specs.Clock.{IsWithin, Moments};
 ghost use Rattle.bd_thread.specs.Timely.{HadTurn, HasBegun};
-ghost use Rattle.bd_worker.specs.Seats.{made_by, Continues, HasSameDisks, HasSameEntries, IsSitting, IsWorking, KeepsOn, SeatHasSameTime, SitsOrHalts, Tells, TellsIfAny, WentOn};
+ghost use Rattle.bd_worker.specs.Seats.{has_moved, made_by, Continues, HasCause, HasMoved, HasSameDisks, HasSameEntries, IsSitting, IsWorking, KeepsOn, SeatHasSameTime, SitsOrHalts, Tells, TellsIfAny, WentOn};
 ghost use Rattle.bd_worker.specs.Waits.{begun_seat, Idles, IdlesAlone, IdlesIfLent, QuietTurns, Receives, Sends};
 
 use crate::seat::Seat;
@@ -13,6 +13,13 @@ use bd_wires::Wires;
 use std::alloc::Global;
 use std::sync::Wait;
 
+/// Whether a turn that answers this added entries.
+pub fn has_moved(turned: Turned) -> bool
+    ensures { result ≡ has_moved turned }
+{
+    matches!(turned, Turned::Moved(_))
+}
+
 impl<'a, D: Disk> Seat<'a, D> {
     // Posts of its ring come into its queue.
     fn receive<W: Wait>(&mut self, rt: &W, wires: &Wires) -> Result<(), SeatError>
@@ -20,6 +27,7 @@ impl<'a, D: Disk> Seat<'a, D> {
         ensures goes { OnOk result (Continues D.state wires.now self.old self.new) }
         ensures entries { OnOk result (HasSameEntries self.old self.new) }
         ensures came { OnOk result (Receives self.old self.new) }
+        ensures cause { IfErr result (λ error. HasCause error self.new.worker) }
         ensures disks { self.new.disks ≡ self.old.disks }
     {
         let me = self.worker.me;
@@ -49,6 +57,7 @@ impl<'a, D: Disk> Seat<'a, D> {
         ensures goes { OnOk result (Continues D.state wires.now self.old self.new) }
         ensures entries { OnOk result (HasSameEntries self.old self.new) }
         ensures went { OnOk result (Sends self.old self.new) }
+        ensures cause { IfErr result (λ error. HasCause error self.new.worker) }
         ensures disks { self.new.disks ≡ self.old.disks }
     {
         let me = self.worker.me;
@@ -77,6 +86,7 @@ impl<'a, D: Disk> Seat<'a, D> {
         ensures time { OnOk result (SeatHasSameTime self.old self.new) }
         ensures turned { IfOk result (TellsIfAny (made_by self.old) (made_by self.new)) }
         ensures quiet { IfOk result (IdlesIfLent self.old self.new) }
+        ensures cause { IfErr result (λ error. HasCause error self.new.worker) }
         ensures kept { HasSameDisks D.state self.old self.new }
     {
         let Some(mut lent) = wires.slot.try_take(rt, &mut self.passes.slot) else {
@@ -98,6 +108,7 @@ impl<'a, D: Disk> Seat<'a, D> {
         ensures time { OnOk result (SeatHasSameTime self.old self.new) }
         ensures turned { IfOk result (Tells (made_by self.old) (made_by self.new)) }
         ensures quiet { IfOk result (IdlesAlone self.old.worker self.new.worker) }
+        ensures cause { IfErr result (λ error. HasCause error self.new.worker) }
         ensures kept { HasSameDisks D.state self.old self.new }
     {
         self.worker.work(alloc, &mut self.disks)
@@ -111,6 +122,7 @@ impl<'a, D: Disk> Seat<'a, D> {
         ensures time { OnOk result (SeatHasSameTime self.old self.new) }
         ensures turned { IfOk result (Tells (made_by self.old) (made_by self.new)) }
         ensures quiet { IfOk result (Idles self.old self.new) }
+        ensures cause { IfErr result (λ error. HasCause error self.new.worker) }
         ensures kept { HasSameDisks D.state self.old self.new }
     {
         if !self.worker.wants_registry() {
@@ -135,6 +147,7 @@ impl<'a, D: Disk> Seat<'a, D> {
         ensures goes { OnOk result (Continues D.state wires.now self.old self.new) }
         ensures turned { IfOk result (Tells (made_by self.old) (made_by self.new)) }
         ensures quiet { IfOk result (QuietTurns now self.old self.new) }
+        ensures cause { IfErr result (λ error. HasCause error self.new.worker) }
         ensures time { OnOk result (HadTurn now self.old.worker.thread self.new.worker.thread) }
         ensures kept { HasSameDisks D.state self.old self.new }
     {
@@ -146,16 +159,17 @@ impl<'a, D: Disk> Seat<'a, D> {
     }
 
     /// A turn in a round while the clock tells this moment (microseconds), unless the seat has to halt; true where it
-    /// moved. What halts it is kept.
+    /// moved. What halts it is kept, and from then on nothing changes.
     pub fn step<W: Wait>(&mut self, rt: &W, alloc: Global, wires: &Wires, now: u64) -> bool
         requires { SitsOrHalts D.state wires.now self.old }
-        ensures { (range : Option Moments) → IsWithin range now → WentOn D.state wires.now range self.old self.new }
+        ensures went { (range : Option Moments) → IsWithin range now → WentOn D.state wires.now range self.old self.new }
+        ensures moved { self.new.halted ≡ None → HasMoved (made_by self.old) (made_by self.new) result }
     {
         if self.halted.is_some() {
             return false;
         }
         match self.turn(rt, alloc, wires, now) {
-            Ok(turned) => turned != Turned::Quiet,
+            Ok(turned) => has_moved(turned),
             Err(error) => {
                 self.halted = Some(error);
                 false

@@ -1,9 +1,9 @@
 //! What a worker does in a turn.
-ghost use Rattle.std.specs.Prelude.{◌≡◌, [], IfOk, OnOk};
+ghost use Rattle.std.specs.Prelude.{◌≡◌, [], IfErr, IfOk, OnOk};
 ghost use Rattle.bd_disks.specs.Rows.{places};
 ghost use Rattle.bd_thread.specs.Timely.{HasBegun, HasSameTime};
 ghost use Rattle.bd_thread.specs.Work.{wants_registry};
-ghost use Rattle.bd_worker.specs.Seats.{made_in, GoesAlone, GoesWith, IsLentTo, IsWorking, Tells};
+ghost use Rattle.bd_worker.specs.Seats.{made_in, GoesAlone, GoesWith, HasCause, IsLentTo, IsWorking, Tells};
 ghost use Rattle.bd_worker.specs.Waits.{IdlesAlone, IdlesWith};
 
 use crate::worker::Worker;
@@ -46,6 +46,7 @@ impl<'a> Worker<'a> {
         ensures time { OnOk result (HasSameTime self.old.thread self.new.thread) }
         ensures turned { IfOk result (Tells (made_in self.old) (made_in self.new)) }
         ensures quiet { IfOk result (IdlesAlone self.old self.new) }
+        ensures cause { IfErr result (λ error. HasCause error self.new) }
         ensures kept { places D.state disks.new ≡ places D.state disks.old }
     {
         let turned = work_with_disks(&mut self.thread, &mut self.links, disks)?;
@@ -70,6 +71,7 @@ impl<'a> Worker<'a> {
         ensures time { OnOk result (HasSameTime self.old.thread self.new.thread) }
         ensures turned { IfOk result (Tells (made_in self.old) (made_in self.new)) }
         ensures quiet { IfOk result (IdlesWith lent.old self.old self.new) }
+        ensures cause { IfErr result (λ error. HasCause error self.new) }
         ensures kept { places D.state disks.new ≡ places D.state disks.old }
     {
         self.log.meet(lent.last_stamp());

@@ -3,8 +3,8 @@ use Rattle.bd_node.proofs.Histories.{keeps_disks_then}
 use Rattle.bd_node.proofs.Kept.{node_then}
 use Rattle.bd_node.proofs.run.play_out.Goals as goal
 
-pub loop-preserved-in_ok-shut-in-Idle : goal.loop-preserved-in_ok-shut-in-Idle
-loop-preserved-in_ok-shut-in-Idle g c =
+pub loop-preserved-in-Continue-1 : goal.loop-preserved-in-Continue-1
+loop-preserved-in-Continue-1 g c =
     let i = c.loop.invariant in
     let shut = c.in_ok-shut-in-Idle.ensures in
     record {

@@ -3,6 +3,7 @@ use Rattle.std.proofs.lemmas.List.Sorted.{length_permutation, All-permutation}
 use Rattle.bd_worker.specs.Seats.{IsSitting}
 use Rattle.bd_node.specs.Disks.{disks_of}
 use Rattle.bd_node.proofs.Dealing.{still_seated, still_within}
+use Rattle.bd_node.proofs.Growing.{still_grows}
 use Rattle.bd_node.proofs.Kept.{all_same, all_then, seats_kept, seats_reordered}
 use Rattle.bd_node.proofs.sharing.turn_all.Goals as goal
 
@@ -19,6 +20,11 @@ pub returns-clause-seats : goal.returns-clause-seats
 returns-clause-seats g c =
     still_seated c.args.wires.now (g.C.Clock.range c.args.watch.now.outside.now.clock.now) c.args.seats.now c.deal_out.new.seats c.turn_each.new.seats c.gather.new.seats c.deal_out.ensures c.turn_each.ensures.len c.turn_each.ensures.each
     c.gather.ensures.same c.gather.ensures.sorted
+
+pub returns-clause-grows : goal.returns-clause-grows
+returns-clause-grows g c =
+    still_grows c.args.wires.now (g.C.Clock.range c.args.watch.now.outside.now.clock.now) c.args.seats.now c.deal_out.new.seats c.turn_each.new.seats c.gather.new.seats c.deal_out.ensures c.turn_each.ensures.len c.turn_each.ensures.each
+    c.gather.ensures.same
 
 pub returns-clause-kept : goal.returns-clause-kept
 returns-clause-kept g c =

@@ -10,7 +10,7 @@ returns-then-moved-clause-seats g c =
     let range = g.C.Clock.range c.args.self.now.watch.now.outside.now.clock.now in
     let old = slice_index_or seats c.args.place c.index-seats-place.result in
     one_stepped g.D.Disk.state c.args.wires.now range seats seats c.args.place old c.step-moved.new.self refl (all_still g.D.Disk.state c.args.wires.now range seats)
-    (slice_get-get_or seats c.args.place c.index-seats-place.result c.requires.within) (c.step-moved.ensures range c.now-now.ensures)
+    (slice_get-get_or seats c.args.place c.index-seats-place.result c.requires.within) (c.step-moved.ensures.went range c.now-now.ensures)
 
 pub returns-else-moved-clause-seats : goal.returns-else-moved-clause-seats
 returns-else-moved-clause-seats g c =
@@ -18,4 +18,4 @@ returns-else-moved-clause-seats g c =
     let range = g.C.Clock.range c.args.self.now.watch.now.outside.now.clock.now in
     let old = slice_index_or seats c.args.place c.index-seats-place.result in
     one_stepped g.D.Disk.state c.args.wires.now range seats seats c.args.place old c.step-moved.new.self refl (all_still g.D.Disk.state c.args.wires.now range seats)
-    (slice_get-get_or seats c.args.place c.index-seats-place.result c.requires.within) (c.step-moved.ensures range c.now-now.ensures)
+    (slice_get-get_or seats c.args.place c.index-seats-place.result c.requires.within) (c.step-moved.ensures.went range c.now-now.ensures)

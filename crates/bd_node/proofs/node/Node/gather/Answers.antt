@@ -10,6 +10,7 @@ use Rattle.bd_node.specs.Gathering.{Gathers}
 use Rattle.bd_worker.specs.Seats.{part_in}
 use Rattle.bd_node.specs.Whole.{past_of}
 use Rattle.bd_node.proofs.Gathered.{any_room, counts_all, gathered_all, gathered_logs, gathered_node, gathers_so}
+use Rattle.bd_node.proofs.Greatest.{gathered_stamps}
 use Rattle.bd_node.proofs.Kept.{gathers_disks, unchanged_disks}
 use Rattle.bd_node.proofs.Settling.{parts_apart}
 use Rattle.bd_node.proofs.Telling.{ok_of}
@@ -43,6 +44,13 @@ returns-clause-left g c =
     let left = c.merge_logs.new.self in
     let all : Gathers n left = gathers_so n c.make_room.new.self left _ _ c.make_room.ensures.same c.merge_logs.ensures in
     ok_of c.add.result (gathered_all n left c.add.new.self left.room all)
+
+pub returns-clause-stamps : goal.returns-clause-stamps
+returns-clause-stamps g c =
+    let n = c.args.self.now in
+    let left = c.merge_logs.new.self in
+    let all : Gathers n left = gathers_so n c.make_room.new.self left _ _ c.make_room.ensures.same c.merge_logs.ensures in
+    ok_of c.add.result (gathered_stamps n left all)
 
 pub returns-clause-node : goal.returns-clause-node
 returns-clause-node g c =

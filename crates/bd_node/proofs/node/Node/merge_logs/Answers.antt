@@ -6,12 +6,13 @@ use Rattle.std.proofs.lemmas.List.{with_items_is}
 use Rattle.bd_log.specs.Merge.{AreOfDifferentThreads, IsMerge, Part}
 use Rattle.bd_worker.specs.declared.seat.Seat.{Seat}
 use Rattle.bd_worker.specs.Seats.{part_in, made_by}
+use Rattle.bd_node.specs.Gathering.{greatest_last}
 use Rattle.bd_node.proofs.Telling.{sum_by_map}
 use Rattle.bd_node.proofs.node.Node.merge_logs.Goals as goal
 
 pub hand_out_all-requires-clause-below : goal.hand_out_all-requires-clause-below
 hand_out_all-requires-clause-below g c =
-    subst (λ (ss : List (Seat g.row.D.Denot)). All (λ s. s.worker.log.last ≤ c.greatest-stamp.result) ss) (c.as_slice.ensures.value ∙ sym c.as_mut_slice.ensures.value) c.greatest-stamp.ensures
+    subst (λ (ss : List (Seat g.row.D.Denot)). All (λ s. s.worker.log.last ≤ c.greatest-stamp.result) ss) (c.as_slice.ensures.value ∙ sym c.as_mut_slice.ensures.value) c.greatest-stamp.ensures.above
 
 pub hand_out_all-requires-clause-room : goal.hand_out_all-requires-clause-room
 hand_out_all-requires-clause-room g c =
@@ -51,7 +52,8 @@ returns g c =
       is_merge = subst (λ (ps : List Part). IsMerge ps c.merge_onto.ensures.merged) parts-are c.merge_onto.ensures.is_merge;
       trace = c.merge_onto.ensures.is;
       stamp = c.greatest-stamp.result;
-      below = subst (λ (ss : List (Seat g.row.D.Denot)). All (λ s. s.worker.log.last ≤ c.greatest-stamp.result) ss) c.as_slice.ensures.value c.greatest-stamp.ensures;
+      greatest = c.greatest-stamp.ensures.is ∙ ap (λ (ss : List (Seat g.row.D.Denot)). greatest_last ss) c.as_slice.ensures.value;
+      below = subst (λ (ss : List (Seat g.row.D.Denot)). All (λ s. s.worker.log.last ≤ c.greatest-stamp.result) ss) c.as_slice.ensures.value c.greatest-stamp.ensures.above;
       len = ap (λ (ss : List (Seat g.row.D.Denot)). length ss) items-are ∙ len;
       each = λ i a b h k. c.hand_out_all.ensures.each i a b (ap (λ (ss : List (Seat g.row.D.Denot)). slice_get ss i) c.as_mut_slice.ensures.value ∙ h) (ap (λ (ss : List (Seat g.row.D.Denot)). slice_get ss i) (sym items-are) ∙ k);
       setup = refl;

@@ -1,7 +1,7 @@
 use Rattle.std.proofs.Common.{Bool, subst, sym}
 use Rattle.bd_worker.specs.Seats.{HasMoved}
 use Rattle.bd_node.specs.Whole.{entries_made}
-use Rattle.bd_node.proofs.Telling.{moved_as_told}
+use Rattle.bd_worker.proofs.Stepping.{moved_as_told}
 use Rattle.bd_node.proofs.node.Node.next_turn.Goals as goal
 
 pub returns-clause-moved : goal.returns-clause-moved

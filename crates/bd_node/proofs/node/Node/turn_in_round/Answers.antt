@@ -1,13 +1,15 @@
-use Rattle.std.proofs.Common.{◌≡◌, true, All, List, ◌++◌, length, vec_len, refl, subst, sym, ◌∙◌, ap, rules}
+use Rattle.std.proofs.Common.{◌≡◌, ◌+◌, ◌≤◌, true, All, List, ◌++◌, length, map, sum_by, vec_len, refl, subst, sym, ◌∙◌, ap, rules}
 use Rattle.std.specs.List.{list_all}
 use Rattle.std.specs.Vec.{with_items}
 use Rattle.std.proofs.lemmas.List.{with_items_is}
 use Rattle.bd_worker.specs.declared.seat.Seat.{Seat}
-use Rattle.bd_worker.specs.Seats.{IsSitting}
-use Rattle.bd_node.specs.Whole.{disks_in, past_of, seat_goes, AreSeated, StaySeated}
+use Rattle.bd_log.specs.Merge.{Part}
+use Rattle.bd_worker.specs.Seats.{made_by, IsSitting}
+use Rattle.bd_node.specs.Whole.{disks_in, log_with, past_of, seat_goes, AreSeated, StaySeated}
 use Rattle.bd_disks.specs.Shelf.{AreAllThere}
 use Rattle.bd_node.specs.Disks.{disks_of}
 use Rattle.bd_node.specs.Times.{HaveTimesWithin, StayWithin}
+use Rattle.bd_node.proofs.Growing.{made_alike}
 use Rattle.bd_node.proofs.Kept.{node_seats}
 use Rattle.bd_node.proofs.Rounds.{all_sit}
 use Rattle.bd_node.proofs.node.Node.turn_in_round.Goals as goal
@@ -99,3 +101,22 @@ returns-then-all_go-clause-times g c = λ within.
     let stay = subst (λ r. StayWithin r o.seats.items news) (ap (λ x. g.C.Clock.range x.clock.now) c.new-watch.ensures)
     (subst (λ (ss : List (Seat g.row.D.Denot)). StayWithin (g.C.Clock.range c.new-watch.result.outside.now.clock.now) ss news) c.as_mut_slice.ensures.value c.turn_all.ensures.times) in
     subst (λ (ss : List (Seat g.row.D.Denot)). HaveTimesWithin range ss) (sym items-are) (stay go within)
+
+pub returns-then-all_go-clause-made : goal.returns-then-all_go-clause-made
+returns-then-all_go-clause-made g c =
+    let o = c.args.self.now in
+    let news = c.turn_all.new.seats in
+    let many : vec_len o.seats ≡ length o.seats.items = search rules in
+    let same : length news ≡ length o.seats.items = c.turn_all.ensures.len ∙ ap (λ (ss : List (Seat g.row.D.Denot)). length ss) c.as_mut_slice.ensures.value in
+    let items-are : (with_items o.seats news).items ≡ news = with_items_is o.seats news (same ∙ sym many) in
+    let go : list_all seat_goes news ≡ true =
+    ap (list_all seat_goes) (sym (c.as_slice.ensures.value ∙ items-are)) ∙ sym c.all_go.ensures ∙ c.if-all_go.true in
+    let stay : StaySeated g.D.Disk.state o.wires o.seats.items news = subst (λ (ss : List (Seat g.row.D.Denot)). StaySeated g.D.Disk.state o.wires ss news) c.as_mut_slice.ensures.value c.turn_all.ensures.seats in
+    let grows : sum_by made_by o.seats.items ≤ sum_by made_by news = subst (λ (ss : List (Seat g.row.D.Denot)). sum_by made_by ss ≤ sum_by made_by news) c.as_mut_slice.ensures.value (c.turn_all.ensures.grows go) in
+    let h = c.requires.node in
+    let seated = stay go o.setup.now c.requires.starts (past_of h.met o.trace.items) o.shut h.phases h.seated in
+    let alike = made_alike o.trace.items o.seats.items news same (λ i a b at at'. (seated.each i b at').sits.seat.worker.log_thread ∙ sym (h.seated.each i a at).sits.seat.worker.log_thread) in
+    record {
+      more = subst (λ (ss : List (Seat g.row.D.Denot)). sum_by made_by o.seats.items ≤ sum_by made_by ss) (sym items-are) grows;
+      same = subst (λ (ss : List (Seat g.row.D.Denot)). sum_by (λ (p : Part). length p.entries) (map (log_with o.trace.items) ss) + sum_by made_by o.seats.items ≡ sum_by (λ (p : Part). length p.entries) (map (log_with o.trace.items) o.seats.items) + sum_by made_by ss) (sym items-are) alike;
+    }

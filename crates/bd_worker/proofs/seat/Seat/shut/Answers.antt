@@ -21,7 +21,7 @@ returns g c =
       shut = (
         shut.above,
         subst (λ (es : List Entry). Shuts g.D.Disk.state w stamp s (seat_by s c.shut.new.self c.give.new.pass (length es))) (sym c.journal.ensures.rows)
-            (seat_shuts g.D.Disk.state w s c.in-Some.lent c.shut.new.lent c.try_take.new.pass c.give.new.pass c.in-Some.ensures.take c.give.ensures stamp c.args.above c.shut.new.self c.requires.first thread shut),
+            (seat_shuts g.D.Disk.state w s c.take-lent.result c.shut.new.lent c.take-lent.new.pass c.give.new.pass c.take-lent.ensures c.give.ensures stamp c.args.above c.shut.new.self c.requires.first thread shut),
       );
       disks = refl;
     }
@@ -34,8 +34,8 @@ give-requires-clause-start g c =
     let zero : h.t ≡ 0 = sym h.sits.seat.worker.me ∙ c.requires.first in
     let q : IsSeat g.D.Disk.state h.setup 0 h.p h.sits.course h.past w h.opened s = subst (λ (n : ℕ). IsSeat g.D.Disk.state h.setup n h.p h.sits.course h.past w h.opened s) zero h.sits.seat in
     let contents = contents_of g.D.Disk.state s.disks in
-    let shut = c.in_ok-stamp.ensures.at h.setup h.p h.sits.course h.past contents q.worker (lent_is h.setup 0 h.p h.sits.course h.past w h.opened s c.in-Some.lent c.try_take.new.pass q c.in-Some.ensures.take) in
-    gives_start g.D.Disk.state w s c.in-Some.lent c.shut.new.lent c.try_take.new.pass (after_give c.try_take.new.pass c.shut.new.lent.journal) c.in-Some.ensures.take refl h.setup h.p h.sits.course h.past h.opened c.in_ok-stamp.stamp c.shut.new.self q shut
+    let shut = c.in_ok-stamp.ensures.at h.setup h.p h.sits.course h.past contents q.worker (lent_is h.setup 0 h.p h.sits.course h.past w h.opened s c.take-lent.result c.take-lent.new.pass q c.take-lent.ensures) in
+    gives_start g.D.Disk.state w s c.take-lent.result c.shut.new.lent c.take-lent.new.pass (after_give c.take-lent.new.pass c.shut.new.lent.journal) c.take-lent.ensures refl h.setup h.p h.sits.course h.past h.opened c.in_ok-stamp.stamp c.shut.new.self q shut
 
 pub give-requires-clause-own : goal.give-requires-clause-own
 give-requires-clause-own g c =
@@ -45,5 +45,5 @@ give-requires-clause-own g c =
     let zero : h.t ≡ 0 = sym h.sits.seat.worker.me ∙ c.requires.first in
     let q : IsSeat g.D.Disk.state h.setup 0 h.p h.sits.course h.past w h.opened s = subst (λ (n : ℕ). IsSeat g.D.Disk.state h.setup n h.p h.sits.course h.past w h.opened s) zero h.sits.seat in
     let contents = contents_of g.D.Disk.state s.disks in
-    let shut = c.in_ok-stamp.ensures.at h.setup h.p h.sits.course h.past contents q.worker (lent_is h.setup 0 h.p h.sits.course h.past w h.opened s c.in-Some.lent c.try_take.new.pass q c.in-Some.ensures.take) in
-    gives_own g.D.Disk.state w s c.in-Some.lent c.shut.new.lent c.try_take.new.pass (after_give c.try_take.new.pass c.shut.new.lent.journal) c.in-Some.ensures.take refl h.setup h.p h.sits.course h.past h.opened c.in_ok-stamp.stamp c.shut.new.self q shut
+    let shut = c.in_ok-stamp.ensures.at h.setup h.p h.sits.course h.past contents q.worker (lent_is h.setup 0 h.p h.sits.course h.past w h.opened s c.take-lent.result c.take-lent.new.pass q c.take-lent.ensures) in
+    gives_own g.D.Disk.state w s c.take-lent.result c.shut.new.lent c.take-lent.new.pass (after_give c.take-lent.new.pass c.shut.new.lent.journal) c.take-lent.ensures refl h.setup h.p h.sits.course h.past h.opened c.in_ok-stamp.stamp c.shut.new.self q shut
