@@ -5,9 +5,8 @@ use Rattle.crossbeam_queue.specs.Fifo.{Held}
 use Rattle.bd_turns.specs.declared.queue.Post.{Post}
 use Rattle.bd_ring.specs.declared.ring_rule.View.{View}
 use Rattle.bd_ring.specs.Posts.{sent_by}
-use Rattle.bd_ring.specs.RingRule.{after_take, Delivers, IsTaken, IsNext}
-use Rattle.atomic_table.specs.Seated.{TableId}
-use Rattle.bd_ring.specs.Rings.{Receiver, WasEmpty, Took, Account, left_of, IsSettled, IsSpent, HandsOut}
+use Rattle.bd_ring.specs.RingRule.{after_take, Delivers, IsNext}
+use Rattle.bd_ring.specs.Rings.{Account, left_of, IsSettled, IsSpent, HandsOut}
 use Rattle.bd_ring.proofs.Posts.{sent_by-append, all_pop, left_after, front, is_made}
 
 abbrev pub account : View → Account
@@ -37,12 +36,3 @@ pub next_returns : (v w : View) (old : Account) (r : Option Post) → v.made ≡
 next_returns v w old None made is h = (ap account h.0 ∙ is, subst IsSpent is (all_taken v h.1.0 h.1.1 h.1.2))
 next_returns v w old (Some x) made is h =
     subst (λ a. HandsOut a x (account w)) is (subst (λ (u : View). HandsOut (account v) x (account u)) (sym h.0) (hands_out v x h.1.0 made h.1.1))
-
-abbrev pub takes_seen : TableId → View → Receiver
-takes_seen ring v = record { ring = ring; senders = v.made; taken = v.taken }
-
-pub take_returns : (ring ring' : TableId) (v w : View) (old : Receiver) (r : Option Post) → ring' ≡ ring → takes_seen ring v ≡ old
-    → MatchOption r ((w ≡ v) × Held 0 (Delivers v)) (λ x. IsTaken v x w)
-    → MatchOption r ((takes_seen ring' w ≡ old) × WasEmpty old) (λ m. Took old m (takes_seen ring' w))
-take_returns ring ring' v w old None same is h = ((λ i. takes_seen (same i) (h.0 i)) ∙ is, subst WasEmpty is (h.1.0, h.1.1, h.1.2.1))
-take_returns ring ring' v w old (Some x) same is h = subst (λ (t : Receiver). Took t x (takes_seen ring' w)) is ((λ i. takes_seen (same i) (h.0 i)), h.1)

@@ -38,7 +38,7 @@ full_alone place s full alone =
     omega arith
 
 -- the same, from what the queue tells a sender's pass
-pub refused_alone : (capacity number : ℕ) (ring : TableId) (v : View) (place : Place) (s : Sender) → capacity ≡ place.capacity → v.from ≡ number → record { ring = ring; senders = v.senders; number = number; put = v.put } ≡ s
+pub refused_alone : (capacity number : ℕ) (ring : TableId) (v : View) (refused : ℕ) (place : Place) (s : Sender) → capacity ≡ place.capacity → v.from ≡ number → record { ring = ring; senders = v.senders; number = number; put = v.put; refused = refused } ≡ s
     → Held capacity (HoldsLast v) → (s.senders ≡ 1) × (s.number ≡ 0) → place.capacity ≤ length s.put
-refused_alone capacity number ring v place s cap from is h =
+refused_alone capacity number ring v refused place s cap from is h =
     full_alone place s (subst (λ (t : Sender). WasFull place t) is (h.0, h.1 ∙ cap, (h.2.0.0, h.2.0.1 ∙ ap (λ f. h.2.0.0 ++ sent_by f h.0) from), h.2.1))

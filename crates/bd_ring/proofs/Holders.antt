@@ -1,5 +1,5 @@
 -- Lists of a slot's passes: new ones, and those that are given back at the end.
-use Rattle.std.proofs.Common.{◌≡◌, ℕ, zero, suc, ◌+◌, ◌<◌, ◌≤◌, Option, Some, None, MatchOption, List, [], ◌∷◌, ◌++◌, length, map, get_or, sym, refl, ap, ◌∙◌, subst, false, arith}
+use Rattle.std.proofs.Common.{◌≡◌, ℕ, zero, suc, ◌+◌, ◌<◌, ◌≤◌, Some, List, [], ◌∷◌, ◌++◌, length, map, get_or, sym, refl, ap, ◌∙◌, subst, false, arith}
 use Rattle.std.specs.Prelude.{slice_get}
 use Rattle.std.proofs.lemmas.Option.{slice_get_read}
 use Rattle.atomic_table.specs.Seated.{TableId}
@@ -7,8 +7,9 @@ use Rattle.bd_base.specs.declared.act.Entry.{Entry}
 use Rattle.bd_base.specs.declared.journal.Start.{Start}
 use Rattle.bd_ring.specs.declared.slot_rule.SlotView.{SlotView}
 use Rattle.crossbeam_queue.specs.Fifo.{Held}
-use Rattle.bd_ring.specs.SlotRule.{IsTaken, IsAway, rows_of}
-use Rattle.bd_ring.specs.Slots.{Holder, AreHoldersOf, holder, later_holders, seen_as, IsSound, IsTakenBy, WasAway}
+use Rattle.bd_ring.specs.SlotRule.{IsAway, rows_of}
+use Rattle.bd_ring.specs.Rings.{one_further}
+use Rattle.bd_ring.specs.Slots.{Holder, AreHoldersOf, after_miss, holder, later_holders, seen_as, IsSound, WasAway}
 
 pub later_holders-more : (slot : TableId) (start : Start) (n : ℕ) → 1 ≤ n → later_holders slot start (n + 1) ≡ later_holders slot start n ++ holder slot start n 0 ∷ []
 later_holders-more slot start zero h = absurd (omega arith)
@@ -43,12 +44,9 @@ rows_at passes first rest wrote journal e is rows k p at =
     inside (q ∷ ps) zero e = let s : q ≡ p = cc in (omega arith, ap (λ (y : Holder). y.wrote) s)
     inside (q ∷ ps) (suc i) e = let r = inside ps i e in (let l = r.0 in omega arith, r.1)
 
--- what a try of the slot comes to
-pub try_returns : {R : Type 0} (journal : R → List Entry) (begins : R → Start) (slot slot' : TableId) (v w : SlotView) (old : Holder) (r : Option R) → slot' ≡ slot → seen_as slot v ≡ old → IsSound v
-    → MatchOption r ((w ≡ v) × Held 0 (λ (items : List R). length items ≡ 0 → IsAway v)) (λ x. IsTaken v (journal x) (begins x) w)
-    → MatchOption r ((seen_as slot' w ≡ old) × WasAway old) (λ x. IsTakenBy old (journal x) (begins x) (seen_as slot' w))
-try_returns journal begins slot slot' v w old None same is sound h =
+-- what a try of the slot comes to that found the value away
+pub missed_by : {R : Type 0} (slot slot' : TableId) (borrowed missed : ℕ) (v w : SlotView) (old : Holder) → slot' ≡ slot → seen_as slot borrowed missed v ≡ old → IsSound v
+    → (w ≡ v) × Held 0 (λ (items : List R). length items ≡ 0 → IsAway v) → (seen_as slot' borrowed (one_further missed) w ≡ after_miss old) × WasAway old
+missed_by slot slot' borrowed missed v w old same is sound h =
     let away = h.1.2 h.1.1 in
-    ((λ i. seen_as (same i) (h.0 i)) ∙ is, subst WasAway is (away.0, away.1, (λ z. away.2 ((sound.2 z).0)), away.3))
-try_returns journal begins slot slot' v w old (Some x) same is sound h =
-    subst (λ (o : Holder). IsTakenBy o (journal x) (begins x) (seen_as slot' w)) is ((λ i. seen_as (same i) (h.0 i)), h.1, h.2, h.3)
+    ((λ i. after_miss (seen_as (same i) borrowed missed (h.0 i))) ∙ ap after_miss is, subst WasAway is (away.0, away.1, (λ z. away.2 ((sound.2 z).0)), away.3))

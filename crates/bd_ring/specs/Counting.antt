@@ -20,9 +20,12 @@ abbrev pub first_posts : ℕ → ℕ → List Post
 first_posts sender zero = []
 first_posts sender (suc n) = first_posts sender n ++ post sender n ∷ []
 
--- the sender, which was new, after it put this number of posts
-abbrev pub after_posts : Sender → ℕ → Sender
-after_posts s count = record s { put = first_posts s.number count }
+-- the sender, which was new, has put this number of posts, however often it found the ring full
+pub record HasPut (count : ℕ) (s s' : Sender) : Type 0 where
+  pub ring : s'.ring ≡ s.ring
+  pub senders : s'.senders ≡ s.senders
+  pub number : s'.number ≡ s.number
+  pub put : s'.put ≡ first_posts s.number count
 
 -- senders of this ring that have put nothing
 abbrev pub AreNew : TableId → List Sender → Type 0
@@ -30,7 +33,7 @@ AreNew ring sends = (k : ℕ) (d : Sender) → k < length sends → let s = slic
 
 -- each of these senders, which were new, put this number of posts
 abbrev pub HavePut : ℕ → List Sender → List Sender → Type 0
-HavePut count before after = (k : ℕ) (d : Sender) → k < length before → slice_index_or after k d ≡ after_posts (slice_index_or before k d) count
+HavePut count before after = (k : ℕ) (d : Sender) → k < length before → HasPut count (slice_index_or before k d) (slice_index_or after k d)
 
 abbrev pub row_at : ℕ → ℕ → Entry
 row_at thread n = record { stamp = n; thread = thread; act = Script n Done }

@@ -1,5 +1,5 @@
 -- What contracts see of a ring and of its passes.
-use Rattle.std.specs.Prelude.{◌≡◌, ℕ, ◌<◌, ◌≤◌, List, [], ◌∷◌, ◌++◌, length, drop, Some, slice_get, slice_index_or}
+use Rattle.std.specs.Prelude.{◌≡◌, ℕ, ◌+◌, ◌%◌, ◌^◌, ◌<◌, ◌≤◌, List, [], ◌∷◌, ◌++◌, length, drop, Some, slice_get, slice_index_or}
 use Prim.Native.Nat.{zero, suc}
 use Rattle.atomic_table.specs.Seated.{TableId}
 use Rattle.bd_turns.specs.declared.queue.Post.{Post}
@@ -10,24 +10,36 @@ pub record Place : Type 0 where
   pub ring : TableId
   pub capacity : ℕ
 
--- a sender's pass: its ring, how many senders that is for, its number, and what it put
+-- a sender's pass: its ring, how many senders that is for, its number, what it put, and the count of its puts that found the ring full
 pub record Sender : Type 0 where
   pub ring : TableId
   pub senders : ℕ
   pub number : ℕ
   pub put : List Post
+  pub refused : ℕ
 
--- the receiver's pass: its ring, how many senders there are, and what was taken
+-- the receiver's pass: its ring, how many senders there are, what was taken, and the count of its takes that found the ring empty
 pub record Receiver : Type 0 where
   pub ring : TableId
   pub senders : ℕ
   pub taken : List Post
+  pub missed : ℕ
+
+-- such a count, one further: after 2 ^ 64 - 1 it begins again
+abbrev pub one_further : ℕ → ℕ
+one_further n = (n + 1) % 2 ^ 64
 
 abbrev pub after_put : Sender → Post → Sender
 after_put s m = record s { put = s.put ++ m ∷ [] }
 
+abbrev pub after_refusal : Sender → Sender
+after_refusal s = record s { refused = one_further s.refused }
+
 abbrev pub after_take : Receiver → Post → Receiver
 after_take r m = record r { taken = r.taken ++ m ∷ [] }
+
+abbrev pub after_miss : Receiver → Receiver
+after_miss r = record r { missed = one_further r.missed }
 
 -- some full content of the ring, of messages of its senders alone, of which this one's are the last that it put
 abbrev pub WasFull : Place → Sender → Type 0
@@ -46,7 +58,7 @@ Took r m t = (t ≡ after_take r m) × (m.message.sender < r.senders)
 -- the first n of the senders, by number, which have put nothing
 abbrev pub first_senders : TableId → ℕ → ℕ → List Sender
 first_senders ring senders zero = []
-first_senders ring senders (suc n) = first_senders ring senders n ++ record { ring = ring; senders = senders; number = n; put = [] } ∷ []
+first_senders ring senders (suc n) = first_senders ring senders n ++ record { ring = ring; senders = senders; number = n; put = []; refused = 0 } ∷ []
 
 -- all senders of a new ring
 abbrev pub new_senders : TableId → ℕ → List Sender

@@ -5,9 +5,10 @@ use Rattle.atomic_table.specs.Seated.{TableId}
 use Rattle.bd_base.specs.declared.act.Entry.{Entry}
 use Rattle.bd_base.specs.declared.journal.Start.{Start}
 use Rattle.bd_ring.specs.declared.slot_rule.SlotView.{SlotView}
+use Rattle.bd_ring.specs.Rings.{one_further}
 use Rattle.bd_ring.specs.SlotRule.{StartsWith, rows_of}
 
--- a pass: its slot, its thread, whether it has the value, the journal that it last saw, the rows that it made, and the start; that of thread 0 also knows how many passes there are
+-- a pass: its slot, its thread, whether it has the value, the journal that it last saw, the rows that it made, the start, and the counts of its tries that took the value and of those that found it away; that of thread 0 also knows how many passes there are
 pub record Holder : Type 0 where
   pub slot : TableId
   pub thread : ℕ
@@ -16,9 +17,12 @@ pub record Holder : Type 0 where
   pub seen : List Entry
   pub wrote : List Entry
   pub start : Start
+  pub borrowed : ℕ
+  pub missed : ℕ
 
-abbrev pub seen_as : TableId → SlotView → Holder
-seen_as slot v = record { slot = slot; thread = v.thread; passes = v.made; holds = v.holds; seen = v.seen; wrote = v.wrote; start = v.start }
+abbrev pub seen_as : TableId → ℕ → ℕ → SlotView → Holder
+seen_as slot borrowed missed v =
+    record { slot = slot; thread = v.thread; passes = v.made; holds = v.holds; seen = v.seen; wrote = v.wrote; start = v.start; borrowed = borrowed; missed = missed }
 
 -- the pass of a thread, with the value in the slot since; that of thread 0 leads
 abbrev pub IsSound : SlotView → Type 0
@@ -26,7 +30,7 @@ IsSound v = (v.serves ≡ true) × (v.opened ≡ true) × (v.thread ≡ 0 → (v
 
 -- a new pass
 abbrev pub holder : TableId → Start → ℕ → ℕ → Holder
-holder slot start thread passes = record { slot = slot; thread = thread; passes = passes; holds = false; seen = []; wrote = []; start = start }
+holder slot start thread passes = record { slot = slot; thread = thread; passes = passes; holds = false; seen = []; wrote = []; start = start; borrowed = 0; missed = 0 }
 
 -- the new passes of the threads from 1 to below n
 abbrev pub later_holders : TableId → Start → ℕ → List Holder
@@ -48,7 +52,10 @@ abbrev pub after_give : Holder → List Entry → Holder
 after_give p journal = record p { holds = false; seen = journal; wrote = p.wrote ++ drop (length p.seen) journal }
 
 abbrev pub after_take : Holder → List Entry → Holder
-after_take p journal = record p { holds = true; seen = journal }
+after_take p journal = record p { holds = true; seen = journal; borrowed = one_further p.borrowed }
+
+abbrev pub after_miss : Holder → Holder
+after_miss p = record p { missed = one_further p.missed }
 
 -- the pass took a value with this journal and this start
 abbrev pub IsTakenBy : Holder → List Entry → Start → Holder → Type 0

@@ -1,8 +1,7 @@
 //! A ring at work: senders in threads of their own, and a receiver in another one.
-ghost use Rattle.std.specs.Prelude.{◌≡◌, ◌<◌, ℕ, [], cond, vec_len, IfOk};
-ghost use Rattle.bd_ring.specs.Counting.{post as counted, first_posts, after_posts, HavePut, AreNew};
+ghost use Rattle.std.specs.Prelude.{◌≡◌, ◌<◌, ℕ, [], ◌∷◌, ◌++◌, cond, vec_len, IfOk};
+ghost use Rattle.bd_ring.specs.Counting.{post as counted, first_posts, HasPut, HavePut, AreNew};
 ghost use Rattle.bd_ring.specs.Posts.{Brings, sent_by};
-ghost use Rattle.bd_ring.specs.Rings.{after_put};
 
 use crate::ring::{Ring, SendPass, TakePass};
 use bd_base::{DevId, OutOfMemory, Token};
@@ -34,7 +33,8 @@ pub(crate) fn post(alloc: Global, sender: u32, number: u32) -> Result<Post, OutO
 // Puts the post with this number: whether it is in the ring. It isn't where the ring is full or memory ran out.
 fn put_next<R: Wait>(rt: &R, alloc: Global, ring: &Ring, pass: &mut SendPass, number: u32) -> bool
     requires { pass.old.ring ≡ ring.now.ring }
-    ensures { pass.new ≡ cond result (after_put pass.old (counted pass.old.number number)) pass.old }
+    ensures same { (pass.new.ring ≡ pass.old.ring) × (pass.new.senders ≡ pass.old.senders) × (pass.new.number ≡ pass.old.number) }
+    ensures put { pass.new.put ≡ cond result (pass.old.put ++ counted pass.old.number number ∷ []) pass.old.put }
 {
     match post(alloc, pass.number(), number) {
         Ok(post) => ring.put(rt, pass, post).is_ok(),
@@ -45,7 +45,7 @@ fn put_next<R: Wait>(rt: &R, alloc: Global, ring: &Ring, pass: &mut SendPass, nu
 // Puts this number of posts. One that finds the ring full, or no memory, is tried again.
 fn put_all<R: Wait>(rt: &R, alloc: Global, ring: &Ring, pass: &mut SendPass, count: u32)
     requires { (pass.old.ring ≡ ring.now.ring) × (pass.old.put ≡ []) }
-    ensures { pass.new ≡ after_posts pass.old count }
+    ensures { HasPut count pass.old pass.new }
 {
     let mut next = 0;
     for _ in rt.forever() {
@@ -91,7 +91,7 @@ fn take_all<R: Wait>(
     count: u32,
 ) -> (TakePass, Vec<Post>)
     requires { (pass.ring ≡ ring.now.ring) × (pass.taken ≡ []) }
-    ensures { result.0 ≡ record { ring = ring.now.ring; senders = pass.senders; taken = result.1.items } }
+    ensures { (result.0.ring ≡ ring.now.ring) × (result.0.senders ≡ pass.senders) × (result.0.taken ≡ result.1.items) }
 {
     let mut taken = Vec::new(alloc);
     let mut left = count;
@@ -132,7 +132,7 @@ pub fn exchange<R: Threads + Wait + Sync>(
         { put_each(rt, alloc, line, sends, count) },
         move || -> (TakePass, Vec<Post>)
             requires { (take.ring ≡ line.now.ring) × (take.taken ≡ []) }
-            ensures { result.0 ≡ record { ring = line.entry.now.ring; senders = take.senders; taken = result.1.items } }
+            ensures { (result.0.ring ≡ line.entry.now.ring) × (result.0.senders ≡ take.senders) × (result.0.taken ≡ result.1.items) }
         { take_all(rt, alloc, line, take, count.saturating_mul(senders)) },
     );
     let mut settled = ring.settle(take, sends);

@@ -31,12 +31,13 @@ impl Model for Ring {
     ghost view = { λ r. record { ring = r.queue.table.shared.table_id; capacity = r.queue.cap } };
 }
 
-/// The right to put posts as one sender, seen as its ring, how many senders
-/// that is for, its number, and what it put.
+/// The right to put posts as one sender, seen as its ring, how many senders that is for, its number, what it
+/// put, and the count of its puts that found the ring full, which begins again after 2^64 - 1.
 #[derive(Drop)]
 pub struct SendPass {
     pass: Pass<Letter, View>,
     number: u32,
+    refused: u64,
 }
 
 impl Model for SendPass {
@@ -46,15 +47,17 @@ impl Model for SendPass {
 
     ghost Value = { Sender };
 
-    ghost view = { λ s. record { ring = s.pass.table_id; senders = (known s.pass).senders; number = s.number; put = (known s.pass).put } };
+    ghost view = { λ s. record { ring = s.pass.table_id; senders = (known s.pass).senders; number = s.number; put = (known s.pass).put; refused = s.refused } };
 
     ghost invariant = { λ s. (s.pass.me.1 ≡ []) × ((known s.pass).sends ≡ true) × ((known s.pass).from ≡ s.number) };
 }
 
-/// The right to take posts, seen as its ring, how many senders there are, and what was taken.
+/// The right to take posts, seen as its ring, how many senders there are, what was taken, and the count of its
+/// takes that found the ring empty, which begins again after 2^64 - 1.
 #[derive(Drop)]
 pub struct TakePass {
     pass: Pass<Letter, View>,
+    missed: u64,
 }
 
 impl Model for TakePass {
@@ -64,7 +67,7 @@ impl Model for TakePass {
 
     ghost Value = { Receiver };
 
-    ghost view = { λ s. record { ring = s.pass.table_id; senders = (known s.pass).made; taken = (known s.pass).taken } };
+    ghost view = { λ s. record { ring = s.pass.table_id; senders = (known s.pass).made; taken = (known s.pass).taken; missed = s.missed } };
 
     ghost invariant = { λ s. (s.pass.me.1 ≡ []) × ((known s.pass).receives ≡ true) × ((known s.pass).ended ≡ []) };
 }
@@ -140,14 +143,18 @@ fn next_sender(queue: &Queue, pass: &mut Pass<Letter, View>, number: u32) -> Sen
         × ((known pass.old).made ≡ number) × (number < (known pass.old).senders) }
     ensures queue { IsPassOf queue.now pass.new }
     ensures receiver { known pass.new ≡ receiver (known pass.old).senders ((known pass.old).made + 1) (known pass.old).ended (known pass.old).taken }
-    ensures sender { result ≡ record { ring = queue.now.table.shared.table_id; senders = (known pass.old).senders; number = number; put = [] } }
+    ensures sender { result ≡ record { ring = queue.now.table.shared.table_id; senders = (known pass.old).senders; number = number; put = []; refused = 0 } }
 {
     let pass = queue.another::<AddsSender>(pass);
-    SendPass { pass, number }
+    SendPass {
+        pass,
+        number,
+        refused: 0,
+    }
 }
 
 impl Ring {
-    ghost use Rattle.bd_ring.specs.Rings.{after_put, Took, WasFull, WasEmpty, new_senders, AreSendersOf, IsSettled};
+    ghost use Rattle.bd_ring.specs.Rings.{after_put, after_refusal, after_miss, Took, WasFull, WasEmpty, new_senders, AreSendersOf, IsSettled};
 
     /// A ring of this capacity (in posts), a pass for each sender, and the receiver's pass.
     pub fn new(
@@ -158,7 +165,7 @@ impl Ring {
         requires { 0 < capacity }
         ensures ring { IfOk result (λ r. r.0.capacity ≡ capacity) }
         ensures sends { IfOk result (λ r. r.1.items ≡ new_senders r.0.ring senders) }
-        ensures take { IfOk result (λ r. r.2 ≡ record { ring = r.0.ring; senders = senders; taken = [] }) }
+        ensures take { IfOk result (λ r. r.2 ≡ record { ring = r.0.ring; senders = senders; taken = []; missed = 0 }) }
     {
         let (queue, mut pass) = RuledArrayQueue::ruled(alloc, capacity as usize)?;
         for _counted in 0..senders {
@@ -168,37 +175,43 @@ impl Ring {
         for number in 0..senders {
             sends.push(next_sender(&queue, &mut pass, number))?;
         }
-        Ok((Ring { queue }, sends, TakePass { pass }))
+        Ok((Ring { queue }, sends, TakePass { pass, missed: 0 }))
     }
 
     /// Puts a post after all that the ring holds. A full ring gives it back, and then the pass is as
-    /// before. It takes no memory.
+    /// before, but that it counts one more of these. It takes no memory.
     pub fn put<R: Wait>(&self, rt: &R, pass: &mut SendPass, post: Post) -> Result<(), Full>
         requires ring { pass.old.ring ≡ self.now.ring }
         requires sender { post.message.sender ≡ pass.old.number }
         requires brings { Brings post }
         ensures put { MatchResult result
             (λ _. pass.new ≡ after_put pass.old post)
-            (λ full. (full.post ≡ post) × (pass.new ≡ pass.old) × WasFull self.now pass.old) }
+            (λ full. (full.post ≡ post) × (pass.new ≡ after_refusal pass.old) × WasFull self.now pass.old) }
         ensures alone { IfErr result (λ full. (pass.old.senders ≡ 1) × (pass.old.number ≡ 0) → self.now.capacity ≤ length pass.old.put) }
     {
         let letter = Letter::new(post);
         match self.queue.push_as::<Puts, R>(rt, &mut pass.pass, letter) {
             Ok(()) => Ok(()),
-            Err(letter) => Err(Full {
-                post: letter.open(),
-            }),
+            Err(letter) => {
+                pass.refused = pass.refused.wrapping_add(1);
+                Err(Full {
+                    post: letter.open(),
+                })
+            }
         }
     }
 
     /// Takes the first post, whose message brings the token that it names. An empty ring gives none,
-    /// and then the pass is as before. It takes no memory.
+    /// and then the pass is as before, but that it counts one more of these. It takes no memory.
     pub fn take<R: Wait>(&self, rt: &R, pass: &mut TakePass) -> Option<Post>
         requires ring { pass.old.ring ≡ self.now.ring }
-        ensures take { MatchOption result ((pass.new ≡ pass.old) × WasEmpty pass.old) (λ post. Took pass.old post pass.new) }
+        ensures take { MatchOption result ((pass.new ≡ after_miss pass.old) × WasEmpty pass.old) (λ post. Took pass.old post pass.new) }
         ensures brings { IfSome result (λ post. Brings post) }
     {
-        let letter = self.queue.pop_as::<Takes, R>(rt, &mut pass.pass)?;
+        let Some(letter) = self.queue.pop_as::<Takes, R>(rt, &mut pass.pass) else {
+            pass.missed = pass.missed.wrapping_add(1);
+            return None;
+        };
         Some(letter.open())
     }
 
@@ -225,7 +238,7 @@ impl Ring {
         ensures { result ≡ record { ring = self.ring; senders = take.senders; puts = []; taken = take.taken } }
     {
         let Ring { queue } = self;
-        let TakePass { pass } = take;
+        let TakePass { pass, missed: _ } = take;
         Settling { queue, pass }
     }
 }
@@ -239,7 +252,11 @@ impl Settling {
         requires next { send.number ≡ length self.old.puts }
         ensures { self.new ≡ record self.old { puts = self.old.puts ++ send.put ∷ [] } }
     {
-        let SendPass { pass, number: _ } = send;
+        let SendPass {
+            pass,
+            number: _,
+            refused: _,
+        } = send;
         self.queue.absorb::<EndsSender>(&mut self.pass, pass);
     }
 

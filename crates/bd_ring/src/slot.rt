@@ -2,7 +2,7 @@
 ghost use Rattle.std.specs.Prelude.{◌≡◌, ◌+◌, ◌<◌, ◌≤◌, [], ◌∷◌, ◌++◌, true, false, length, IfOk, IfNone, MatchOption, vec_len, slice_get, slice_index_or, Some, ℕ};
 ghost use Rattle.crossbeam_queue.specs.Passes.{view as known, IsPassOf};
 ghost use Rattle.bd_ring.specs.SlotRule.{AddsOwn, BeginsWithEach, one_more, rows_of};
-ghost use Rattle.bd_ring.specs.Slots.{Holder, holder, new_holders, AreHoldersOf, after_give, IsTakenBy, WasAway};
+ghost use Rattle.bd_ring.specs.Slots.{Holder, holder, new_holders, AreHoldersOf, after_give, after_miss, IsTakenBy, WasAway};
 
 use crate::slot_rule::{
     AddsPass, EndsPass, GivesValue, OneHolder, Opens, SlotView, TakesLast, TakesValue,
@@ -12,6 +12,7 @@ use crossbeam_queue::{Pass, RuledArrayQueue};
 use std::alloc::Global;
 use std::marker::Model;
 use std::sync::Wait;
+use std::thread;
 
 type Queue<R> = RuledArrayQueue<R, SlotView, OneHolder>;
 
@@ -33,11 +34,14 @@ impl<R: Journaled> Model for Slot<R> {
 }
 
 /// A thread's right to borrow the value, seen as its slot, its thread, whether it has the value, the
-/// journal that it last saw, the rows that it made, and the start; that of thread 0 also shows how
-/// many passes there are.
+/// journal that it last saw, the rows that it made, the start, and the counts of its tries that took the
+/// value and of those that found it away, which begin again after 2^64 - 1; that of thread 0 also shows
+/// how many passes there are.
 #[derive(Drop)]
 pub struct SlotPass<R> {
     pass: Pass<R, SlotView>,
+    borrowed: u64,
+    missed: u64,
 }
 
 impl<R> Model for SlotPass<R> {
@@ -47,7 +51,7 @@ impl<R> Model for SlotPass<R> {
 
     ghost Value = { Holder };
 
-    ghost view = { λ s. seen_as s.pass.table_id (known s.pass) };
+    ghost view = { λ s. seen_as s.pass.table_id s.borrowed s.missed (known s.pass) };
 
     ghost invariant = { λ s. (s.pass.me.1 ≡ []) × IsSound (known s.pass) };
 }
@@ -82,7 +86,11 @@ fn next_pass<R: Journaled>(queue: &Queue<R>, pass: &mut Pass<R, SlotView>) -> Sl
     ensures next { result ≡ holder queue.now.table.shared.table_id (known pass.old).start (known pass.old).made 0 }
 {
     let pass = queue.another::<AddsPass>(pass);
-    SlotPass { pass }
+    SlotPass {
+        pass,
+        borrowed: 0,
+        missed: 0,
+    }
 }
 
 // The pass of thread 0, and the others.
@@ -116,19 +124,50 @@ impl<R: Drop + Journaled> Slot<R> {
         for _number in 1..passes {
             all.push(next_pass(&queue, &mut first))?;
         }
-        all.insert(0, SlotPass { pass: first })?;
+        all.insert(
+            0,
+            SlotPass {
+                pass: first,
+                borrowed: 0,
+                missed: 0,
+            },
+        )?;
         Ok((Slot { queue }, all))
     }
 
     /// Takes the value out of the slot. None where another pass has it, and then this pass is as
-    /// before. It takes no memory.
+    /// before, but that it counts one more of these tries. It takes no memory.
     pub fn try_take<W: Wait>(&self, rt: &W, pass: &mut SlotPass<R>) -> Option<R>
         requires slot { pass.old.slot ≡ self.now }
         requires free { pass.old.holds ≡ false }
-        ensures take { MatchOption result ((pass.new ≡ pass.old) × WasAway pass.old) (λ value. IsTakenBy pass.old (R.journal value) (R.start value) pass.new) }
+        ensures take { MatchOption result ((pass.new ≡ after_miss pass.old) × WasAway pass.old) (λ value. IsTakenBy pass.old (R.journal value) (R.start value) pass.new) }
         ensures alone { IfNone result (pass.old.thread ≡ 0 → 1 < pass.old.passes) }
     {
-        self.queue.pop_as::<TakesValue, W>(rt, &mut pass.pass)
+        match self.queue.pop_as::<TakesValue, W>(rt, &mut pass.pass) {
+            Some(value) => {
+                pass.borrowed = pass.borrowed.wrapping_add(1);
+                Some(value)
+            }
+            None => {
+                pass.missed = pass.missed.wrapping_add(1);
+                None
+            }
+        }
+    }
+
+    /// Takes the value out of the slot, and waits until it is there. It takes no memory.
+    pub fn take<W: Wait>(&self, rt: &W, pass: &mut SlotPass<R>) -> R
+        requires slot { pass.old.slot ≡ self.now }
+        requires free { pass.old.holds ≡ false }
+        ensures { IsTakenBy (record pass.old { missed = pass.new.missed }) (R.journal result) (R.start result) pass.new }
+    {
+        for _ in rt.forever() {
+            if let Some(value) = self.try_take(rt, pass) {
+                return value;
+            }
+            thread::yield_now();
+        }
+        unreachable!()
     }
 
     /// Gives the value back to the slot, with the rows that this thread added. It is never refused,
@@ -170,7 +209,11 @@ impl<R: Drop + Journaled> Slot<R> {
         ensures { result ≡ record { slot = self; passes = first.passes; start = first.start; wrote = first.wrote ∷ []; seen = first.seen ∷ [] } }
     {
         let Slot { queue } = self;
-        let SlotPass { pass } = first;
+        let SlotPass {
+            pass,
+            borrowed: _,
+            missed: _,
+        } = first;
         SlotSettling { queue, pass }
     }
 }
@@ -183,7 +226,11 @@ impl<R: Drop + Journaled> SlotSettling<R> {
         requires free { other.holds ≡ false }
         ensures { self.new ≡ record self.old { wrote = self.old.wrote ++ other.wrote ∷ []; seen = self.old.seen ++ other.seen ∷ [] } }
     {
-        let SlotPass { pass } = other;
+        let SlotPass {
+            pass,
+            borrowed: _,
+            missed: _,
+        } = other;
         self.queue.absorb::<EndsPass>(&mut self.pass, pass);
     }
 

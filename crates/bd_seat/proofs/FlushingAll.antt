@@ -3,17 +3,19 @@ use Rattle.std.proofs.Common.{◌≡◌, ◌≢◌, ℕ, ◌+◌, ◌<◌, ◌�
 use Rattle.std.proofs.lemmas.List.{get_or_default, get_or-set_same, get_or-set_other}
 use Rattle.bd_turns.specs.declared.queue.Message.{Message}
 use Rattle.bd_ring.specs.Rings.{AreSendsTo, Place, Sender}
-use Rattle.bd_seat.specs.Outgoing.{Flushed, FlushedIf}
+use Rattle.bd_seat.specs.Outgoing.{Flushed, FlushedIf, IsServed}
 
--- the queues below this one were flushed, and the others stayed
+-- the queues below this one were flushed and served, and the others stayed
 pub record FlushedBelow (n me stamp : ℕ) (sends : List Sender) (queues : List (List Message)) (sends' : List Sender) (queues' : List (List Message)) : Type 0 where
   pub done : (k : ℕ) (d : Sender) → k < n → FlushedIf (k == me) stamp (slice_index_or sends k d) (slice_index_or queues k []) (slice_index_or sends' k d) (slice_index_or queues' k [])
+  pub served : (k : ℕ) (d : Sender) → k < n → k ≢ me → IsServed (slice_index_or sends k d) (slice_index_or sends' k d) (slice_index_or queues' k [])
   pub rest : (k : ℕ) (d : Sender) → n ≤ k → slice_index_or sends' k d ≡ slice_index_or sends k d
   pub rest_queues : (k : ℕ) → n ≤ k → slice_index_or queues' k [] ≡ slice_index_or queues k []
 
 pub none_flushed : (me stamp : ℕ) (sends : List Sender) (queues : List (List Message)) → FlushedBelow 0 me stamp sends queues sends queues
 none_flushed me stamp sends queues = record {
   done = λ k d lt. absurd (omega arith);
+  served = λ k d lt ne. absurd (omega arith);
   rest = λ k d le. refl;
   rest_queues = λ k le. refl;
 }
@@ -34,6 +36,7 @@ pub own_stays : (n me stamp : ℕ) (sends : List Sender) (queues : List (List Me
 own_stays n me stamp sends queues sends' queues' same f = record {
   done = λ k d lt. upto {P = λ j. FlushedIf (j == me) stamp (slice_index_or sends j d) (slice_index_or queues j []) (slice_index_or sends' j d) (slice_index_or queues' j [])} n k lt (λ j below. f.done j d below)
       (subst (λ (b : Bool). FlushedIf b stamp (slice_index_or sends n d) (slice_index_or queues n []) (slice_index_or sends' n d) (slice_index_or queues' n [])) (sym (eq-eqb n me same)) (f.rest n d (omega arith), f.rest_queues n (omega arith)));
+  served = λ k d lt ne. f.served k d (let other : k ≢ n = λ is. ne (is ∙ same) in omega arith) ne;
   rest = λ k d le. f.rest k d (omega arith);
   rest_queues = λ k le. f.rest_queues k (omega arith);
 }
@@ -44,9 +47,10 @@ pub next_flushed : (n me stamp : ℕ) (sends : List Sender) (queues : List (List
     → n < length queues'
     → s ≡ slice_index_or sends' n s
     → Flushed stamp s (slice_index_or queues' n []) s' q'
+    → IsServed s s' q'
     → FlushedBelow n me stamp sends queues sends' queues'
     → FlushedBelow (n + 1) me stamp sends queues (slice_set sends' n s') (slice_set queues' n q')
-next_flushed n me stamp sends queues sends' queues' s s' q' other lt lt-queues s-is flushed f = record {
+next_flushed n me stamp sends queues sends' queues' s s' q' other lt lt-queues s-is flushed served f = record {
   done = λ k d below. upto {P = λ j. FlushedIf (j == me) stamp (slice_index_or sends j d) (slice_index_or queues j []) (slice_index_or (slice_set sends' n s') j d) (slice_index_or (slice_set queues' n q') j [])} n k below
       (λ j lower. let ne : j ≢ n = (λ same. absurd (omega arith)) in
       subst (λ (x : Sender). FlushedIf (j == me) stamp (slice_index_or sends j d) (slice_index_or queues j []) x (slice_index_or (slice_set queues' n q') j [])) (sym (get_or-set_other sends' n j s' d ne))
@@ -56,6 +60,14 @@ next_flushed n me stamp sends queues sends' queues' s s' q' other lt lt-queues s
       (subst (λ (ms : List Message). Flushed stamp (slice_index_or sends n d) (slice_index_or queues n []) s' ms) (sym (get_or-set_same queues' n q' [] lt-queues))
       (subst (λ (x : Sender). Flushed stamp x (slice_index_or queues n []) s' q') (s-is ∙ get_or_default sends' n s d lt ∙ f.rest n d (omega arith))
       (subst (λ (ms : List Message). Flushed stamp s ms s' q') (f.rest_queues n (omega arith)) flushed)))));
+  served = λ k d below ne. upto {P = λ j. j ≢ me → IsServed (slice_index_or sends j d) (slice_index_or (slice_set sends' n s') j d) (slice_index_or (slice_set queues' n q') j [])} n k below
+      (λ j lower other_me. let apart : j ≢ n = (λ same. absurd (omega arith)) in
+      subst (λ (x : Sender). IsServed (slice_index_or sends j d) x (slice_index_or (slice_set queues' n q') j [])) (sym (get_or-set_other sends' n j s' d apart))
+      (subst (λ (ms : List Message). IsServed (slice_index_or sends j d) (slice_index_or sends' j d) ms) (sym (get_or-set_other queues' n j q' [] apart)) (f.served j d lower other_me)))
+      (λ other_me. subst (λ (x : Sender). IsServed (slice_index_or sends n d) x (slice_index_or (slice_set queues' n q') n [])) (sym (get_or-set_same sends' n s' d lt))
+      (subst (λ (ms : List Message). IsServed (slice_index_or sends n d) s' ms) (sym (get_or-set_same queues' n q' [] lt-queues))
+      (subst (λ (x : Sender). IsServed x s' q') (s-is ∙ get_or_default sends' n s d lt ∙ f.rest n d (omega arith)) served)))
+      ne;
   rest = λ k d le. get_or-set_other sends' n k s' d (λ same. absurd (omega arith)) ∙ f.rest k d (omega arith);
   rest_queues = λ k le. get_or-set_other queues' n k q' [] (λ same. absurd (omega arith)) ∙ f.rest_queues k (omega arith);
 }

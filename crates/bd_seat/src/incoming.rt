@@ -36,7 +36,7 @@ pub fn fetch<W: Wait>(
     requires me { me < vec_len queues.old }
     requires ring { pass.old.ring ≡ ring.now.ring }
     ensures fetched { OnOk result (Fetched me pass.old log.old queues.old.items pass.new log.new queues.new.items) }
-    ensures all { OnOk result (HasFetchedAll me pass.new queues.new.items) }
+    ensures all { OnOk result (HasFetchedAll me pass.old pass.new queues.new.items) }
     ensures len { vec_len queues.new ≡ vec_len queues.old }
 {
     for _ in rt.forever() {

@@ -1,7 +1,7 @@
 //! What a thread puts to another: the messages of its queue to that thread, put into the ring.
 ghost use Rattle.std.specs.Prelude.{◌≡◌, length, vec_len, IfOk, OnOk};
 ghost use Rattle.bd_ring.specs.Rings.{AreSendsTo};
-ghost use Rattle.bd_seat.specs.Outgoing.{has_next, Flushed, FlushedAll, FlushedOne, HasFlushedAll};
+ghost use Rattle.bd_seat.specs.Outgoing.{has_next, AreServed, Flushed, FlushedAll, FlushedOne, HasFlushedAll, IsServed};
 
 use bd_base::OutOfMemory;
 use bd_links::Queue;
@@ -63,6 +63,7 @@ pub fn flush<W: Wait>(
     requires { pass.old.ring ≡ ring.now.ring }
     ensures flushed { OnOk result (Flushed stamp pass.old queue.old pass.new queue.new) }
     ensures all { OnOk result (HasFlushedAll ring.now pass.new queue.new) }
+    ensures served { OnOk result (IsServed pass.old pass.new queue.new) }
 {
     if queue.len() == 0 {
         return Ok(());
@@ -75,8 +76,8 @@ pub fn flush<W: Wait>(
     unreachable!()
 }
 
-/// Puts what goes to other threads into their rings, queue by queue as `flush` does. A ring that is full
-/// holds up no other; what the thread put to itself stays in its queue. Out of memory a message may be
+/// Puts what goes to other threads into their rings, queue by queue as `flush` does, each as far as its ring
+/// has room. A ring that is full holds up no other; what the thread put to itself stays in its queue. Out of memory a message may be
 /// lost, and the thread has to halt.
 pub fn flush_all<W: Wait>(
     rt: &W,
@@ -90,6 +91,7 @@ pub fn flush_all<W: Wait>(
     requires sends { vec_len sends.old ≡ vec_len queues.old }
     requires each { AreSendsTo rings.now sends.old.items }
     ensures flushed { OnOk result (FlushedAll me stamp sends.old.items queues.old.items sends.new.items queues.new.items) }
+    ensures all { OnOk result (AreServed me sends.old.items sends.new.items queues.new.items) }
     ensures queues { vec_len queues.new ≡ vec_len queues.old }
     ensures sends { vec_len sends.new ≡ vec_len sends.old }
 {

@@ -51,7 +51,7 @@ pub delivered : (n : ℕ) (w : Wires) (xs ys : List Passes) → n ≡ length xs 
 delivered n w xs ys len linked r drained s t p q at_s at_t =
     let back = kept ys xs (rest-back xs ys r.rest) t q at_t in
     let q' = back.0 in
-    let none : Sender = record { ring = q.take.ring; senders = 0; number = 0; put = [] } in
+    let none : Sender = record { ring = q.take.ring; senders = 0; number = 0; put = []; refused = 0 } in
     let within = slice_get_within xs t q at_t in
     let many = (linked.1 s p at_s).sends in
     let items = p.sends.ok.0 in

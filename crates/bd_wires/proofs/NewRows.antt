@@ -16,7 +16,7 @@ use Rattle.bd_wires.proofs.Exchanging.{kept, rest-length, send_some}
 
 -- one more ring
 pub new_rows_more : (threads : ℕ) (rings : List Place) (rows : List Passes) (ring : Place) (q : Passes) → length rows ≡ length rings → AreNewRows threads rings rows
-    → q.take ≡ record { ring = ring.ring; senders = threads; taken = [] } → q.sends.items ≡ new_senders ring.ring threads → AreNewRows threads (rings ++ ring ∷ []) (rows ++ q ∷ [])
+    → q.take ≡ record { ring = ring.ring; senders = threads; taken = []; missed = 0 } → q.sends.items ≡ new_senders ring.ring threads → AreNewRows threads (rings ++ ring ∷ []) (rows ++ q ∷ [])
 new_rows_more threads rings rows ring q len h take sends = λ t p at.
     let within = slice_get_within (rows ++ q ∷ []) t p at in
     let more = length_push rows q in
@@ -25,20 +25,20 @@ new_rows_more threads rings rows ring q len h take sends = λ t p at.
     let old = h t p (sym (slice_get-push_before rows q t lt) ∙ at) in
     let lt' : t < length rings = omega arith in
     record {
-      take = λ d. old.take d ∙ ap (λ (r : Place). record { ring = r.ring; senders = threads; taken = [] }) (sym (get_or_append_left rings (ring ∷ []) d t lt'));
+      take = λ d. old.take d ∙ ap (λ (r : Place). record { ring = r.ring; senders = threads; taken = []; missed = 0 }) (sym (get_or_append_left rings (ring ∷ []) d t lt'));
       sends = λ d. old.sends d ∙ ap (λ (r : Place). new_senders r.ring threads) (sym (get_or_append_left rings (ring ∷ []) d t lt'));
     })
     (λ (is : t ≡ length rows).
     let same = same_Some q p (sym (slice_get-push rows q) ∙ ap (λ k. slice_get (rows ++ q ∷ []) k) (sym is) ∙ at) in
     let here : length rings ≡ t = sym len ∙ sym is in
     subst (IsNewRow threads (rings ++ ring ∷ []) t) same (record {
-      take = λ d. take ∙ ap (λ (r : Place). record { ring = r.ring; senders = threads; taken = [] }) (sym (get_or_push rings ring d t here));
+      take = λ d. take ∙ ap (λ (r : Place). record { ring = r.ring; senders = threads; taken = []; missed = 0 }) (sym (get_or_push rings ring d t here));
       sends = λ d. sends ∙ ap (λ (r : Place). new_senders r.ring threads) (sym (get_or_push rings ring d t here));
     }))
     (below_or_at t (length rows) (omega arith))
 
 abbrev pub new_sender : Place → ℕ → ℕ → Sender
-new_sender r senders k = record { ring = r.ring; senders = senders; number = k; put = [] }
+new_sender r senders k = record { ring = r.ring; senders = senders; number = k; put = []; refused = 0 }
 
 length-first : (r : Place) (senders n : ℕ) → length (first_senders r.ring senders n) ≡ n
 length-first r senders zero = refl

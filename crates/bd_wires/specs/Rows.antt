@@ -8,7 +8,7 @@ use Rattle.bd_wires.specs.declared.wires.Wires.{Wires}
 
 -- the passes of a new ring
 pub record IsNewRow (threads : ℕ) (rings : List Place) (t : ℕ) (q : Passes) : Type 0 where
-  pub take : (d : Place) → q.take ≡ record { ring = (slice_index_or rings t d).ring; senders = threads; taken = [] }
+  pub take : (d : Place) → q.take ≡ record { ring = (slice_index_or rings t d).ring; senders = threads; taken = []; missed = 0 }
   pub sends : (d : Place) → q.sends.items ≡ new_senders (slice_index_or rings t d).ring threads
 
 abbrev pub AreNewRows : ℕ → List Place → List Passes → Type 0

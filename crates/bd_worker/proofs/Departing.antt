@@ -50,7 +50,7 @@ module _ {D : Type 0} (state : D → DiskState) (w : Wires) (s : Seat D) (links 
 
   -- for what isn't there
   abbrev nobody : Sender
-  nobody = record { ring = s.passes.take.ring; senders = 0; number = 0; put = [] }
+  nobody = record { ring = s.passes.take.ring; senders = 0; number = 0; put = []; refused = 0 }
 
   abbrev old-send : ℕ → Sender
   old-send r = slice_index_or s.passes.sends.items r nobody

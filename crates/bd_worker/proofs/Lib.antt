@@ -10,4 +10,5 @@ pub mod Lent
 pub mod Telling
 pub mod Waiting
 pub mod Shut
+pub mod Missing
 pub mod Stepping

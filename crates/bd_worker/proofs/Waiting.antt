@@ -2,7 +2,6 @@
 use Rattle.std.proofs.Common.{◌≡◌, ℕ, false, List, [], ◌⊎◌, inl, inr, sym, ◌∙◌, ap, subst}
 use Rattle.bd_base.specs.declared.act.Entry.{Entry}
 use Rattle.bd_registry.specs.State.{Registered}
-use Rattle.bd_ring.specs.Slots.{WasAway}
 use Rattle.bd_thread.specs.declared.links.Links.{Links}
 use Rattle.bd_thread.specs.declared.thread.Thread.{Thread}
 use Rattle.bd_thread.specs.declared.turn.Turned.{Turned}
@@ -12,7 +11,7 @@ use Rattle.bd_thread.specs.Waits.{IsWaiting, Quiets}
 use Rattle.bd_thread.specs.Work.{wants_registry, IsWaitingAlone, QuietsAlone}
 use Rattle.bd_worker.specs.declared.seat.Seat.{Seat}
 use Rattle.bd_worker.specs.declared.worker.Worker.{Worker}
-use Rattle.bd_worker.specs.Waits.{begun_seat, Idles, IdlesAlone, IdlesWith, QuietTurns, Receives, Sends}
+use Rattle.bd_worker.specs.Waits.{begun_seat, HasBorrowed, HasNoRegistry, Idles, IdlesAlone, IdlesWith, QuietTurns, Receives, Sends}
 
 -- ---- a worker
 
@@ -51,13 +50,13 @@ idles_with lent old new r t l (Moved n) empty state q thread links = tt
 
 -- ---- a seat
 
-pub idles_unlent : {D : Type 0} → (old new : Seat D) (turned : Turned) → (wants_registry old.worker.thread old.worker.links ≡ false) ⊎ WasAway old.passes.slot → IdlesAlone old.worker new.worker turned → Idles old new turned
+pub idles_unlent : {D : Type 0} → (old new : Seat D) (turned : Turned) → HasNoRegistry old new → IdlesAlone old.worker new.worker turned → Idles old new turned
 idles_unlent old new Quiet why q = inl (why, q)
 idles_unlent old new (Moved n) why q = tt
 
-pub idles_lent : {D : Type 0} → (old new : Seat D) (turned : Turned) → ((lent : Registered) × IdlesWith lent old.worker new.worker turned) → Idles old new turned
-idles_lent old new Quiet q = inr q
-idles_lent old new (Moved n) q = tt
+pub idles_lent : {D : Type 0} → (old new : Seat D) (turned : Turned) → HasBorrowed old new → ((lent : Registered) × IdlesWith lent old.worker new.worker turned) → Idles old new turned
+idles_lent old new Quiet had q = inr (had, q)
+idles_lent old new (Moved n) had q = tt
 
 pub turns_quietly : {D : Type 0} → (now : ℕ) (old came still new : Seat D) (turned : Turned) → Receives old came → Idles (begun_seat now came) still turned → Sends still new → QuietTurns now old new turned
 turns_quietly now old came still new Quiet receives idle sends = record { came = came; still = still; receives = receives; idle = idle; sends = sends }

@@ -1,7 +1,5 @@
 //! How a thread at its seat is shut down.
-ghost use Rattle.std.specs.Prelude.{◌≡◌, ◌≢◌, ◌<◌, false, IfOk};
-ghost use Rattle.bd_registry.specs.State.{start_of};
-ghost use Rattle.bd_ring.specs.Slots.{IsTakenBy};
+ghost use Rattle.std.specs.Prelude.{◌≡◌, ◌≢◌, ◌<◌, IfOk};
 ghost use Rattle.bd_worker.specs.Seats.{IsLentTo, IsSitting};
 ghost use Rattle.bd_worker.specs.Shutting.{LearnsShut, Shuts, ShutsWith};
 
@@ -10,12 +8,10 @@ use crate::worker::Worker;
 use bd_base::Act;
 use bd_outside::Disk;
 use bd_registry::Registry;
-use bd_ring::SlotPass;
 use bd_seat::{SeatError, catch_up};
 use bd_wires::Wires;
 use std::alloc::Global;
 use std::sync::Wait;
-use std::thread;
 
 impl<'a> Worker<'a> {
     // Thread 0 shuts down, with the stamp after this one and after all of its log and of the journal of the
@@ -41,21 +37,6 @@ impl<'a> Worker<'a> {
     }
 }
 
-// The registry out of its slot, once it is there.
-fn take<W: Wait>(rt: &W, wires: &Wires, pass: &mut SlotPass<Registry>) -> Registry
-    requires slot { pass.old.slot ≡ wires.now.slot }
-    requires free { pass.old.holds ≡ false }
-    ensures { IsTakenBy pass.old result.journal (start_of result.setup) pass.new }
-{
-    for _ in rt.forever() {
-        if let Some(lent) = wires.slot.try_take(rt, pass) {
-            return lent;
-        }
-        thread::yield_now();
-    }
-    unreachable!()
-}
-
 impl<'a, D: Disk> Seat<'a, D> {
     /// Thread 0 shuts down, with a stamp above this one, which it answers. Where the registry isn't in its slot it waits
     /// until it is.
@@ -71,7 +52,7 @@ impl<'a, D: Disk> Seat<'a, D> {
         ensures shut { IfOk result (λ stamp. (above < stamp) × Shuts D.state wires.now stamp self.old self.new) }
         ensures disks { self.new.disks ≡ self.old.disks }
     {
-        let mut lent = take(rt, wires, &mut self.passes.slot);
+        let mut lent = wires.slot.take(rt, &mut self.passes.slot);
         let stamp = self.worker.shut(alloc, &mut lent, self.seen, above)?;
         self.seen = lent.journal().len();
         wires.slot.give(rt, &mut self.passes.slot, lent);

@@ -109,6 +109,7 @@ impl<'a, D: Disk> Seat<'a, D> {
         ensures turned { IfOk result (Tells (made_by self.old) (made_by self.new)) }
         ensures quiet { IfOk result (IdlesAlone self.old.worker self.new.worker) }
         ensures cause { IfErr result (λ error. HasCause error self.new.worker) }
+        ensures passes { self.new.passes ≡ self.old.passes }
         ensures kept { HasSameDisks D.state self.old self.new }
     {
         self.worker.work(alloc, &mut self.disks)

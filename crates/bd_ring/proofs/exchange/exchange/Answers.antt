@@ -19,7 +19,7 @@ settle-settled-requires-clause-each g c =
 pub settle-settled-requires-clause-all : goal.settle-settled-requires-clause-all
 settle-settled-requires-clause-all g c =
     c.join-sends.ensures.first.0 ∙ c.in_ok-ring.sends.ok.0 ∙ ap length c.in_ok-ring.ensures.sends ∙ length-first_senders c.in_ok-ring.ring.ring c.args.senders c.args.senders
-    ∙ sym (ap (λ (t : Receiver). t.senders) c.join-sends.ensures.second ∙ ap (λ (t : Receiver). t.senders) c.in_ok-ring.ensures.take)
+    ∙ sym (c.join-sends.ensures.second.1 ∙ ap (λ (t : Receiver). t.senders) c.in_ok-ring.ensures.take)
 
 pub returns-in-None-next : goal.returns-in-None-next
 returns-in-None-next g c =

@@ -9,5 +9,6 @@ loop-preserved g c =
     record {
       fetched = fetched_more _ _ _ _ _ _ _ _ _ _ _ c.loop.invariant.fetched took c.in-Some-take.ensures.brings c.in_ok-receive.ensures.pushed c.in_ok-receive.ensures.met;
       ring = ap (λ (t : Receiver). t.ring) took.0 ∙ c.loop.invariant.ring;
+      none = ap (λ (t : Receiver). t.missed) took.0 ∙ c.loop.invariant.none;
       len = c.in_ok-receive.ensures.len ∙ c.loop.invariant.len;
     }

@@ -1,7 +1,6 @@
 use Rattle.std.proofs.Common.{ap, ◌∙◌}
 use Rattle.bd_ring.specs.Slots.{Holder}
 use Rattle.bd_ring.proofs.SlotSteps.{takes, away}
-use Rattle.bd_ring.proofs.Holders.{try_returns}
 use Rattle.bd_ring.proofs.slot.Slot.try_take.Goals as goal
 
 pub pop_as-requires-clause-rule : goal.pop_as-requires-clause-rule
@@ -9,6 +8,3 @@ pop_as-requires-clause-rule g c = (
   takes g.R.Journaled.journal g.R.Journaled.start _ _ c.pass.invariant.1.0 c.pass.invariant.1.1,
   away g.R.Journaled.journal g.R.Journaled.start _ _ c.pass.invariant.1.0 (ap (λ (p : Holder). p.holds) c.pass.view_is ∙ c.requires.free),
 )
-
-pub returns-clause-take : goal.returns-clause-take
-returns-clause-take g c = try_returns g.R.Journaled.journal g.R.Journaled.start _ _ _ _ _ _ c.pop_as.ensures.queue.0 c.pass.view_is c.pass.invariant.1 c.pop_as.ensures.rule

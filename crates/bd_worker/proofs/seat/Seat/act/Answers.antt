@@ -1,4 +1,4 @@
-use Rattle.std.proofs.Common.{◌≡◌, ℕ, Option, inl, inr, subst, rules}
+use Rattle.std.proofs.Common.{◌≡◌, ◌∙◌, ℕ, Option, ap, inl, inr, subst, rules}
 use Rattle.std.proofs.lemmas.Result.{on_ok_weaker, IfOk-weaker}
 use Rattle.bd_thread.specs.declared.turn.Turned.{Turned}
 use Rattle.bd_worker.specs.Seats.{made_by, Tells, TellsIfAny}
@@ -29,15 +29,16 @@ returns-in-None-clause-turned g c =
 
 pub returns-then-not-wants_registry-clause-quiet : goal.returns-then-not-wants_registry-clause-quiet
 returns-then-not-wants_registry-clause-quiet g c =
-    IfOk-weaker c.work.result _ _ (λ turned q. idles_unlent c.args.self.now c.work.new.self turned (inl (search rules)) q) c.work.ensures.quiet
+    IfOk-weaker c.work.result _ _ (λ turned q. idles_unlent c.args.self.now c.work.new.self turned (inl (search rules, c.work.ensures.passes)) q) c.work.ensures.quiet
 
 pub returns-in-Some-clause-quiet : goal.returns-in-Some-clause-quiet
 returns-in-Some-clause-quiet g c =
-    idles_lent c.args.self.now c.borrow.new.self c.in-Some.turned (subst (λ (o : Option Turned). IdlesIfLent c.args.self.now c.borrow.new.self o) c.in-Some.is c.in_ok-turned.ensures.quiet)
+    let q = subst (λ (o : Option Turned). IdlesIfLent c.args.self.now c.borrow.new.self o) c.in-Some.is c.in_ok-turned.ensures.quiet in
+    idles_lent c.args.self.now c.borrow.new.self c.in-Some.turned q.0 q.1
 
 pub returns-in-None-clause-quiet : goal.returns-in-None-clause-quiet
 returns-in-None-clause-quiet g c =
     let s = c.args.self.now in
     let none = subst (λ (o : Option Turned). IdlesIfLent s c.borrow.new.self o) c.in-None.is c.in_ok-turned.ensures.quiet in
     IfOk-weaker c.work-in-None.result _ _
-    (λ turned q. idles_unlent s c.work-in-None.new.self turned (inr none.1) (subst (λ (x : Seat g.row.D.Denot). IdlesAlone x.worker c.work-in-None.new.self.worker turned) none.0 q)) c.work-in-None.ensures.quiet
+    (λ turned q. idles_unlent s c.work-in-None.new.self turned (inr (c.work-in-None.ensures.passes ∙ ap (λ (x : Seat g.row.D.Denot). x.passes) none.0, none.1)) (subst (λ (x : Seat g.row.D.Denot). IdlesAlone x.worker c.work-in-None.new.self.worker turned) none.0 q)) c.work-in-None.ensures.quiet

@@ -12,4 +12,4 @@ pub returns-clause-entries : goal.returns-clause-entries
 returns-clause-entries g c = ap (λ (l : Written). l.entries) c.in_ok-fetch.ensures.fetched.log_is
 
 pub returns-clause-came : goal.returns-clause-came
-returns-clause-came g c = record { fetched = c.in_ok-fetch.ensures.fetched; all = c.in_ok-fetch.ensures.all; links = refl; thread = refl }
+returns-clause-came g c = record { fetched = c.in_ok-fetch.ensures.fetched; all = c.in_ok-fetch.ensures.all; passes = refl; links = refl; thread = refl }

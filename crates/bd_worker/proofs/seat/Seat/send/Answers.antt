@@ -15,6 +15,8 @@ returns-clause-went g c =
     let s = c.args.self.now in
     record {
       flushed = subst (λ (n : ℕ). FlushedAll s.worker.me n s.passes.sends.items s.worker.links.queues.items c.flush_all.new.sends.items c.flush_all.new.queues.items) c.last.ensures c.in_ok-flush_all.ensures.flushed;
+      all = c.in_ok-flush_all.ensures.all;
+      passes = refl;
       links = refl;
       thread = refl;
     }
