@@ -5,4 +5,4 @@ mod visit;
 mod waits;
 
 pub use visit::{mark, refused_visit, remark, uncount, visited};
-pub use waits::is_drained;
+pub use waits::{any_waits, is_drained, is_kept_waiting};

@@ -9,7 +9,8 @@ use bd_blocks::is_below;
 use bd_machine::{Open, OpenList, Part};
 use bd_rule_requests::is_reset;
 
-fn is_kept_waiting(setup: &Setup, dev: DevId, request: &Open) -> bool
+/// Whether the open request is no reset and has the device below.
+pub fn is_kept_waiting(setup: &Setup, dev: DevId, request: &Open) -> bool
     ensures { result ≡ is_kept_waiting setup.now dev request.now }
 {
     !is_reset(request.op) && is_below(setup, request.dev, dev)
@@ -29,8 +30,9 @@ fn any_counted(setup: &Setup, counts: &[usize], dev: DevId) -> bool
     false
 }
 
-// Each device with open requests is asked once, or where they aren't counted, each request.
-fn any_waits(setup: &Setup, requests: &OpenList, dev: DevId) -> bool
+/// Whether one of these open requests is no reset and has the device below: each device with open requests is asked
+/// once, or where they aren't counted, each request.
+pub fn any_waits(setup: &Setup, requests: &OpenList, dev: DevId) -> bool
     ensures { result ≡ list_any (is_kept_waiting setup.now dev) requests.now }
 {
     match requests.counts() {
