@@ -1,5 +1,6 @@
 -- What contracts see of the requests that are held on a thread.
-use Rattle.std.specs.Prelude.{ℕ, List, [], ◌∷◌, Option, Some, None}
+use Rattle.std.specs.Prelude.{ℕ, Bool, nat_le, List, [], ◌∷◌, Option, Some, None}
+use Rattle.std.specs.List.{list_any}
 use Rattle.std.specs.declared.cmp.Ordering.{Ordering}
 use Rattle.std.specs.BTreeMap.{is_at}
 use Rattle.std.specs.BTreeSet.{insert_key}
@@ -37,3 +38,11 @@ held_at key = record { req = record { thread = key.1; seq = key.2 }; until = key
 abbrev pub first_hold : List HoldKey → Option HeldRequest
 first_hold [] = None
 first_hold (key ∷ keys) = Some (held_at key)
+
+-- the request is held until this moment
+abbrev pub has_hold : List HoldKey → ReqId → ℕ → Bool
+has_hold keys req until = list_any (is_at (key_cmp (key_of req until))) keys
+
+-- a hold has ended at this moment
+abbrev pub has_due : ℕ → List HoldKey → Bool
+has_due now keys = list_any (λ (key : HoldKey). nat_le key.0 now) keys

@@ -1,7 +1,7 @@
 //! Held requests, in the order in which their holds end.
-ghost use Rattle.std.specs.Prelude.{◌≡◌, [], All, length, IfSome, OnErr, OnOk};
+ghost use Rattle.std.specs.Prelude.{◌≡◌, ◌∷◌, [], All, length, IfNone, IfSome, OnErr, OnOk};
 ghost use Rattle.std.specs.BTreeMap.Range.{IsLeBy};
-ghost use Rattle.bd_held.specs.Holds.{first_hold, key_cmp, key_of, with_hold, without_hold};
+ghost use Rattle.bd_held.specs.Holds.{first_hold, has_due, has_hold, key_cmp, key_of, with_hold, without_hold};
 
 use bd_base::{OutOfMemory, ReqId};
 use bd_machine::Hold;
@@ -82,6 +82,42 @@ impl Held {
             }),
             None => None,
         }
+    }
+
+    /// Whether the request is held until this moment (microseconds).
+    pub fn has(&self, req: ReqId, until: u64) -> bool
+        ensures { result ≡ has_hold self.now req until }
+    {
+        self.order.contains(&(until, req.thread, req.seq))
+    }
+
+    /// Whether a hold has ended at this moment (microseconds).
+    pub fn is_due(&self, now: u64) -> bool
+        ensures { result ≡ has_due now self.now }
+    {
+        match self.first() {
+            Some(first) => first.until <= now,
+            None => false,
+        }
+    }
+
+    /// Takes out the request whose hold ends first. It takes no memory.
+    pub fn pop_first(&mut self) -> Option<HeldRequest>
+        ensures some { IfSome result (λ h. self.old ≡ key_of h.req h.until ∷ self.new) }
+        ensures none { IfNone result (self.new ≡ self.old) }
+    {
+        let (until, thread, seq) = self.order.pop_first()?;
+        Some(HeldRequest {
+            req: ReqId { thread, seq },
+            until,
+        })
+    }
+
+    /// No request is held any more. It takes no memory.
+    pub fn clear(&mut self)
+        ensures { self.new ≡ [] }
+    {
+        self.order.clear();
     }
 
     /// How many requests are held.

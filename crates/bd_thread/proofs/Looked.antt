@@ -1,5 +1,5 @@
 -- What a thread looks at: it goes on with what the thread does, and all else rests.
-use Rattle.std.proofs.Common.{◌≡◌, ◌⊎◌, inl, inr, ℕ, zero, suc, ◌+◌, ◌-◌, ◌<◌, ◌≤◌, Bool, true, false, cond, not, ◌&&◌, ◌||◌, ◌==◌, nat_le, List, [], ◌∷◌, ◌++◌, drop, take, length, slice_get, Option, Some, None, is_none, refl, sym, ◌∙◌, ap, ap₂, subst, arith}
+use Rattle.std.proofs.Common.{◌≡◌, ◌⊎◌, inl, inr, ℕ, zero, suc, ◌+◌, ◌-◌, ◌<◌, ◌≤◌, Bool, true, false, cond, ◌&&◌, ◌||◌, ◌==◌, nat_le, List, [], ◌∷◌, ◌++◌, drop, take, length, slice_get, Option, Some, None, is_none, refl, sym, ◌∙◌, ap, ap₂, subst, arith}
 use Rattle.std.specs.List.{AllByRecursion, list_any}
 use Rattle.std.proofs.Math.Seq.{drop-length}
 use Rattle.std.proofs.lemmas.Bool.{and_parts, cases_lt}
@@ -19,7 +19,6 @@ use Rattle.bd_machine.specs.declared.state.Hold.TheVariants as holds
 use Rattle.bd_machine.specs.declared.state.Open.{Open}
 use Rattle.bd_machine.specs.declared.state.OpenRequest.{OpenRequest}
 use Rattle.bd_machine.specs.declared.guard.TheConstants.{HOLD_OVER, MAY_HOLD}
-use Rattle.bd_machine.specs.Aborts.{is_held}
 use Rattle.bd_machine.specs.Admission.{has_range}
 use Rattle.bd_machine.specs.Delays.{is_hold_over, may_hold, may_release}
 use Rattle.bd_machine.specs.Kept.{is_at_own, request_here}
@@ -32,10 +31,12 @@ use Rattle.bd_steps.specs.Completions.{ending_in, ends_as}
 use Rattle.bd_steps.specs.Naming.{named_in, number_in, number_of_op}
 use Rattle.bd_steps.specs.Resetting.{event_of, reset_event}
 use Rattle.bd_touched.specs.Looks.{is_looked_at, Looks}
-use Rattle.bd_touched.specs.Reach.{is_reached, is_touched, Covers, TakesIn, Touches}
-use Rattle.bd_touched.specs.Rests.{may_rest, rests, rests_as, RestsById}
-use Rattle.bd_touched.proofs.Looking.{looks_then}
-use Rattle.bd_touched.proofs.Rested.{rest_waits_all}
+use Rattle.bd_touched.specs.Reach.{holds_on, is_reached, is_touched, Covers, KeepsHolds, TakesIn, Touches}
+use Rattle.bd_touched.specs.Rests.{is_on_own, may_rest, rests, rests_as, RestsById}
+use Rattle.bd_touched.proofs.Looking.{all_so, looks_then}
+use Rattle.bd_held.specs.Holds.{has_due, HoldKey}
+use Rattle.bd_touched.proofs.Holding.{not_yet}
+use Rattle.bd_touched.proofs.Rested.{rest_waits_all, rests_or}
 use Rattle.bd_touched.proofs.Waiting.{never_held, waits_so, Waits}
 use Rattle.bd_thread.specs.declared.links.Links.{Links}
 use Rattle.bd_thread.specs.declared.thread.Thread.{Thread}
@@ -95,26 +96,23 @@ no_reset ops.Flush h = refl
 no_reset ops.Reset h = cc
 no_reset (ops.Abort seq) h = refl
 
-not_over : (now times : ℕ) (hold : Hold) → is_held hold ≡ false → is_hold_over now times hold ≡ false
-not_over now times holds.Before h = refl
-not_over now times (holds.Until moment marked) h = cc
-not_over now times holds.Over h = refl
+-- what is held until a moment that hasn't come is held still
+not_over : (now times : ℕ) (keys : List HoldKey) (req : ReqId) (hold : Hold) → has_due now keys ≡ false → holds_on keys req hold ≡ true → is_hold_over now times hold ≡ false
+not_over now times keys req holds.Before early h = refl
+not_over now times keys req (holds.Until moment marked) early h = ap (λ (b : Bool). b && (marked == times)) (not_yet now keys req moment early h)
+not_over now times keys req holds.Over early h = refl
 
 and_false : (b : Bool) → b && false ≡ false
 and_false true = refl
 and_false false = refl
 
-is_not : (b : Bool) → not b ≡ true → b ≡ false
-is_not true h = cc
-is_not false h = refl
-
 -- it can't be carried on, and asks nothing
-module _ (t : Thread) (links : Links) (o : Open) (r : OpenRequest) (here : request_here (view_of t links) o.id ≡ Some r) (may : may_rest t.setup.now t.me (view_of t links) o.id r ≡ true) where
-  plain : (has_range r.op ≡ true) × (not (is_held r.hold) ≡ true)
-  plain = and_parts (has_range r.op) (not (is_held r.hold)) (and_parts (has_range r.op && not (is_held r.hold)) _ may).0
+module _ (t : Thread) (links : Links) (keys : List HoldKey) (early : has_due t.time.moment keys ≡ false) (o : Open) (r : OpenRequest) (here : request_here (view_of t links) o.id ≡ Some r) (may : may_rest t.setup.now t.me (view_of t links) keys o.id r ≡ true) where
+  plain : (has_range r.op ≡ true) × (holds_on keys o.id r.hold ≡ true)
+  plain = and_parts (has_range r.op) (holds_on keys o.id r.hold) (and_parts (has_range r.op && holds_on keys o.id r.hold) _ may).0
 
   waits : Waits t.setup.now t.me (view_of t links) o.id r
-  waits = rest_waits_all t.setup.now t.me (view_of t links) o.id r here may
+  waits = rest_waits_all t.setup.now t.me (view_of t links) keys o.id r here may
 
   step_is : next_step t.setup.now t.me (view_of t links) o.id ≡ steps.Wait
   step_is = ap (step_of t.setup.now t.me (view_of t links) o.id) here ∙ waits_so t.setup.now t.me (view_of t links) o.id r waits
@@ -122,7 +120,7 @@ module _ (t : Thread) (links : Links) (o : Open) (r : OpenRequest) (here : reque
   released_never : may_release_now t links o.id ≡ false
   released_never =
       ap (λ (x : Option OpenRequest). is_none (cond (may_release t.setup.now t.me (view_of t links) o.id t.time.moment x) (let n : Option ℕ = None in n) (Some HOLD_OVER))) here
-      ∙ ap (λ b. is_none (cond (is_at_own t.me o.id r && is_none r.aborted && nat_le t.part.moments.last t.time.moment && b) (let n : Option ℕ = None in n) (Some HOLD_OVER))) (not_over t.time.moment (times_marked t.setup.now t.part r.dev) r.hold (is_not (is_held r.hold) plain.1))
+      ∙ ap (λ b. is_none (cond (is_at_own t.me o.id r && is_none r.aborted && nat_le t.part.moments.last t.time.moment && b) (let n : Option ℕ = None in n) (Some HOLD_OVER))) (not_over t.time.moment (times_marked t.setup.now t.part r.dev) keys o.id r.hold early plain.1)
       ∙ ap (λ b. is_none (cond b (let n : Option ℕ = None in n) (Some HOLD_OVER))) (and_false (is_at_own t.me o.id r && is_none r.aborted && nat_le t.part.moments.last t.time.moment))
 
   held_never : may_hold_until t links o.id (until_of t r) ≡ false
@@ -149,12 +147,12 @@ module _ (t : Thread) (links : Links) (o : Open) (r : OpenRequest) (here : reque
         );
   }
 
-pub rest_stands : (t : Thread) (links : Links) (o : Open) → rests t.setup.now t.me (sight t) o ≡ true → StandsOf false o.id t links
-rest_stands t links o h = go (request_here (view_of t links) o.id) refl h
+pub rest_stands : (t : Thread) (links : Links) (keys : List HoldKey) → has_due t.time.moment keys ≡ false → (o : Open) → rests t.setup.now t.me (sight t) keys o ≡ true → StandsOf false o.id t links
+rest_stands t links keys early o h = go (request_here (view_of t links) o.id) refl h
   where
-    go : (x : Option OpenRequest) → request_here (view_of t links) o.id ≡ x → rests_as t.setup.now t.me (sight t) o x ≡ true → StandsOf false o.id t links
+    go : (x : Option OpenRequest) → request_here (view_of t links) o.id ≡ x → rests_as t.setup.now t.me (sight t) keys o x ≡ true → StandsOf false o.id t links
     go None here k = no_request o.id t links here
-    go (Some r) here k = stands_here t links o r here (and_parts _ (may_rest t.setup.now t.me (view_of t links) o.id r) k).1
+    go (Some r) here k = stands_here t links keys early o r here (and_parts (is_on_own o r) (may_rest t.setup.now t.me (view_of t links) keys o.id r) k).1
 
 -- ---- those that are to be looked at
 
@@ -222,7 +220,7 @@ stands_there reqs place within none = absurd (gone reqs place within none)
 
 -- ---- all open requests
 
-module _ (old new : Touches) (found : Option ReqId) (t : Thread) (links : Links) (named : new.all ≡ false)
+module _ (old new : Touches) (found : Option ReqId) (t : Thread) (links : Links) (early : has_due t.time.moment old.holds ≡ false) (named : new.all ≡ false)
     (same : AllByRecursion (λ (o : Open). is_touched old o.id ≡ true → is_touched new o.id ≡ true) t.part.requests) (stands : StandsNamed found new.reqs t links) where
   listed : (o : Open) → is_touched new o.id ≡ true → StandsAt o.id new.reqs
   listed o h = any_at o.id new.reqs (sym (ap (λ b. b || list_any (λ r. same_request r o.id) new.reqs) named) ∙ h)
@@ -232,9 +230,9 @@ module _ (old new : Touches) (found : Option ReqId) (t : Thread) (links : Links)
       → (StandsAt o.id new.reqs → Q) → (StandsOf false o.id t links → Q) → Q
   one_of {Q} o covers h by_name by_rest = go (is_touched old o.id) refl h
     where
-      go : (b : Bool) → is_touched old o.id ≡ b → b || false || rests t.setup.now t.me (sight t) o ≡ true → Q
+      go : (b : Bool) → is_touched old o.id ≡ b → b || false || rests t.setup.now t.me (sight t) old.holds o ≡ true → Q
       go true e k = by_name (listed o (covers e))
-      go false e k = by_rest (rest_stands t links o k)
+      go false e k = by_rest (rest_stands t links old.holds early o k)
 
   pub stands_looked : StandsBut (LooksAt old) found t links
   stands_looked = record {
@@ -267,14 +265,14 @@ pub look_first : (a : Links) (touched : Touches) (o : Thread) → LooksAt touche
 look_first a touched o looks = subst (λ (es : List Entry). LooksBut es touched o) (sym (drop-length a.entries)) looks
 
 -- as many are named, and perhaps more
-pub look_named : (entries : List Entry) (old new : Touches) (t : Thread) → AllByRecursion (λ (o : Open). is_touched old o.id ≡ true → is_touched new o.id ≡ true) t.part.requests → LooksBut entries old t → LooksBut entries new t
-look_named entries old new t same looks =
+pub look_named : (entries : List Entry) (old new : Touches) (t : Thread) → new.holds ≡ old.holds → AllByRecursion (λ (o : Open). is_touched old o.id ≡ true → is_touched new o.id ≡ true) t.part.requests → LooksBut entries old t → LooksBut entries new t
+look_named entries old new t next same looks =
     all_both (λ (o : Open). is_touched old o.id ≡ true → is_touched new o.id ≡ true) (λ (o : Open). (o.id.thread ≡ t.me) × (is_looked_at t.setup.now t.me entries old (sight t) o ≡ true)) (λ (o : Open). (o.id.thread ≡ t.me) × (is_looked_at t.setup.now t.me entries new (sight t) o ≡ true))
     t.part.requests (λ o covers looked. (looked.0, go o (is_touched old o.id) refl covers looked.1)) same looks
   where
-    go : (o : Open) (b : Bool) → is_touched old o.id ≡ b → (is_touched old o.id ≡ true → is_touched new o.id ≡ true) → b || is_reached t.setup.now entries o || rests t.setup.now t.me (sight t) o ≡ true → is_looked_at t.setup.now t.me entries new (sight t) o ≡ true
-    go o true e covers k = ap (λ x. x || is_reached t.setup.now entries o || rests t.setup.now t.me (sight t) o) (covers e)
-    go o false e covers k = also (is_touched new o.id) (is_reached t.setup.now entries o) (rests t.setup.now t.me (sight t) o) k
+    go : (o : Open) (b : Bool) → is_touched old o.id ≡ b → (is_touched old o.id ≡ true → is_touched new o.id ≡ true) → b || is_reached t.setup.now entries o || rests t.setup.now t.me (sight t) old.holds o ≡ true → is_looked_at t.setup.now t.me entries new (sight t) o ≡ true
+    go o true e covers k = ap (λ x. x || is_reached t.setup.now entries o || rests t.setup.now t.me (sight t) new.holds o) (covers e)
+    go o false e covers k = subst (λ (n : List HoldKey). is_touched new o.id || is_reached t.setup.now entries o || rests t.setup.now t.me (sight t) n o ≡ true) (sym next) (also (is_touched new o.id) (is_reached t.setup.now entries o) (rests t.setup.now t.me (sight t) old.holds o) k)
       where
         also : (a b c : Bool) → b || c ≡ true → a || b || c ≡ true
         also true b c h = refl
@@ -311,15 +309,16 @@ the_open (y ∷ ys) (suc place) x distinct at = (λ same. absurd (elsewhere ys p
         later true b h = cc
         later false b h = h
 
-module _ (entries : List Entry) (x y : Touches) (req : ReqId) (t : Thread) (all : y.all ≡ x.all) (first : x.reqs ≡ req ∷ y.reqs) where
+module _ (entries : List Entry) (x y : Touches) (req : ReqId) (t : Thread) (all : y.all ≡ x.all) (first : x.reqs ≡ req ∷ y.reqs) (kept : y.holds ≡ x.holds) where
   -- what was to be looked at is that request, or is so still
   split : (o : Open) → is_touched x o.id ≡ (y.all || (same_request req o.id || list_any (λ r. same_request r o.id) y.reqs))
   split o = ap₂ (λ (b : Bool) (rs : List ReqId). b || list_any (λ r. same_request r o.id) rs) (sym all) first
 
   -- it rests
-  pub look_settled : KeepsTickets t → RestsById t.setup.now t.me (sight t) t.part.requests req → LooksBut entries x t → LooksBut entries y t
+  pub look_settled : KeepsTickets t → RestsById t.setup.now t.me (sight t) t.part.requests req y.holds → LooksBut entries x t → LooksBut entries y t
   look_settled keeps by looks =
-      all_both (λ (o : Open). same_request by.open_at.id o.id ≡ true → o ≡ by.open_at) (λ (o : Open). (o.id.thread ≡ t.me) × (is_looked_at t.setup.now t.me entries x (sight t) o ≡ true)) (λ (o : Open). (o.id.thread ≡ t.me) × (is_looked_at t.setup.now t.me entries y (sight t) o ≡ true))
+      all_both (λ (o : Open). same_request by.open_at.id o.id ≡ true → o ≡ by.open_at) (λ (o : Open). (o.id.thread ≡ t.me) × (is_looked_at t.setup.now t.me entries x (sight t) o ≡ true))
+      (λ (o : Open). (o.id.thread ≡ t.me) × (is_looked_at t.setup.now t.me entries y (sight t) o ≡ true))
       t.part.requests (λ o only looked. (looked.0, go o only (same_request req o.id) refl looked.1)) (the_open t.part.requests by.place by.open_at keeps.distinct by.at) looks
     where
       third : (a b c : Bool) → c ≡ true → a || b || c ≡ true
@@ -327,16 +326,19 @@ module _ (entries : List Entry) (x y : Touches) (req : ReqId) (t : Thread) (all 
       third false true c h = refl
       third false false c h = h
 
-      go : (o : Open) → (same_request by.open_at.id o.id ≡ true → o ≡ by.open_at) → (b : Bool) → same_request req o.id ≡ b → is_looked_at t.setup.now t.me entries x (sight t) o ≡ true → is_looked_at t.setup.now t.me entries y (sight t) o ≡ true
+      go : (o : Open) → (same_request by.open_at.id o.id ≡ true → o ≡ by.open_at) → (b : Bool) → same_request req o.id ≡ b → is_looked_at t.setup.now t.me entries x (sight t) o ≡ true
+          → is_looked_at t.setup.now t.me entries y (sight t) o ≡ true
       go o only true e k =
           let is : o ≡ by.open_at = only (ap (λ (r : ReqId). same_request r o.id) by.named ∙ e) in
-          third (is_touched y o.id) (is_reached t.setup.now entries o) (rests t.setup.now t.me (sight t) o) (subst (λ (z : Open). rests t.setup.now t.me (sight t) z ≡ true) (sym is) by.rests_so)
+          third (is_touched y o.id) (is_reached t.setup.now entries o) (rests t.setup.now t.me (sight t) y.holds o)
+          (subst (λ (z : Open). rests t.setup.now t.me (sight t) y.holds z ≡ true) (sym is) by.rests_so)
       go o only false e k =
-          ap (λ b. b || is_reached t.setup.now entries o || rests t.setup.now t.me (sight t) o) (sym (split o ∙ ap (λ b. y.all || (b || list_any (λ r. same_request r o.id) y.reqs)) e)) ∙ k
+          ap (λ (n : List HoldKey). is_touched y o.id || is_reached t.setup.now entries o || rests t.setup.now t.me (sight t) n o) kept
+          ∙ ap (λ b. b || is_reached t.setup.now entries o || rests t.setup.now t.me (sight t) x.holds o) (sym (split o ∙ ap (λ b. y.all || (b || list_any (λ r. same_request r o.id) y.reqs)) e)) ∙ k
 
   -- it is to be looked at again
-  pub look_again : (z : Touches) → Covers y z → is_touched z req ≡ true → LooksBut entries x t → LooksBut entries z t
-  look_again z covers named looks = look_named entries x z t (each t.part.requests) looks
+  pub look_again : (z : Touches) → z.holds ≡ y.holds → Covers y z → is_touched z req ≡ true → LooksBut entries x t → LooksBut entries z t
+  look_again z stays covers named looks = look_named entries x z t (stays ∙ kept) (each t.part.requests) looks
     where
       by_parts : (o : Open) (b : Bool) → same_request req o.id ≡ b → is_touched x o.id ≡ true → is_touched z o.id ≡ true
       by_parts o true e h = subst (λ (r : ReqId). is_touched z r ≡ true) (request_same.exact req o.id e) named
@@ -347,34 +349,53 @@ module _ (entries : List Entry) (x y : Touches) (req : ReqId) (t : Thread) (all 
       each (o ∷ os) = (by_parts o (same_request req o.id) refl, each os)
 
 -- one that rests by all that the thread sees
-pub look_rested : (t : Thread) (links : Links) (v : View) (requests : List Open) (req : ReqId) → v ≡ view_of t links → requests ≡ t.part.requests → RestsById t.setup.now t.me v requests req → RestsById t.setup.now t.me (sight t) t.part.requests req
-look_rested t links v requests req seen listed by =
-    let b : RestsById t.setup.now t.me (view_of t links) t.part.requests req = subst (λ (w : View). RestsById t.setup.now t.me w t.part.requests req) seen (subst (λ (os : List Open). RestsById t.setup.now t.me v os req) listed by) in
+pub look_rested : (t : Thread) (links : Links) (v : View) (req : ReqId) (keys : List HoldKey) → v ≡ view_of t links → RestsById t.setup.now t.me v v.part.requests req keys → RestsById t.setup.now t.me (sight t) t.part.requests req keys
+look_rested t links v req keys seen by =
+    let b : RestsById t.setup.now t.me (view_of t links) t.part.requests req keys = subst (λ (w : View). RestsById t.setup.now t.me w w.part.requests req keys) seen by in
     record { place = b.place; open_at = b.open_at; at = b.at; named = b.named; rests_so = b.rests_so }
 
 -- the same is to be looked at
-pub look_same : (entries : List Entry) (x y : Touches) (t : Thread) → y.all ≡ x.all → y.reqs ≡ x.reqs → LooksBut entries x t → LooksBut entries y t
-look_same entries x y t all reqs looks = subst (λ (z : Touches). LooksBut entries z t) (ap₂ (λ (b : Bool) (rs : List ReqId). let z : Touches = record { all = b; reqs = rs } in z) (sym all) (sym reqs)) looks
+pub look_same : (entries : List Entry) (x y : Touches) (t : Thread) → y.all ≡ x.all → y.reqs ≡ x.reqs → y.holds ≡ x.holds → LooksBut entries x t → LooksBut entries y t
+look_same entries x y t all reqs kept looks =
+    subst (λ (z : Touches). LooksBut entries z t)
+    (ap₂ (λ (b : Bool) (rs : List ReqId). let z : Touches = record { all = b; reqs = rs; holds = x.holds } in z) (sym all) (sym reqs) ∙ ap (λ (n : List HoldKey). let z : Touches = record { all = y.all; reqs = y.reqs; holds = n } in z) (sym kept)) looks
+
+-- what was to be looked at is so still, and what rested rests or is to be looked at
+pub look_expired : (entries : List Entry) (old new : Touches) (t : Thread) → Covers old new → KeepsHolds old new → LooksBut entries old t → LooksBut entries new t
+look_expired entries old new t covers keeps looks =
+    all_so (λ (o : Open). (o.id.thread ≡ t.me) × (is_looked_at t.setup.now t.me entries old (sight t) o ≡ true)) (λ (o : Open). (o.id.thread ≡ t.me) × (is_looked_at t.setup.now t.me entries new (sight t) o ≡ true))
+    t.part.requests (λ o h. (h.0, go o (is_touched old o.id) (is_reached t.setup.now entries o) refl refl h.1)) looks
+  where
+    second : (a b c : Bool) → b ≡ true → a || b || c ≡ true
+    second true b c h = refl
+    second false true c h = refl
+    second false false c h = cc
+
+    outer : (a b c : Bool) → a || c ≡ true → a || b || c ≡ true
+    outer true b c h = refl
+    outer false true c h = refl
+    outer false false c h = h
+
+    go : (o : Open) (a b : Bool) → is_touched old o.id ≡ a → is_reached t.setup.now entries o ≡ b → a || b || rests t.setup.now t.me (sight t) old.holds o ≡ true → is_looked_at t.setup.now t.me entries new (sight t) o ≡ true
+    go o true b p q k = ap (λ x. x || is_reached t.setup.now entries o || rests t.setup.now t.me (sight t) new.holds o) (covers o.id p)
+    go o false true p q k = second (is_touched new o.id) (is_reached t.setup.now entries o) (rests t.setup.now t.me (sight t) new.holds o) q
+    go o false false p q k = outer (is_touched new o.id) (is_reached t.setup.now entries o) (rests t.setup.now t.me (sight t) new.holds o) (rests_or t.setup.now t.me (sight t) old new o keeps k)
 
 -- what the entries reach is to be looked at too
-pub look_taken : (entries : List Entry) (old new : Touches) (t : Thread) → TakesIn t.setup.now t.me t.part.requests entries old new → LooksBut entries old t → LooksAt new t
-look_taken entries old new t taken looks =
+pub look_taken : (entries : List Entry) (old new : Touches) (t : Thread) → TakesIn t.setup.now t.me t.part.requests entries old new → KeepsHolds old new → LooksBut entries old t → LooksAt new t
+look_taken entries old new t taken keeps looks =
     all_both (λ (o : Open). o.id.thread ≡ t.me → is_touched old o.id || is_reached t.setup.now entries o ≡ true → is_touched new o.id ≡ true) (λ (o : Open). (o.id.thread ≡ t.me) × (is_looked_at t.setup.now t.me entries old (sight t) o ≡ true))
     (λ (o : Open). (o.id.thread ≡ t.me) × (is_looked_at t.setup.now t.me [] new (sight t) o ≡ true))
-    t.part.requests (λ o takes looked. (looked.0, go o (is_touched old o.id) (is_reached t.setup.now entries o) refl refl (takes looked.0) looked.1)) taken looks
+    t.part.requests (λ o takes looked. (looked.0, go o (is_touched old o.id || is_reached t.setup.now entries o) refl (takes looked.0) looked.1)) taken looks
   where
-    named : (o : Open) → is_touched new o.id ≡ true → is_looked_at t.setup.now t.me [] new (sight t) o ≡ true
-    named o h = ap (λ b. b || is_reached t.setup.now [] o || rests t.setup.now t.me (sight t) o) h
+    outer : (a c : Bool) → a || c ≡ true → a || false || c ≡ true
+    outer true c h = refl
+    outer false c h = h
 
-    last : (a c : Bool) → c ≡ true → a || false || c ≡ true
-    last true c h = refl
-    last false c h = h
-
-    go : (o : Open) (a b : Bool) → is_touched old o.id ≡ a → is_reached t.setup.now entries o ≡ b → (is_touched old o.id || is_reached t.setup.now entries o ≡ true → is_touched new o.id ≡ true)
-        → a || b || rests t.setup.now t.me (sight t) o ≡ true → is_looked_at t.setup.now t.me [] new (sight t) o ≡ true
-    go o true b e f takes k = named o (takes (ap (λ x. x || is_reached t.setup.now entries o) e))
-    go o false true e f takes k = named o (takes (ap₂ (λ x y. x || y) e f))
-    go o false false e f takes k = last (is_touched new o.id) (rests t.setup.now t.me (sight t) o) k
+    go : (o : Open) (b : Bool) → is_touched old o.id || is_reached t.setup.now entries o ≡ b → (is_touched old o.id || is_reached t.setup.now entries o ≡ true → is_touched new o.id ≡ true)
+        → b || rests t.setup.now t.me (sight t) old.holds o ≡ true → is_looked_at t.setup.now t.me [] new (sight t) o ≡ true
+    go o true e takes k = ap (λ b. b || false || rests t.setup.now t.me (sight t) new.holds o) (takes e)
+    go o false e takes k = outer (is_touched new o.id) (rests t.setup.now t.me (sight t) new.holds o) (rests_or t.setup.now t.me (sight t) old new o keeps k)
 
 -- the last entries, as many as there are from a number on
 pub take_rest : (count : ℕ) (entries : List Entry) → take (length entries - count) (drop count entries) ≡ drop count entries

@@ -40,6 +40,7 @@ use Rattle.bd_machine.specs.Marks.{marking_of}
 use Rattle.bd_machine.specs.Same.{same_request}
 use Rattle.bd_machine.proofs.Tables.{request_same}
 use Rattle.bd_touched.specs.Looks.{is_looked_at}
+use Rattle.bd_held.specs.Holds.{HoldKey}
 use Rattle.bd_touched.specs.Reach.{is_touched, Covers}
 use Rattle.bd_touched.specs.Rests.{rests}
 use Rattle.bd_touched.proofs.Looking.{all_so}
@@ -186,8 +187,8 @@ served_as_tickets old before new after req k dev end read s keeps =
 
 -- its request is to be looked at, and of the others nothing changed
 pub served_as_looks : (old : Thread) (before : Links) (new : Thread) (after : Links) (req : ReqId) (k : ℕ) (dev : DevId) (end : ApplyEnd) (read : Option (List ℕ)) → IsServedAs req k dev end read old before new after
-    → Covers old.touched new.touched → is_touched new.touched req ≡ true → IsLookedAfter old → IsLookedAfter new
-served_as_looks old before new after req k dev end read s covers named looks =
+    → new.touched.holds ≡ old.touched.holds → Covers old.touched new.touched → is_touched new.touched req ≡ true → IsLookedAfter old → IsLookedAfter new
+served_as_looks old before new after req k dev end read s kept covers named looks =
     subst (λ (os : List Open). AllByRecursion (λ (o : Open). (o.id.thread ≡ new.me) × (is_looked_at new.setup.now new.me [] new.touched (sight new) o ≡ true)) os) (sym (ap (λ (t : Thread). t.part.requests) s.thread))
     (all_so (λ (o : Open). (o.id.thread ≡ old.me) × (is_looked_at old.setup.now old.me [] old.touched (sight old) o ≡ true)) (λ (o : Open). (o.id.thread ≡ new.me) × (is_looked_at new.setup.now new.me [] new.touched (sight new) o ≡ true))
     old.part.requests (λ o h. (h.0 ∙ sym (ap (λ (t : Thread). t.me) s.thread), by_name o (same_request req o.id) refl h.1)) looks)
@@ -196,24 +197,25 @@ served_as_looks old before new after req k dev end read s covers named looks =
     alike o other = record {
       request = ap (λ (here : Id → Option Kept). here (ids.Request o.id)) s.held;
       piece = λ j. ap (λ (here : Id → Option Kept). here (ids.Piece o.id j)) s.held ∙ ap (λ b. cond (b && (k == j)) (Some (keeps.Piece (served_as end read s.piece))) (here_in old.held.items (ids.Piece o.id j))) other;
-      marks = λ d lower. ap (λ (t : Thread). marking_of t.part d) s.thread;
+      marks = λ work d lower. ap (λ (t : Thread). marking_of t.part d) s.thread;
     }
 
-    rested : (o : Open) → same_request req o.id ≡ false → rests old.setup.now old.me (sight old) o ≡ true → rests new.setup.now new.me (sight new) o ≡ true
+    rested : (o : Open) → same_request req o.id ≡ false → rests old.setup.now old.me (sight old) old.touched.holds o ≡ true → rests new.setup.now new.me (sight new) new.touched.holds o ≡ true
     rested o other h =
-        ap₂ (λ (x : Setup) (u : ℕ). rests x u (sight new) o) (ap (λ (t : Thread). t.setup.now) s.thread) (ap (λ (t : Thread). t.me) s.thread)
-        ∙ rests_too old.setup.now old.me o (sight old) (sight new) (alike o other) h
+        ap₂ (λ (x : Setup) (u : ℕ). rests x u (sight new) new.touched.holds o) (ap (λ (t : Thread). t.setup.now) s.thread) (ap (λ (t : Thread). t.me) s.thread)
+        ∙ ap (λ (n : List HoldKey). rests old.setup.now old.me (sight new) n o) kept
+        ∙ rests_too old.setup.now old.me old.touched.holds o (sight old) (sight new) (alike o other) h
 
-    by_touch : (o : Open) (b : Bool) → is_touched old.touched o.id ≡ b → same_request req o.id ≡ false → b || false || rests old.setup.now old.me (sight old) o ≡ true → is_looked_at new.setup.now new.me [] new.touched (sight new) o ≡ true
-    by_touch o true e other h = ap (λ b. b || false || rests new.setup.now new.me (sight new) o) (covers o.id e)
-    by_touch o false e other h = last (is_touched new.touched o.id) (rests new.setup.now new.me (sight new) o) (rested o other h)
+    by_touch : (o : Open) (b : Bool) → is_touched old.touched o.id ≡ b → same_request req o.id ≡ false → b || false || rests old.setup.now old.me (sight old) old.touched.holds o ≡ true → is_looked_at new.setup.now new.me [] new.touched (sight new) o ≡ true
+    by_touch o true e other h = ap (λ b. b || false || rests new.setup.now new.me (sight new) new.touched.holds o) (covers o.id e)
+    by_touch o false e other h = last (is_touched new.touched o.id) (rests new.setup.now new.me (sight new) new.touched.holds o) (rested o other h)
       where
         last : (a c : Bool) → c ≡ true → a || false || c ≡ true
         last true c h = refl
         last false c h = h
 
     by_name : (o : Open) (b : Bool) → same_request req o.id ≡ b → is_looked_at old.setup.now old.me [] old.touched (sight old) o ≡ true → is_looked_at new.setup.now new.me [] new.touched (sight new) o ≡ true
-    by_name o true e h = ap (λ b. b || false || rests new.setup.now new.me (sight new) o) (subst (λ (r : ReqId). is_touched new.touched r ≡ true) (request_same.exact req o.id e) named)
+    by_name o true e h = ap (λ b. b || false || rests new.setup.now new.me (sight new) new.touched.holds o) (subst (λ (r : ReqId). is_touched new.touched r ≡ true) (request_same.exact req o.id e) named)
     by_name o false e h = by_touch o (is_touched old.touched o.id) refl e h
 
 pub served_as_adds : (old : Thread) (before : Links) (new : Thread) (after : Links) (req : ReqId) (k : ℕ) (dev : DevId) (end : ApplyEnd) (read : Option (List ℕ)) → IsServedAs req k dev end read old before new after → Idles (NoPieceOnDisk dev) old before new after

@@ -38,7 +38,7 @@ KeepsLooking count looked old before looks new after =
 -- where all that was so was so by this request too, it is so by what is to be looked at now
 abbrev pub LooksAgain : ReqId → Thread → Touches → Touches → Type 0
 LooksAgain req t old new =
-    (entries : List Entry) (x : Touches) → KeepsTickets t → old.all ≡ x.all → x.reqs ≡ req ∷ old.reqs → LooksBut entries x t → LooksBut entries new t
+    (entries : List Entry) (x : Touches) → KeepsTickets t → old.all ≡ x.all → x.reqs ≡ req ∷ old.reqs → old.holds ≡ x.holds → LooksBut entries x t → LooksBut entries new t
 
 -- those that rest are let go at most
 abbrev pub Settles : ℕ → Thread → Links → Touches → Touches → Type 0

@@ -117,8 +117,7 @@ impl<'a> Thread<'a> {
     fn look_again(&self, links: &Links, req: ReqId, touched: &mut Touched)
         ensures { LooksAgain req self.now touched.old touched.new }
     {
-        let requests = &self.part.requests;
-        if rests(&self.seen(links), self.setup, self.me, requests, req) {
+        if rests(&self.seen(links), self.setup, self.me, req, touched) {
             return;
         }
         touched.add(req);
@@ -143,7 +142,7 @@ impl<'a> Thread<'a> {
     /// are still as many entries as there were: in a turn that did nothing else. A request is cut as it is accepted,
     /// aborted as the mark comes, held or completed as its last piece comes back, and released in the turn whose moment
     /// it is held until, so there is hardly ever one. Those of them that rest then aren't looked at again before an act
-    /// reaches them. The first of them that asks the registry for something next.
+    /// reaches them or their hold ends. The first of them that asks the registry for something next.
     pub(crate) fn carry_all(
         &mut self,
         links: &mut Links,
@@ -163,6 +162,7 @@ impl<'a> Thread<'a> {
         if self.is_bare() {
             return Ok(None);
         }
+        touched.expire(self.time.moment());
         touched.name_all(&self.part.requests)?;
         let found = self.carry_named(links, entries, touched)?;
         self.settle(links, entries, touched);

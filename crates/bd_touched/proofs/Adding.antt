@@ -6,8 +6,8 @@ use Rattle.bd_base.specs.declared.id.DevId.{DevId}
 use Rattle.bd_base.specs.declared.id.ReqId.{ReqId}
 use Rattle.bd_base.specs.declared.setup.Setup.{Setup}
 use Rattle.bd_machine.specs.declared.state.Open.{Open}
-use Rattle.bd_machine.specs.Aborts.{is_below}
 use Rattle.bd_machine.specs.Same.{same_request}
+use Rattle.bd_machine.specs.Walks.{is_kept_waiting}
 use Rattle.std.proofs.lemmas.List.{take_all, take_more}
 use Rattle.std.proofs.lemmas.Option.{get_or_from_slice_get, slice_get_within}
 use Rattle.std.proofs.lemmas.List.Folds.{list_any-append}
@@ -27,11 +27,17 @@ pub all_touched : (P : Open → Type 0) (t : Touches) (xs : List Open) → t.all
 all_touched P t [] h = tt
 all_touched P t (x ∷ xs) h = (λ p. ap (λ b. b || list_any (λ r. same_request r x.id) t.reqs) h, all_touched P t xs h)
 
--- nothing is over the device
-pub none_over : (setup : Setup) (dev : DevId) (t : Touches) (xs : List Open) → AllByRecursion (λ (o : Open). is_below setup o.dev dev ≡ false) xs
-    → AllByRecursion (λ (o : Open). is_below setup o.dev dev ≡ true → is_touched t o.id ≡ true) xs
+-- none of them waits for the device
+pub none_over : (setup : Setup) (dev : DevId) (t : Touches) (xs : List Open) → list_any (is_kept_waiting setup dev) xs ≡ false
+    → AllByRecursion (λ (o : Open). is_kept_waiting setup dev o ≡ true → is_touched t o.id ≡ true) xs
 none_over setup dev t [] h = tt
-none_over setup dev t (x ∷ xs) h = (λ yes. let f : false ≡ true = sym h.0 ∙ yes in cc, none_over setup dev t xs h.1)
+none_over setup dev t (x ∷ xs) h = go (is_kept_waiting setup dev x) refl h (none_over setup dev t xs)
+  where
+    go : (b : Bool) → is_kept_waiting setup dev x ≡ b → b || list_any (is_kept_waiting setup dev) xs ≡ false
+        → (list_any (is_kept_waiting setup dev) xs ≡ false → AllByRecursion (λ (o : Open). is_kept_waiting setup dev o ≡ true → is_touched t o.id ≡ true) xs)
+        → AllByRecursion (λ (o : Open). is_kept_waiting setup dev o ≡ true → is_touched t o.id ≡ true) (x ∷ xs)
+    go true e k rest = cc
+    go false e k rest = (λ yes. let f : false ≡ true = sym e ∙ yes in cc, rest k)
 
 -- ---- one after another
 
@@ -92,6 +98,10 @@ TakenIn setup me requests entries old new = AllByRecursion (λ (o : Open). o.id.
 pub none_taken : (setup : Setup) (me : ℕ) (requests : List Open) (t : Touches) → TakenIn setup me requests [] t t
 none_taken setup me [] t = tt
 none_taken setup me (o ∷ os) t = (λ own h. sym (or_none (is_touched t o.id)) ∙ h, none_taken setup me os t)
+
+pub taken_covered : (setup : Setup) (me : ℕ) (requests : List Open) (old new : Touches) → Covers old new → TakenIn setup me requests [] old new
+taken_covered setup me [] old new covers = tt
+taken_covered setup me (o ∷ os) old new covers = (λ own h. covers o.id (sym (or_none (is_touched old o.id)) ∙ h), taken_covered setup me os old new covers)
 
 -- of none
 pub taken_empty : (setup : Setup) (me : ℕ) (requests : List Open) (entries : List Entry) (t : Touches) → length entries == 0 ≡ true → TakenIn setup me requests entries t t

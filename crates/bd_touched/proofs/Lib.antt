@@ -3,4 +3,5 @@ pub mod Marking
 pub mod Waiting
 pub mod Rested
 pub mod Looking
+pub mod Holding
 pub mod Adding

@@ -95,19 +95,19 @@ module _ (setup : Setup) (t : ℕ) (l : Local) (e : Entry) (before : List Entry)
     stays : (o : Open) → IsLooked l.view before o → IsLooked after (before ++ e ∷ []) o
     stays o h = (h.0, by_reach (reaches setup (reach_of e.act) o) refl)
       where
-        by_rest : (b : Bool) → is_touched touched o.id || is_reached setup before o ≡ b → reaches setup (reach_of e.act) o ≡ false → b || rests setup t l.view o ≡ true
+        by_rest : (b : Bool) → is_touched touched o.id || is_reached setup before o ≡ b → reaches setup (reach_of e.act) o ≡ false → b || rests setup t l.view touched.holds o ≡ true
             → is_looked_at setup t (before ++ e ∷ []) touched after o ≡ true
         by_rest true q apart k = by_first (is_touched touched o.id) refl q
           where
             by_first : (a : Bool) → is_touched touched o.id ≡ a → a || is_reached setup before o ≡ true → is_looked_at setup t (before ++ e ∷ []) touched after o ≡ true
-            by_first true p m = first_or (is_touched touched o.id) (is_reached setup (before ++ e ∷ []) o) (rests setup t after o) p
-            by_first false p m = second_or (is_touched touched o.id) (is_reached setup (before ++ e ∷ []) o) (rests setup t after o) (reached_still o m)
+            by_first true p m = first_or (is_touched touched o.id) (is_reached setup (before ++ e ∷ []) o) (rests setup t after touched.holds o) p
+            by_first false p m = second_or (is_touched touched o.id) (is_reached setup (before ++ e ∷ []) o) (rests setup t after touched.holds o) (reached_still o m)
         by_rest false q apart k =
-            third_or (is_touched touched o.id) (is_reached setup (before ++ e ∷ []) o) (rests setup t after o)
-            (rests_too setup t o l.view after (alike_after setup t l.view e.act came o apart) k)
+            third_or (is_touched touched o.id) (is_reached setup (before ++ e ∷ []) o) (rests setup t after touched.holds o)
+            (rests_too setup t touched.holds o l.view after (alike_after setup t l.view e.act came o apart) k)
 
         by_reach : (b : Bool) → reaches setup (reach_of e.act) o ≡ b → is_looked_at setup t (before ++ e ∷ []) touched after o ≡ true
-        by_reach true r = second_or (is_touched touched o.id) (is_reached setup (before ++ e ∷ []) o) (rests setup t after o) (reached_now o r)
+        by_reach true r = second_or (is_touched touched o.id) (is_reached setup (before ++ e ∷ []) o) (rests setup t after touched.holds o) (reached_now o r)
         by_reach false r = by_rest (is_touched touched o.id || is_reached setup before o) refl r h.1
 
     -- one that the entry accepts is its thread's own, and is reached
@@ -119,7 +119,7 @@ module _ (setup : Setup) (t : ℕ) (l : Local) (e : Entry) (before : List Entry)
         let own = (and_parts (req.thread == t) (nat_le l.view.part.next_request req.seq) (and_parts ((req.thread == t) && nat_le l.view.part.next_request req.seq) (nat_lt (length l.view.part.requests) most_requests) (and_parts ((req.thread == t) && nat_le l.view.part.next_request req.seq && nat_lt (length l.view.part.requests) most_requests) (nat_lt req.seq no_request) fresh).0).0).0 in
         all_push (IsLooked after (before ++ e ∷ [])) l.view.part.requests new h (
           eqb-true req.thread t own,
-          second_or (is_touched touched req) (is_reached setup (before ++ e ∷ []) new) (rests setup t after new)
+          second_or (is_touched touched req) (is_reached setup (before ++ e ∷ []) new) (rests setup t after touched.holds new)
               (reached_now new (ap (λ (a : Act). reaches setup (reach_of a) new) is ∙ request_same.same_self req)),
         )
     accepted (acts.Complete req status shown) is allowed h = all_filter (IsLooked after (before ++ e ∷ [])) (λ r. not (same_request r.id req)) l.view.part.requests h

@@ -11,7 +11,7 @@ use Rattle.bd_touched.specs.Rests.{rests}
 
 -- it is to be looked at, or one of these entries reaches it, or it rests
 abbrev pub is_looked_at : Setup → ℕ → List Entry → Touches → View → Open → Bool
-is_looked_at setup t entries touched v o = is_touched touched o.id || is_reached setup entries o || rests setup t v o
+is_looked_at setup t entries touched v o = is_touched touched o.id || is_reached setup entries o || rests setup t v touched.holds o
 
 -- each open request of the thread is its own, and is to be looked at, or one of these entries reaches it, or it rests
 abbrev pub Looks : Setup → ℕ → List Entry → Touches → View → Type 0

@@ -13,10 +13,13 @@ use Rattle.bd_base.specs.declared.id.ReqId.{ReqId}
 use Rattle.bd_base.specs.declared.request.WalkKind.{WalkKind}
 use Rattle.bd_base.specs.declared.request.WalkKind.TheVariants.{Drain}
 use Rattle.bd_base.specs.declared.setup.Setup.{Setup}
+use Rattle.bd_held.specs.Holds.{has_hold, HoldKey}
+use Rattle.bd_machine.specs.declared.state.Hold.{Hold}
+use Rattle.bd_machine.specs.declared.state.Hold.TheVariants as holds
 use Rattle.bd_machine.specs.declared.state.Open.{Open}
-use Rattle.bd_machine.specs.Aborts.{is_below}
 use Rattle.bd_machine.specs.BlockMap.{below}
 use Rattle.bd_machine.specs.Same.{same_request}
+use Rattle.bd_machine.specs.Walks.{is_kept_waiting}
 use Rattle.bd_touched.specs.declared.reach.Reach.{Reach}
 use Rattle.bd_touched.specs.declared.reach.Reach.TheVariants.{Nobody, Named, Over, Along}
 
@@ -59,12 +62,12 @@ reach_of (acts.Complete req status shown) = Named req
 reach_of (acts.Visit walk dev kind) = reach_of_visit dev kind
 reach_of _ = Nobody
 
--- the open request is reached
+-- the open request is reached: marks reach no reset, which no mark stops
 abbrev pub reaches : Setup → Reach → Open → Bool
 reaches setup Nobody o = false
 reaches setup (Named req) o = same_request req o.id
-reaches setup (Over dev) o = is_below setup o.dev dev
-reaches setup (Along dev) o = list_any (is_below setup o.dev) (below setup dev)
+reaches setup (Over dev) o = is_kept_waiting setup dev o
+reaches setup (Along dev) o = list_any (λ d. is_kept_waiting setup d o) (below setup dev)
 
 -- one of these entries reaches it
 abbrev pub is_reached : Setup → List Entry → Open → Bool
@@ -72,10 +75,11 @@ is_reached setup entries o = list_any (λ e. reaches setup (reach_of e.act) o) e
 
 -- ---- what is still to be looked at
 
--- all open requests, or these
+-- all open requests, or these; and those that may rest while they are held, each until its moment
 pub record Touches : Type 0 where
   pub all : Bool
   pub reqs : List ReqId
+  pub holds : List HoldKey
 
 abbrev pub is_touched : Touches → ReqId → Bool
 is_touched t req = t.all || list_any (λ r. same_request r req) t.reqs
@@ -83,6 +87,15 @@ is_touched t req = t.all || list_any (λ r. same_request r req) t.reqs
 -- what is to be looked at still is
 abbrev pub Covers : Touches → Touches → Type 0
 Covers old new = (req : ReqId) → is_touched old req ≡ true → is_touched new req ≡ true
+
+-- it isn't held, or stands among these with the moment until which it is
+abbrev pub holds_on : List HoldKey → ReqId → Hold → Bool
+holds_on keys req (holds.Until moment marked) = has_hold keys req moment
+holds_on keys req _ = true
+
+-- what may rest while it is held still may, or is to be looked at
+abbrev pub KeepsHolds : Touches → Touches → Type 0
+KeepsHolds old new = (req : ReqId) (hold : Hold) → holds_on old.holds req hold ≡ true → is_touched new req || holds_on new.holds req hold ≡ true
 
 -- each of these open requests that is the thread's own is to be looked at, where it was or where one of these entries reaches it
 abbrev pub TakesIn : Setup → ℕ → List Open → List Entry → Touches → Touches → Type 0

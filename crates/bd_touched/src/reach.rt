@@ -1,13 +1,8 @@
 //! Which open requests of a thread an act reaches.
-ghost use Rattle.std.specs.Prelude.{◌≡◌, false, true, Some};
-ghost use Rattle.std.specs.List.{AllByRecursion};
-ghost use Rattle.bd_machine.specs.declared.state.Open.{Open};
-ghost use Rattle.bd_machine.specs.Aborts.{is_below};
+ghost use Rattle.std.specs.Prelude.{◌≡◌};
 ghost use Rattle.bd_touched.specs.Reach.{reach_of, reach_of_event, reach_of_token, reach_of_visit};
 
-use bd_base::{Act, DevId, RegEvent, ReqId, Setup, Token, WalkKind};
-use bd_blocks::{below, is_below};
-use bd_machine::OpenList;
+use bd_base::{Act, DevId, RegEvent, ReqId, Token, WalkKind};
 
 /// Which open requests an act reaches.
 #[derive(Clone, Copy, PartialEq, Eq)]
@@ -15,9 +10,9 @@ pub enum Reach {
     Nobody,
     /// This one.
     Named(ReqId),
-    /// Those that have this device below.
+    /// Those that have this device below and are no resets.
     Over(DevId),
-    /// Those that have a device below that this one has below.
+    /// Those that have a device below that this one has below, and are no resets.
     Along(DevId),
 }
 
@@ -75,34 +70,4 @@ pub(crate) fn reach_of(act: &Act) -> Reach
         Act::Visit { dev, kind, .. } => reach_of_visit(*dev, *kind),
         _ => Reach::Nobody,
     }
-}
-
-// Whether this is a device that was found not to have the device below.
-fn is_clear(clear: Option<DevId>, dev: DevId) -> bool
-    ensures { result ≡ true → clear ≡ Some dev }
-{
-    match clear {
-        Some(other) => other.0 == dev.0,
-        None => false,
-    }
-}
-
-/// Whether one of these open requests has the device below. Requests of one device in a row are looked at once.
-pub(crate) fn any_over(setup: &Setup, requests: &OpenList, dev: DevId) -> bool
-    ensures { result ≡ false → AllByRecursion (λ (o : Open). is_below setup.now o.dev dev ≡ false) requests.now }
-{
-    let mut clear = None;
-    for place in 0..requests.len() {
-        let Some(open) = requests.get(place) else {
-            return true;
-        };
-        if is_clear(clear, open.dev) {
-            continue;
-        }
-        if is_below(setup, open.dev, dev) {
-            return true;
-        }
-        clear = Some(open.dev);
-    }
-    false
 }

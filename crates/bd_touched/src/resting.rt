@@ -1,25 +1,19 @@
 //! Which open requests rest.
-ghost use Rattle.std.specs.Prelude.{◌≡◌, ◌≤◌, ◌||◌, true, is_some, length, not, Some};
-ghost use Rattle.bd_machine.specs.Aborts.{is_held};
+ghost use Rattle.std.specs.Prelude.{◌≡◌, ◌≤◌, true, length, not, List, Some};
 ghost use Rattle.bd_machine.specs.Kept.{request_here};
 ghost use Rattle.bd_flight.specs.Next.{is_wait};
 ghost use Rattle.bd_machine.specs.Requests.{is_walking};
-ghost use Rattle.bd_machine.specs.Same.{same_dev};
 ghost use Rattle.bd_machine.specs.Walks.{reset_of};
-ghost use Rattle.bd_touched.specs.Rests.{may_rest, RestsById};
+ghost use Rattle.bd_touched.specs.Rests.{is_on_own, may_rest, RestsById};
+ghost use Rattle.bd_held.specs.Holds.{HoldKey};
+ghost use Rattle.bd_touched.specs.Reach.{holds_on};
 
-use bd_base::{DevId, ReqId, Setup};
+use crate::touched::Touched;
+use bd_base::{ReqId, Setup};
 use bd_flight::{Step, next_step};
-use bd_machine::{Hold, OpenList, OpenRequest};
-use bd_rule_requests::{has_range, is_walking, request_here, reset_of};
+use bd_machine::{Open, OpenList, OpenRequest};
+use bd_rule_requests::{has_range, is_reset, is_walking, request_here, reset_of};
 use bd_rule_view::{Sees, same_request};
-
-// Whether delays hold the request now.
-fn is_held(hold: Hold) -> bool
-    ensures { result ≡ is_held hold }
-{
-    matches!(hold, Hold::Until { .. })
-}
 
 // Whether no walk of the request, a reset, is under way.
 fn is_still<S: Sees>(seen: &S, req: ReqId) -> bool
@@ -35,22 +29,19 @@ fn is_wait(step: Step) -> bool
     matches!(step, Step::Wait)
 }
 
-// Whether the request is cut, or is on this device.
-fn is_cut_or_on(r: OpenRequest, dev: DevId) -> bool
-    ensures { result ≡ is_some r.pieces || same_dev r.dev dev }
+// Whether the open request is no reset, and is on the device that it is open on.
+fn is_on_own(request: &Open, r: OpenRequest) -> bool
+    ensures { result ≡ is_on_own request.now r }
 {
-    r.pieces.is_some() || r.dev.0 == dev.0
+    !is_reset(request.op) && r.dev.0 == request.dev.0
 }
 
-// Whether a request that is here has a range, isn't held, and waits by its tokens and the marks of its devices alone.
+// Whether a request that is here has a range, and waits by its tokens and the marks of its devices alone.
 fn may_rest<S: Sees>(seen: &S, setup: &Setup, me: u32, req: ReqId, r: OpenRequest) -> bool
     requires { request_here (S.view_of seen.now) req ≡ Some r }
-    ensures { result ≡ true → may_rest setup.now me (S.view_of seen.now) req r ≡ true }
+    ensures { result ≡ true → (keys : List HoldKey) → holds_on keys req r.hold ≡ true → may_rest setup.now me (S.view_of seen.now) keys req r ≡ true }
 {
     if !has_range(r.op) {
-        return false;
-    }
-    if is_held(r.hold) {
         return false;
     }
     if !is_still(seen, req) {
@@ -87,11 +78,13 @@ fn place_of(requests: &OpenList, req: ReqId) -> usize
     low
 }
 
-/// Whether the open request of this id rests: it isn't here, or it is a read, write, zeroes, unmap or flush that isn't
-/// held and can do nothing, whatever the thread does, until an act names it or changes the marks of its devices.
-pub fn rests<S: Sees>(seen: &S, setup: &Setup, me: u32, requests: &OpenList, req: ReqId) -> bool
-    ensures { result ≡ true → RestsById setup.now me (S.view_of seen.now) requests.now req }
+/// Whether the open request of this id rests: it isn't here, or it is a read, write, zeroes, unmap or flush that can do
+/// nothing, whatever the thread does, until an act names it or changes the marks of its devices, or until its hold ends,
+/// where it is held.
+pub fn rests<S: Sees>(seen: &S, setup: &Setup, me: u32, req: ReqId, touched: &Touched) -> bool
+    ensures { result ≡ true → RestsById setup.now me (S.view_of seen.now) (S.view_of seen.now).part.requests req touched.now.holds }
 {
+    let requests = &seen.part().requests;
     let Some(open) = requests.get(place_of(requests, req)) else {
         return false;
     };
@@ -101,7 +94,10 @@ pub fn rests<S: Sees>(seen: &S, setup: &Setup, me: u32, requests: &OpenList, req
     let Some(r) = request_here(seen, req) else {
         return true;
     };
-    if !is_cut_or_on(r, open.dev) {
+    if !touched.holds_on(req, r.hold) {
+        return false;
+    }
+    if !is_on_own(open, r) {
         return false;
     }
     may_rest(seen, setup, me, req, r)

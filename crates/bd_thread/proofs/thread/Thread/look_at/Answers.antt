@@ -9,5 +9,5 @@ returns-clause-looks c = λ looks.
     let t = c.args.self.now in
     look_taken (drop c.args.before c.args.links.now.entries) c.args.touched c.take_in.new.self t
     (subst (λ (es : List Entry). TakesIn t.setup.now t.me t.part.requests es c.args.touched c.take_in.new.self)
-    (take_rest c.args.before c.as_slice.result.now ∙ ap (drop c.args.before) c.as_slice.ensures) c.in_ok-take_in.ensures)
-    looks
+    (take_rest c.args.before c.as_slice.result.now ∙ ap (drop c.args.before) c.as_slice.ensures) c.in_ok-take_in.ensures.taken)
+    c.in_ok-take_in.ensures.keeps looks

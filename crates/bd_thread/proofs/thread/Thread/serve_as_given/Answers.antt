@@ -70,7 +70,7 @@ returns-clause-tickets c =
       links = refl;
     } in
     carried (λ m l. KeepsOwn t → KeepsOwn m) new after _ _ thread c.in_ok-note.ensures.links
-    (λ keeps. record { tickets = served_as_tickets t links new after n.req n.k dev end read is keeps.tickets; looks = served_as_looks t links new after n.req n.k dev end read is c.add.ensures.covers c.add.ensures.named keeps.looks })
+    (λ keeps. record { tickets = served_as_tickets t links new after n.req n.k dev end read is keeps.tickets; looks = served_as_looks t links new after n.req n.k dev end read is c.add.ensures.holds c.add.ensures.covers c.add.ensures.named keeps.looks })
 
 pub returns-clause-serves : goal.returns-clause-serves
 returns-clause-serves c =

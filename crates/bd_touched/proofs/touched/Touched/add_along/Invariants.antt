@@ -1,8 +1,8 @@
 use Rattle.std.proofs.Common.{◌≡◌, true, ◌||◌}
 use Rattle.std.specs.List.{AllByRecursion, list_any}
 use Rattle.bd_machine.specs.declared.state.Open.{Open}
-use Rattle.bd_machine.specs.Aborts.{is_below}
 use Rattle.bd_machine.specs.BlockMap.{below}
+use Rattle.bd_machine.specs.Walks.{is_kept_waiting}
 use Rattle.bd_touched.specs.Reach.{is_touched, Covers}
 use Rattle.bd_touched.proofs.touched.Touched.add_along.Given as goal
 
@@ -10,5 +10,6 @@ use Rattle.bd_touched.proofs.touched.Touched.add_along.Given as goal
 abbrev pub invariant-loop-lower : goal.invariant-loop-lower
 invariant-loop-lower l = record {
   covers : Covers l.fn.self l.self;
-  left : AllByRecursion (λ (o : Open). list_any (is_below l.setup o.dev) (below l.setup l.fn.dev) ≡ true → is_touched l.self o.id || list_any (is_below l.setup o.dev) l.lower-iterator ≡ true) l.requests;
+  holds : l.self.holds ≡ l.fn.self.holds;
+  left : AllByRecursion (λ (o : Open). list_any (λ d. is_kept_waiting l.setup d o) (below l.setup l.fn.dev) ≡ true → is_touched l.self o.id || list_any (λ d. is_kept_waiting l.setup d o) l.lower-iterator ≡ true) l.requests;
 }
