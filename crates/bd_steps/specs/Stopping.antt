@@ -23,6 +23,7 @@ use Rattle.bd_machine.specs.Kept.{as_piece, as_request, request_here}
 use Rattle.bd_machine.specs.Same.{same_request}
 use Rattle.bd_machine.specs.Step.{first_failing}
 use Rattle.bd_machine.specs.View.{View}
+use Rattle.bd_machine.specs.Walks.{is_kept_waiting}
 use Rattle.bd_retries.specs.Channels.{Channel, changed_if_any, dropped}
 
 -- the rules let the thread abort the request for this cause
@@ -84,6 +85,10 @@ abbrev pub in_lines : List Limited → List ReqId
 in_lines [] = []
 in_lines (l ∷ ls) = l.waiting ++ in_lines ls
 
--- the thread's own open requests, in order of acceptance, and then those that wait at its limited devices
-abbrev pub stoppable : Part → List ReqId
-stoppable part = map (λ (o : Open). o.id) part.requests ++ in_lines part.limited
+-- the ids of the open requests that have the device below and are no resets, in order of acceptance
+abbrev pub open_over : Setup → DevId → List Open → List ReqId
+open_over setup dev requests = map (λ (o : Open). o.id) (filter (is_kept_waiting setup dev) requests)
+
+-- the thread's own open requests that have the device below and are no resets, and then those that wait at its limited devices
+abbrev pub stoppable : Setup → DevId → Part → List ReqId
+stoppable setup dev part = open_over setup dev part.requests ++ in_lines part.limited

@@ -1,20 +1,21 @@
 //! Which request may be aborted, and what an abort stops: the request waits at no limited device, and its pieces
 //! that wait unsent are no longer to be put; nor are they where a request completes without success.
-ghost use Rattle.std.specs.Prelude.{◌≡◌, ◌++◌, map, option_copied, filter, not, IfOk, OnOk, Some};
+ghost use Rattle.std.specs.Prelude.{◌≡◌, ◌++◌, ◌∷◌, [], option_copied, filter, not, IfOk, OnOk, Some};
 ghost use Rattle.bd_machine.specs.Aborts.{stopped};
 ghost use Rattle.bd_machine.specs.Completion.{waits_unsent};
 ghost use Rattle.bd_machine.specs.declared.state.Id.TheVariants as ids;
 ghost use Rattle.bd_machine.specs.Kept.{as_piece, as_request};
 ghost use Rattle.bd_tokens.specs.Tokens.{here_in};
-ghost use Rattle.bd_steps.specs.Stopping.{abortable, base_under, channels_left, channels_without, in_lines, is_request, is_unsent, left_by, stoppable, turned_back, without_unsent};
+ghost use Rattle.bd_steps.specs.Stopping.{abortable, base_under, channels_left, channels_without, in_lines, is_request, is_unsent, left_by, open_over, stoppable, turned_back, without_unsent};
 
 use bd_base::{AbortCause, DevId, OutOfMemory, ReqId, Rows, Setup, Status, Token};
 use bd_blocks::base_of;
-use bd_machine::{Id, Kept, Limited, OpenList, OpenRequest, Part, Progress, Trip};
+use bd_machine::{Id, Kept, Limited, Open, OpenList, OpenRequest, Part, Progress, Trip};
 use bd_retries::Retries;
 use bd_rule_faults::{depart, refused_abort, waits_at};
 use bd_rule_requests::request_here;
 use bd_rule_view::{Sees, same_request};
+use bd_rule_walks::{any_waits, is_kept_waiting};
 use bd_tokens::Tokens;
 use std::alloc::Global;
 use std::collections::VecDeque;
@@ -162,15 +163,38 @@ pub fn turn_back(
     }
 }
 
-// Adds the ids of open requests.
-fn add_open(ids: &mut Rows<ReqId>, requests: &OpenList) -> Result<(), OutOfMemory>
-    ensures { OnOk result (ids.new ≡ ids.old ++ map (λ o. o.id) requests.now) }
+// Adds the id of an open request, where it has the device below and is no reset.
+fn add_if_over(
+    ids: &mut Rows<ReqId>,
+    setup: &Setup,
+    dev: DevId,
+    request: &Open,
+) -> Result<(), OutOfMemory>
+    ensures { OnOk result (ids.new ≡ ids.old ++ open_over setup.now dev (request.now ∷ [])) }
 {
+    if is_kept_waiting(setup, dev, request) {
+        ids.push(request.id)?;
+    }
+    Ok(())
+}
+
+// Adds the ids of the open requests that have the device below and are no resets.
+fn add_open(
+    ids: &mut Rows<ReqId>,
+    setup: &Setup,
+    dev: DevId,
+    requests: &OpenList,
+) -> Result<(), OutOfMemory>
+    ensures { OnOk result (ids.new ≡ ids.old ++ open_over setup.now dev requests.now) }
+{
+    if !any_waits(setup, requests, dev) {
+        return Ok(());
+    }
     for place in 0..requests.len() {
         let Some(open) = requests.get(place) else {
             break;
         };
-        ids.push(open.id)?;
+        add_if_over(ids, setup, dev, open)?;
     }
     Ok(())
 }
@@ -203,13 +227,18 @@ fn add_lines(ids: &mut Rows<ReqId>, limited: &[Limited]) -> Result<(), OutOfMemo
     Ok(())
 }
 
-/// The requests that a mark may stop here: the thread's own open ones, in order of acceptance, and then those that wait
-/// at its limited devices, in order of arrival at each.
-pub fn stoppable(alloc: Global, part: &Part) -> Result<Rows<ReqId>, OutOfMemory>
-    ensures { IfOk result (λ ids. ids ≡ stoppable part.now) }
+/// The requests that a mark of the device may stop here: the thread's own open ones that have it below and are no
+/// resets, in order of acceptance, and then those that wait at its limited devices, in order of arrival at each.
+pub fn stoppable(
+    alloc: Global,
+    setup: &Setup,
+    dev: DevId,
+    part: &Part,
+) -> Result<Rows<ReqId>, OutOfMemory>
+    ensures { IfOk result (λ ids. ids ≡ stoppable setup.now dev part.now) }
 {
     let mut ids = Rows::new(alloc);
-    add_open(&mut ids, &part.requests)?;
+    add_open(&mut ids, setup, dev, &part.requests)?;
     add_lines(&mut ids, part.limited.as_slice())?;
     Ok(ids)
 }

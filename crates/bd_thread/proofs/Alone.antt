@@ -158,8 +158,8 @@ each_alone [] cause o a n c h = alone_same a c h.1
 each_alone (x ∷ xs) cause o a n c h = alone_then a h.shared c (stops_alone x cause o a h.middle h.shared h.first) (each_alone xs cause h.middle h.shared n c h.second)
 
 for_alone : (kind : WalkKind) (dev : DevId) (o : Thread) (a : Links) (n : Thread) (c : Links) → StopsFor kind dev o a n c → AsksNothing a c
-for_alone kinds.Removal dev o a n c h = each_alone (stoppable o.part) (Removed dev) o a n c h
-for_alone kinds.Freeze dev o a n c h = each_alone (stoppable o.part) (Frozen dev) o a n c h
+for_alone kinds.Removal dev o a n c h = each_alone (stoppable o.setup.now dev o.part) (Removed dev) o a n c h
+for_alone kinds.Freeze dev o a n c h = each_alone (stoppable o.setup.now dev o.part) (Frozen dev) o a n c h
 for_alone kinds.Drain dev o a n c h = alone_same a c h.1
 for_alone kinds.Thaw dev o a n c h = alone_same a c h.1
 

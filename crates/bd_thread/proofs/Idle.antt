@@ -196,8 +196,8 @@ each_grows [] cause old before new after h = same_grows before after h.1
 each_grows (req ∷ reqs) cause old before new after h = omega (arith, stop_grows req cause old before h.middle h.shared h.first, each_grows reqs cause h.middle h.shared new after h.second)
 
 pub for_grows : (kind : WalkKind) (dev : DevId) (old : Thread) (before : Links) (new : Thread) (after : Links) → StopsFor kind dev old before new after → length before.entries ≤ length after.entries
-for_grows kinds.Removal dev old before new after h = each_grows (stoppable old.part) (Removed dev) old before new after h
-for_grows kinds.Freeze dev old before new after h = each_grows (stoppable old.part) (Frozen dev) old before new after h
+for_grows kinds.Removal dev old before new after h = each_grows (stoppable old.setup.now dev old.part) (Removed dev) old before new after h
+for_grows kinds.Freeze dev old before new after h = each_grows (stoppable old.setup.now dev old.part) (Frozen dev) old before new after h
 for_grows kinds.Drain dev old before new after h = same_grows before after h.1
 for_grows kinds.Thaw dev old before new after h = same_grows before after h.1
 

@@ -1,6 +1,7 @@
 -- When a thread aborts a request, what that leaves, what a mark stops, and what an abort stops that names a request.
 use Rattle.std.specs.Prelude.{◌≡◌, Bool, true, false, List, [], ◌∷◌, Option, Some, None}
 use Rattle.bd_base.specs.declared.act.Act.TheVariants as acts
+use Rattle.bd_base.specs.declared.id.DevId.{DevId}
 use Rattle.bd_base.specs.declared.id.ReqId.{ReqId}
 use Rattle.bd_base.specs.declared.request.AbortCause.{AbortCause}
 use Rattle.bd_base.specs.declared.request.AbortCause.TheVariants.{Named}
@@ -67,9 +68,10 @@ abbrev pub StopsEach : List ReqId → AbortCause → Thread → Links → Thread
 StopsEach [] cause old before new after = (new ≡ old) × (after ≡ before)
 StopsEach (req ∷ reqs) cause old before new after = Then (λ t links. Stops req cause old before t links) (λ t links. StopsEach reqs cause t links new after)
 
--- each open request of the thread is stopped, in order of acceptance, and then each that waits here at a limited device
-abbrev pub StopsAll : AbortCause → Thread → Links → Thread → Links → Type 0
-StopsAll cause old before new after = StopsEach (stoppable old.part) cause old before new after
+-- each open request of the thread that has the device below is stopped, in order of acceptance, and then each that waits here at a limited device;
+-- a reset can't be, and the others aren't on a device that a mark of this one is for
+abbrev pub StopsAll : DevId → AbortCause → Thread → Links → Thread → Links → Type 0
+StopsAll dev cause old before new after = StopsEach (stoppable old.setup.now dev old.part) cause old before new after
 
 -- ---- what an abort stops that names a request
 

@@ -40,8 +40,8 @@ pub record IsVisited (walk : WalkId) (w : OpenWalk) (old : Thread) (before : Lin
 
 -- where the mark of a removal or of a reset was set, what it stops is stopped; another walk stops nothing
 abbrev pub StopsFor : WalkKind → DevId → Thread → Links → Thread → Links → Type 0
-StopsFor Removal dev old before new after = StopsAll (Removed dev) old before new after
-StopsFor Freeze dev old before new after = StopsAll (Frozen dev) old before new after
+StopsFor Removal dev old before new after = StopsAll dev (Removed dev) old before new after
+StopsFor Freeze dev old before new after = StopsAll dev (Frozen dev) old before new after
 StopsFor _ dev old before new after = (new ≡ old) × (after ≡ before)
 
 -- true where a visit is due: it was made, and then what it stops was stopped; else nothing changes

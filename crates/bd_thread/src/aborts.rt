@@ -7,7 +7,7 @@ ghost use Rattle.bd_thread.specs.Work.{AsksNothing};
 
 use crate::links::Links;
 use crate::thread::Thread;
-use bd_base::{AbortCause, Act, OutOfMemory, ReqId};
+use bd_base::{AbortCause, Act, DevId, OutOfMemory, ReqId};
 use bd_machine::{Id, Kept};
 use bd_rule_faults::aborted;
 use bd_steps::{abortable, drop_unsent, named_by, stop_waiting, stoppable, turn_back};
@@ -68,19 +68,20 @@ impl<'a> Thread<'a> {
         Ok(())
     }
 
-    /// Stops each open request of the thread, in order of acceptance, that may be aborted for this cause, and then each
-    /// that waits here at a limited device.
+    /// Stops each open request of the thread that has the device below and is no reset, in order of acceptance, and
+    /// then each that waits here at a limited device, where it may be aborted for this cause.
     pub(crate) fn stop_all(
         &mut self,
         links: &mut Links,
+        dev: DevId,
         cause: AbortCause,
     ) -> Result<(), OutOfMemory>
         requires { self.old.me < vec_len links.old.queues }
         ensures acted { OnOk result (Acted self.old links.old self.new links.new) }
         ensures tickets { OnOk result (KeepsTickets self.old → KeepsTickets self.new) }
-        ensures stops { OnOk result (StopsAll cause self.old links.old self.new links.new) }
+        ensures stops { OnOk result (StopsAll dev cause self.old links.old self.new links.new) }
     {
-        let reqs = stoppable(self.alloc, &self.part)?;
+        let reqs = stoppable(self.alloc, self.setup, dev, &self.part)?;
         for req in reqs.as_slice() {
             self.stop(links, *req, cause)?;
         }

@@ -51,8 +51,8 @@ impl<'a> Thread<'a> {
         ensures stops { OnOk result (StopsFor kind dev self.old links.old self.new links.new) }
     {
         match kind {
-            WalkKind::Removal => self.stop_all(links, AbortCause::Removed(dev)),
-            WalkKind::Freeze => self.stop_all(links, AbortCause::Frozen(dev)),
+            WalkKind::Removal => self.stop_all(links, dev, AbortCause::Removed(dev)),
+            WalkKind::Freeze => self.stop_all(links, dev, AbortCause::Frozen(dev)),
             WalkKind::Drain | WalkKind::Thaw => Ok(()),
         }
     }

@@ -11,5 +11,5 @@ abbrev pub invariant-loop-req : goal.invariant-loop-req
 invariant-loop-req l = record {
   acted : Acted l.initial.self l.initial.links l.self l.links;
   tickets : KeepsTickets l.initial.self → KeepsTickets l.self;
-  stops : (n : Thread) (links : Links) → StopsEach (drop l.req-index l.req-items) l.cause l.self l.links n links → StopsAll l.cause l.initial.self l.initial.links n links;
+  stops : (n : Thread) (links : Links) → StopsEach (drop l.req-index l.req-items) l.cause l.self l.links n links → StopsAll l.fn.dev l.cause l.initial.self l.initial.links n links;
 }
