@@ -1,7 +1,8 @@
 -- The first place of an id in a list, and the list without it.
-use Rattle.std.proofs.Common.{◌≡◌, ℕ, ◌+◌, ◌<◌, ◌≤◌, Bool, true, false, not, cond, ◌==◌, ◌&&◌, ◌⊎◌, inl, inr, List, [], ◌∷◌, length, get_or, remove, position, Contains, Some, None, refl, sym, ◌∙◌, ap, ap₂, subst, eqb-true, eq-eqb, one-add, arith}
+use Rattle.std.proofs.Common.{◌≡◌, ℕ, ◌+◌, ◌<◌, ◌≤◌, Bool, true, false, not, cond, ◌==◌, ◌&&◌, ◌⊎◌, inl, inr, List, [], ◌∷◌, ◌++◌, length, get_or, remove, position, Contains, Some, None, refl, sym, ◌∙◌, ap, ap₂, subst, eqb-true, eq-eqb, one-add, arith}
 use Rattle.std.proofs.lemmas.Bool.{and_parts, cases_lt}
 use Rattle.std.proofs.lemmas.Grind.{common_steps}
+use Rattle.std.proofs.lemmas.List.{length-append}
 use Rattle.std.proofs.lemmas.List.Sums.{passes_at_first, fails_before_first}
 use Rattle.std.specs.List.{position_or_len}
 use Rattle.bd_base.specs.declared.id.ReqId.{ReqId}
@@ -61,3 +62,51 @@ pub remove-position : (id : ReqId) (xs : List ReqId) (i : ℕ) → position (is_
 remove-position id xs i h =
     let p = position-some id xs i h in
     subst (λ (n : ℕ). remove xs n ≡ without id xs) (sym p.0) (remove-first id xs p.1)
+
+-- the first place in two lists, one after the other
+over-first : (p : ReqId → Bool) (xs ys : List ReqId) → position_or_len p xs < length xs → position_or_len p (xs ++ ys) ≡ position_or_len p xs
+over-first p [] ys k = absurd (omega arith)
+over-first p (x ∷ xs) ys k = at (p x) k (over-first p xs ys)
+  where
+    at : (b : Bool) → cond (not b) (1 + position_or_len p xs) 0 < length (x ∷ xs) → (position_or_len p xs < length xs → position_or_len p (xs ++ ys) ≡ position_or_len p xs)
+        → cond (not b) (1 + position_or_len p (xs ++ ys)) 0 ≡ cond (not b) (1 + position_or_len p xs) 0
+    at true l more = refl
+    at false l more = ap (λ (n : ℕ). 1 + n) (more (omega (arith, l)))
+
+over-later : (p : ReqId → Bool) (xs ys : List ReqId) → length xs ≤ position_or_len p xs → position_or_len p (xs ++ ys) ≡ length xs + position_or_len p ys
+over-later p [] ys k = omega arith
+over-later p (x ∷ xs) ys k = at (p x) k (over-later p xs ys)
+  where
+    at : (b : Bool) → length (x ∷ xs) ≤ cond (not b) (1 + position_or_len p xs) 0 → (length xs ≤ position_or_len p xs → position_or_len p (xs ++ ys) ≡ length xs + position_or_len p ys)
+        → cond (not b) (1 + position_or_len p (xs ++ ys)) 0 ≡ length (x ∷ xs) + position_or_len p ys
+    at true l more = absurd (omega (arith, l))
+    at false l more = let ih = more (omega (arith, l)) in omega (arith, ih)
+
+pub position-first : (id : ReqId) (xs ys : List ReqId) (i : ℕ) → position (is_at id) xs ≡ Some i → position (is_at id) (xs ++ ys) ≡ Some i
+position-first id xs ys i h =
+    let p = position-some id xs i h in
+    let over = over-first (is_at id) xs ys p.1 in
+    grind (arith, common_steps)
+
+pub position-later : (id : ReqId) (xs ys : List ReqId) (j : ℕ) → position (is_at id) xs ≡ None → position (is_at id) ys ≡ Some j → position (is_at id) (xs ++ ys) ≡ Some (length xs + j)
+position-later id xs ys j n h = go (cases_lt (position_or_len (is_at id) xs) (length xs)) n
+  where
+    go : (position_or_len (is_at id) xs < length xs) ⊎ (length xs ≤ position_or_len (is_at id) xs) → position (is_at id) xs ≡ None → position (is_at id) (xs ++ ys) ≡ Some (length xs + j)
+    go (inl a) k = grind (arith, common_steps)
+    go (inr a) k =
+        let p = position-some id ys j h in
+        let over = over-later (is_at id) xs ys a in
+        let long = length-append xs ys in
+        grind (arith, common_steps)
+
+pub position-nowhere : (id : ReqId) (xs ys : List ReqId) → position (is_at id) xs ≡ None → position (is_at id) ys ≡ None → position (is_at id) (xs ++ ys) ≡ None
+position-nowhere id xs ys n h = go (cases_lt (position_or_len (is_at id) xs) (length xs)) (cases_lt (position_or_len (is_at id) ys) (length ys)) n h
+  where
+    go : (position_or_len (is_at id) xs < length xs) ⊎ (length xs ≤ position_or_len (is_at id) xs) → (position_or_len (is_at id) ys < length ys) ⊎ (length ys ≤ position_or_len (is_at id) ys)
+        → position (is_at id) xs ≡ None → position (is_at id) ys ≡ None → position (is_at id) (xs ++ ys) ≡ None
+    go (inl a) b k l = grind (arith, common_steps)
+    go (inr a) (inl b) k l = grind (arith, common_steps)
+    go (inr a) (inr b) k l =
+        let over = over-later (is_at id) xs ys a in
+        let long = length-append xs ys in
+        grind (arith, common_steps)

@@ -1,5 +1,6 @@
 //! The tickets of a thread's open requests.
 ghost use Rattle.std.specs.Prelude.{◌≡◌, ◌+◌, ◌<◌, ◌≤◌, ◌↔◌, ◌++◌, ◌∷◌, [], length, Contains, position, IsSome, IfSome, OnSome, IfNone, OnOk, OnErr};
+ghost use Rattle.bd_msg.specs.Purse.{same_request};
 
 use crate::ticket::{Finished, Ticket};
 use bd_base::{OutOfMemory, ReqId, Status};
@@ -20,6 +21,13 @@ impl Model for Purse {
     ghost Value = { Kept };
 
     ghost view = { λ p. record { ids = p.tickets.items; capacity = deque_capacity p.tickets } };
+}
+
+// The place of the first of these tickets that has this id.
+fn place_in(tickets: &[Ticket], id: ReqId) -> Option<usize>
+    ensures { result ≡ position (λ x. same_request x id) tickets.now }
+{
+    tickets.iter().position(|ticket| ticket.id() == id)
 }
 
 impl Purse {
@@ -91,7 +99,14 @@ impl Purse {
     fn place_of(&self, id: ReqId) -> Option<usize>
         ensures { result ≡ position (λ x. same_request x id) self.now.ids }
     {
-        self.tickets.iter().position(|ticket| ticket.id() == id)
+        let (first, later) = self.tickets.as_slices();
+        match place_in(first, id) {
+            Some(place) => Some(place),
+            None => {
+                let place = place_in(later, id)?;
+                Some(first.len() + place)
+            }
+        }
     }
 
     /// Abandons every ticket, where the run halts.
