@@ -1,15 +1,17 @@
 //! When a thread has nothing under way.
-ghost use Rattle.std.specs.Prelude.{◌≡◌, count_by};
+ghost use Rattle.std.specs.Prelude.{◌≡◌, ◌&&◌, Some, count_by, is_none};
 ghost use Rattle.std.specs.List.{list_all};
 ghost use Rattle.bd_machine.specs.declared.state.Id.TheVariants as ids;
 ghost use Rattle.bd_machine.specs.Kept.{as_request};
+ghost use Rattle.bd_machine.specs.Walks.{is_reset};
+ghost use Rattle.bd_steps.specs.Resetting.{reset_event};
 ghost use Rattle.bd_tokens.specs.Tokens.{here_in};
-ghost use Rattle.bd_thread.specs.Resting.{has_destructed_all, is_blocked, is_done, is_line_empty, is_moving, is_own, is_under_way, limited_for, rests, rests_but_for_time};
+ghost use Rattle.bd_thread.specs.Resting.{has_destructed_all, is_blocked, is_done, is_line_empty, is_moving, is_own, limited_for, rests, rests_but_for_time};
 
 use crate::links::Links;
 use crate::thread::Thread;
 use bd_base::ReqId;
-use bd_machine::{Id, Kept, Limited};
+use bd_machine::{Id, Kept, Limited, OpenRequest, Part};
 use bd_rule_requests::{is_at_own, is_reset};
 use bd_rule_script::is_script_blocked;
 use bd_steps::{are_done_with, are_settled, reset_event};
@@ -26,6 +28,13 @@ fn are_lines_empty(limited: &[Limited]) -> bool
     ensures { result ≡ list_all is_line_empty limited.now }
 {
     limited.iter().all(|l| is_line_empty(l))
+}
+
+// Whether it is a reset that asks the registry for nothing: a walk of it is under way, or it waits for others.
+fn is_under_way(part: &Part, req: ReqId, r: OpenRequest) -> bool
+    ensures { result ≡ is_reset r.op && is_none (reset_event part.now req (Some r)) }
+{
+    is_reset(r.op) && reset_event(part, req, Some(r)).is_none()
 }
 
 impl<'a> Thread<'a> {
@@ -64,25 +73,17 @@ impl<'a> Thread<'a> {
         }
     }
 
-    // Whether it is a reset that asks the registry for nothing: a walk of it is under way, or it waits for others.
-    fn is_under_way(&self, req: ReqId) -> bool
-        ensures { result ≡ is_under_way self.now req (as_request (here_in self.now.held.items (ids.Request req))) }
-    {
-        match self.held.get(Id::Request(req)) {
-            Some(Kept::Request(r)) => {
-                is_reset(r.op) && reset_event(&self.part, req, Some(*r)).is_none()
-            }
-            _ => false,
-        }
-    }
-
     // Whether the request is here on its own thread, isn't kept without an answer, and is no reset under way.
     fn is_moving(&self, req: ReqId) -> bool
         ensures { result ≡ is_moving self.now req }
     {
-        self.is_own(req)
-            && !self.held.is_pended(self.setup, &self.part, req)
-            && !self.is_under_way(req)
+        let Some(Kept::Request(r)) = self.held.get(Id::Request(req)) else {
+            return false;
+        };
+        if !is_at_own(self.me, req, *r) || is_under_way(&self.part, req, *r) {
+            return false;
+        }
+        !r.pended || !self.held.is_pended(self.setup, &self.part, req)
     }
 
     // How many of its open requests are here and may get their answer without a removal.
