@@ -82,6 +82,10 @@ abbrev pub is_some_waiting : List (ReqId × ℕ) → Bool
 is_some_waiting [] = false
 is_some_waiting (p ∷ ps) = true
 
+-- nothing is in flight, and nothing waits
+abbrev pub is_idle : Channel → Bool
+is_idle c = (c.in_flight == 0) && not (is_some_waiting c.pieces)
+
 abbrev pub waits_in : Option Channel → Bool
 waits_in None = false
 waits_in (Some c) = is_some_waiting c.pieces

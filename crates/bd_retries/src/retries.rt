@@ -1,7 +1,8 @@
 //! The channels of a thread: for each base device that it sent pieces to, what is in flight and what waits.
 ghost use Rattle.std.specs.Prelude.{◌≡◌, [], find, length, option_copied, position, OnOk};
+ghost use Rattle.std.specs.List.{list_all};
 ghost use Rattle.bd_machine.specs.Table.{change_first};
-ghost use Rattle.bd_retries.specs.Channels.{changed, changed_if_any, dropped, is_of, landed, next_at, next_in, queued, refused, retried, sent, waits, waits_in, with_channel};
+ghost use Rattle.bd_retries.specs.Channels.{changed, changed_if_any, dropped, is_idle, is_of, landed, next_at, next_in, queued, refused, retried, sent, waits, waits_in, with_channel};
 
 use crate::retry::Retry;
 use crate::waiting::Waiting;
@@ -137,6 +138,13 @@ impl Retries {
             Some(channel) => channel.waits(),
             None => false,
         }
+    }
+
+    /// Whether no piece is in flight to any base device, and none waits in a retry queue.
+    pub fn are_idle(&self) -> bool
+        ensures { result ≡ list_all is_idle self.now }
+    {
+        self.channels.as_slice().iter().all(|c| c.is_idle())
     }
 
     /// `n` more pieces of a base device are in flight. A count past 64 bits answers out of memory too. After

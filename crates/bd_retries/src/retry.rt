@@ -1,7 +1,7 @@
 //! The channel of one base device: its pieces in flight, and those that wait since the home was full.
 ghost use Rattle.std.specs.Prelude.{◌≡◌, ◌++◌, filter, map, not, OnOk};
 ghost use Rattle.bd_machine.specs.Same.{same_request};
-ghost use Rattle.bd_retries.specs.Channels.{blank, dropped, first_waiting, is_of, is_some_waiting, landed, next, pieces_named, queued, refused, retried, sent};
+ghost use Rattle.bd_retries.specs.Channels.{blank, dropped, first_waiting, is_idle, is_of, is_some_waiting, landed, next, pieces_named, queued, refused, retried, sent};
 
 use crate::waiting::Waiting;
 use bd_base::{DevId, OutOfMemory, ReqId};
@@ -84,6 +84,13 @@ impl Retry {
         ensures { result ≡ is_some_waiting self.now.pieces }
     {
         first(self.base, &self.pieces).is_some()
+    }
+
+    /// Whether nothing is in flight, and nothing waits.
+    pub fn is_idle(&self) -> bool
+        ensures { result ≡ is_idle self.now }
+    {
+        self.in_flight == 0 && !self.waits()
     }
 
     /// `n` more pieces are in flight. A count past 64 bits answers out of memory, and nothing changed.

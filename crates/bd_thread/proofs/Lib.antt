@@ -35,3 +35,4 @@ pub mod Working
 pub mod Over
 mod OnDisk
 pub mod Looked
+mod Still

@@ -1,9 +1,12 @@
 -- When a thread has nothing under way.
-use Rattle.std.specs.Prelude.{ℕ, ◌-◌, ◌%◌, Bool, true, false, cond, ◌&&◌, ◌==◌, ◌^◌, nat_lt, not, count_by, List, length, Option, Some, None, is_none}
-use Rattle.std.specs.List.{list_all, range_with_len}
+use Rattle.std.specs.Prelude.{ℕ, ◌-◌, ◌%◌, ◌≡◌, Bool, true, false, cond, ◌&&◌, ◌||◌, ◌==◌, ◌^◌, nat_lt, not, List, length, Option, Some, None, is_none}
+use Rattle.std.specs.List.{list_all, list_any, range_with_len, AllByRecursion}
 use Rattle.bd_base.specs.declared.act.Act.TheVariants as acts
 use Rattle.bd_base.specs.declared.id.HandleId.{HandleId}
 use Rattle.bd_base.specs.declared.id.ReqId.{ReqId}
+use Rattle.bd_held.specs.Holds.{has_hold, HoldKey}
+use Rattle.bd_machine.specs.declared.state.Hold.{Hold}
+use Rattle.bd_machine.specs.declared.state.Hold.TheVariants as holds
 use Rattle.bd_machine.specs.declared.state.Id.TheVariants as ids
 use Rattle.bd_machine.specs.declared.state.Limited.{Limited}
 use Rattle.bd_machine.specs.declared.state.Open.{Open}
@@ -16,10 +19,13 @@ use Rattle.bd_steps.specs.Resetting.{reset_event}
 use Rattle.bd_steps.specs.Resting.{is_done_with}
 use Rattle.bd_steps.specs.Resting.{is_settled as settles}
 use Rattle.bd_links.specs.Entries.{longer}
+use Rattle.bd_retries.specs.Channels.{is_idle}
 use Rattle.bd_tokens.specs.Pended.{are_own_pended, is_pended_at}
 use Rattle.bd_tokens.specs.Tokens.{here_in}
+use Rattle.bd_touched.specs.Rests.{rests as may_wait}
 use Rattle.bd_thread.specs.declared.links.Links.{Links}
 use Rattle.bd_thread.specs.declared.thread.Thread.{Thread}
+use Rattle.bd_thread.specs.Looking.{sight, KeepsOwn}
 use Rattle.bd_thread.specs.Seen.{view_of}
 
 -- the handle is a base handle, or isn't open on this thread
@@ -49,10 +55,39 @@ abbrev pub is_moving : Thread → ReqId → Bool
 is_moving t req =
     is_own t req (as_request (here_in t.held.items (ids.Request req))) && not (is_pended_at t.setup.now t.part (here_in t.held.items) req) && not (is_under_way t req (as_request (here_in t.held.items (ids.Request req))))
 
--- each of its open requests is held, pended, away at the home of a limited device, or a reset under way, and nothing is still to be put or done
+-- it is held, and its hold is one of these
+abbrev pub is_among : List HoldKey → ReqId → Hold → Bool
+is_among keys req (holds.Until moment marked) = has_hold keys req moment
+is_among keys req _ = false
+
+abbrev pub is_held : Thread → ReqId → Option OpenRequest → Bool
+is_held t req None = false
+is_held t req (Some r) = is_among t.holds req r.hold
+
+-- it is moving, and the thread doesn't hold it
+abbrev pub goes_on : Thread → ReqId → Bool
+goes_on t req = is_moving t req && not (is_held t req (as_request (here_in t.held.items (ids.Request req))))
+
+-- no request is open, or no token is on the thread
+abbrev pub is_bare : Thread → Bool
+is_bare t = (length t.part.requests == 0) || (length t.held.items == 0)
+
+-- of the open requests that the thread has to look at, one goes on: of all, or of those that are named
+abbrev pub has_going : Thread → Bool
+has_going t = cond t.touched.all (list_any (λ (o : Open). goes_on t o.id) t.part.requests) (list_any (goes_on t) t.touched.reqs)
+
+-- nothing is still to be put or done, no piece is in flight or waits to be sent again, and of the open requests that it has to look at each is held, pended, away at the home of a limited device, or a reset under way; all others rest (`EachRests`)
 abbrev pub rests_but_for_time : Thread → Links → Bool
 rests_but_for_time t links =
-    (length t.outbox.items == 0) && (length t.part.due == 0) && (length t.part.owed == 0) && is_none t.part.injection && (count_by (λ (o : Open). is_moving t o.id) t.part.requests == length t.holds) && list_all (is_settled t links) t.part.gone
+    (length t.outbox.items == 0) && (length t.part.due == 0) && (length t.part.owed == 0) && is_none t.part.injection && list_all is_idle t.retries && (is_bare t || not (has_going t)) && list_all (is_settled t links) t.part.gone
+
+-- it can do nothing until an act reaches it or its hold ends, or it doesn't go on
+abbrev pub is_at_rest : Thread → Open → Bool
+is_at_rest t o = may_wait t.setup.now t.me (sight t) t.touched.holds o || not (goes_on t o.id)
+
+-- where a thread that looks at each request which doesn't rest has nothing under way but for time, each of its open requests is at rest
+abbrev pub EachRests : Type 0
+EachRests = (t : Thread) (links : Links) → KeepsOwn t → rests_but_for_time t links ≡ true → AllByRecursion (λ (o : Open). is_at_rest t o ≡ true) t.part.requests
 
 -- ---- the lines of limited devices
 

@@ -1,5 +1,6 @@
 //! Laws of threads. Each function says one of them: its body is empty, and its clause is the law,
 //! which the definitions alone prove.
+ghost use Rattle.bd_thread.specs.Resting.{EachRests};
 ghost use Rattle.bd_thread.specs.Starts.{NewIsAtStart};
 ghost use Rattle.bd_thread.specs.Work.{NothingElseWaits};
 
@@ -12,4 +13,10 @@ pub fn new_is_at_start()
 /// all that a quiet turn waits for.
 pub fn nothing_else_waits()
     ensures { NothingElseWaits }
+{}
+
+/// Where a thread has nothing under way but for time, each of its open requests rests, is held, is kept without an
+/// answer, is away at the home of a limited device, or is a reset under way: also those that it doesn't look at.
+pub fn each_rests()
+    ensures { EachRests }
 {}

@@ -1,17 +1,19 @@
 //! When a thread has nothing under way.
-ghost use Rattle.std.specs.Prelude.{◌≡◌, ◌&&◌, Some, count_by, is_none};
-ghost use Rattle.std.specs.List.{list_all};
+ghost use Rattle.std.specs.Prelude.{◌≡◌, ◌&&◌, Some, is_none};
+ghost use Rattle.std.specs.List.{list_all, list_any};
 ghost use Rattle.bd_machine.specs.declared.state.Id.TheVariants as ids;
+ghost use Rattle.bd_machine.specs.declared.state.Open.{Open};
 ghost use Rattle.bd_machine.specs.Kept.{as_request};
 ghost use Rattle.bd_machine.specs.Walks.{is_reset};
 ghost use Rattle.bd_steps.specs.Resetting.{reset_event};
 ghost use Rattle.bd_tokens.specs.Tokens.{here_in};
-ghost use Rattle.bd_thread.specs.Resting.{has_destructed_all, is_blocked, is_done, is_line_empty, is_moving, is_own, limited_for, rests, rests_but_for_time};
+ghost use Rattle.bd_thread.specs.Resting.{goes_on, has_destructed_all, has_going, is_among, is_blocked, is_done, is_held, is_line_empty, is_moving, is_own, limited_for, rests, rests_but_for_time};
 
 use crate::links::Links;
 use crate::thread::Thread;
 use bd_base::ReqId;
-use bd_machine::{Id, Kept, Limited, OpenRequest, Part};
+use bd_held::Held;
+use bd_machine::{Hold, Id, Kept, Limited, OpenRequest, Part};
 use bd_rule_requests::{is_at_own, is_reset};
 use bd_rule_script::is_script_blocked;
 use bd_steps::{are_done_with, are_settled, reset_event};
@@ -35,6 +37,16 @@ fn is_under_way(part: &Part, req: ReqId, r: OpenRequest) -> bool
     ensures { result ≡ is_reset r.op && is_none (reset_event part.now req (Some r)) }
 {
     is_reset(r.op) && reset_event(part, req, Some(r)).is_none()
+}
+
+// Whether the request is held, and its hold is one of these.
+fn is_among(holds: &Held, req: ReqId, hold: Hold) -> bool
+    ensures { result ≡ is_among holds.now req hold }
+{
+    match hold {
+        Hold::Until { moment, .. } => holds.has(req, moment),
+        Hold::Before | Hold::Over => false,
+    }
 }
 
 impl<'a> Thread<'a> {
@@ -86,20 +98,52 @@ impl<'a> Thread<'a> {
         !r.pended || !self.held.is_pended(self.setup, &self.part, req)
     }
 
-    // How many of its open requests are here and may get their answer without a removal.
-    fn count_moving(&self) -> usize
-        ensures { result ≡ count_by (λ o. is_moving self.now o.id) self.now.part.requests }
+    // Whether the request is here, and the thread holds it.
+    fn is_held(&self, req: ReqId) -> bool
+        ensures { result ≡ is_held self.now req (as_request (here_in self.now.held.items (ids.Request req))) }
     {
-        self.part
-            .requests
-            .iter()
-            .filter(|open| self.is_moving(open.id))
-            .count()
+        match self.held.get(Id::Request(req)) {
+            Some(Kept::Request(r)) => is_among(&self.holds, req, r.hold),
+            _ => false,
+        }
     }
 
-    /// Whether each of its open requests is held, kept without an answer, away at the home of a limited device, or a reset
-    /// under way, and nothing is still to be put or done: nothing goes on by itself here but its holds, its lines, walks
-    /// that wait for these, and its script.
+    // Whether the request moves, and isn't held.
+    fn goes_on(&self, req: ReqId) -> bool
+        ensures { result ≡ goes_on self.now req }
+    {
+        self.is_moving(req) && !self.is_held(req)
+    }
+
+    // Whether one of all its open requests goes on.
+    fn has_open_going(&self) -> bool
+        ensures { result ≡ list_any (λ (o : Open). goes_on self.now o.id) self.now.part.requests }
+    {
+        self.part.requests.iter().any(|open| self.goes_on(open.id))
+    }
+
+    // Whether one of the requests goes on that are named as those that the thread has to look at.
+    fn has_named_going(&self) -> bool
+        ensures { result ≡ list_any (goes_on self.now) self.now.touched.reqs }
+    {
+        self.touched.iter().any(|req| self.goes_on(*req))
+    }
+
+    // Whether one of the open requests goes on that the thread has to look at.
+    fn has_going(&self) -> bool
+        ensures { result ≡ has_going self.now }
+    {
+        if self.touched.is_all() {
+            self.has_open_going()
+        } else {
+            self.has_named_going()
+        }
+    }
+
+    /// Whether nothing is still to be put or done, no piece of its requests is in flight or waits to be sent again, and
+    /// of the open requests that it has to look at each is held, kept without an answer, away at the home of a limited
+    /// device, or a reset under way: nothing goes on by itself here but its holds, its lines, walks that wait for
+    /// these, and its script. It doesn't look at requests that rest (`law::each_rests`).
     pub fn rests_but_for_time(&self, links: &Links) -> bool
         ensures { result ≡ rests_but_for_time self.now links.now }
     {
@@ -107,7 +151,8 @@ impl<'a> Thread<'a> {
             && self.part.due.len() == 0
             && self.part.owed.len() == 0
             && self.part.injection.is_none()
-            && self.count_moving() == self.holds.len()
+            && self.retries.are_idle()
+            && (self.is_bare() || !self.has_going())
             && are_settled(&self.seen(links), self.setup)
     }
 

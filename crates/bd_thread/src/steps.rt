@@ -36,7 +36,7 @@ fn next_found(asks: bool, req: ReqId, found: Option<ReqId>) -> Option<ReqId>
 
 impl<'a> Thread<'a> {
     // Whether no request is open, or no token is on this thread.
-    fn is_bare(&self) -> bool
+    pub(crate) fn is_bare(&self) -> bool
         ensures { result ≡ (length self.now.part.requests == 0) || (length self.now.held.items == 0) }
     {
         self.part.requests.len() == 0 || self.held.len() == 0

@@ -1,6 +1,8 @@
 //! The open requests that a thread still has to look at.
 ghost use Rattle.std.specs.Prelude.{◌≡◌, ℕ, ◌∷◌, ◌++◌, [], false, true, cond, length, slice_get, IfSome, OnOk};
+ghost use Rattle.std.specs.Iterator.Runs.{YieldsRefsInOrder};
 ghost use Rattle.std.specs.List.{AllByRecursion};
+ghost use Rattle.std.specs.VecDeque.Iter.{deque_iter_rest, deque_iter_steps};
 ghost use Rattle.bd_base.specs.declared.id.ReqId.{ReqId};
 ghost use Rattle.bd_machine.specs.declared.state.Open.{Open};
 ghost use Rattle.bd_held.specs.Holds.{has_due, with_hold};
@@ -15,6 +17,7 @@ use bd_rule_view::same_request;
 use bd_rule_walks::any_waits;
 use std::alloc::Global;
 use std::collections::VecDeque;
+use std::collections::vec_deque::Iter;
 use std::marker::Model;
 
 /// How many requests are kept at most, before all are to be looked at.
@@ -65,6 +68,21 @@ impl Touched {
         ensures { result ≡ slice_get self.now.reqs place }
     {
         self.reqs.get(place).copied()
+    }
+
+    /// Those that are named, in their order.
+    pub fn iter(&self) -> Iter<'_, ReqId>
+        ensures rest { deque_iter_rest result ≡ self.now.reqs }
+        ensures runs { YieldsRefsInOrder (deque_iter_steps {X = ReqId}) deque_iter_rest }
+    {
+        self.reqs.iter()
+    }
+
+    /// Whether all open requests are to be looked at, whichever are named.
+    pub fn is_all(&self) -> bool
+        ensures { result ≡ self.now.all }
+    {
+        self.all
     }
 
     // All of them.
