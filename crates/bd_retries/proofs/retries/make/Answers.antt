@@ -1,4 +1,4 @@
-use Rattle.std.proofs.Common.{◌≡◌, cond, List, [], ◌∷◌, ◌++◌, find, Option, Some, None, is_some, option_copied, sym, ◌∙◌, ap}
+use Rattle.std.proofs.Common.{◌≡◌, cond, [], ◌∷◌, ◌++◌, find, Option, is_some, option_copied, sym, ◌∙◌, ap}
 use Rattle.bd_retries.specs.Channels.{blank, is_of, with_channel, Channel}
 use Rattle.bd_retries.proofs.Answered.{on_ok}
 use Rattle.bd_retries.proofs.retries.make.Goals as goal
