@@ -1,30 +1,9 @@
-use Rattle.std.proofs.Common.{◌≡◌, ℕ, ◌++◌, List, length, Option, Some, None, position, refl, sym, ◌∙◌, ap, subst}
-use Rattle.bd_base.specs.declared.id.ReqId.{ReqId}
+use Rattle.std.proofs.Common.{position, sym, ◌∙◌, ap}
 use Rattle.bd_msg.specs.Purse.{same_request, Kept}
-use Rattle.bd_msg.proofs.Without.{position-first, position-later, position-nowhere}
+use Rattle.bd_msg.proofs.Rising.{only_place}
 use Rattle.bd_msg.proofs.purse.Purse.place_of.Goals as goal
-
-abbrev at : ReqId → List ReqId → Option ℕ
-at id xs = position (λ x. same_request x id) xs
-
-pub returns-in_err-place-in-None : goal.returns-in_err-place-in-None
-returns-in_err-place-in-None c =
-    let items : c.self.inside.tickets.items ≡ c.args.self.now.ids = ap (λ (k : Kept). k.ids) c.self.view_is in
-    let whole : c.as_slices.result.0.now ++ c.as_slices.result.1.now ≡ c.args.self.now.ids = c.as_slices.ensures.items ∙ items in
-    c.from_residual.ensures
-    ∙ sym (position-nowhere c.args.id c.as_slices.result.0.now c.as_slices.result.1.now (sym c.in-None.ensures) (sym c.in_err-place-in-None.ensures))
-    ∙ ap (at c.args.id) whole
 
 pub returns-in-Some : goal.returns-in-Some
 returns-in-Some c =
-    let items : c.self.inside.tickets.items ≡ c.args.self.now.ids = ap (λ (k : Kept). k.ids) c.self.view_is in
-    let whole : c.as_slices.result.0.now ++ c.as_slices.result.1.now ≡ c.args.self.now.ids = c.as_slices.ensures.items ∙ items in
-    sym (position-first c.args.id c.as_slices.result.0.now c.as_slices.result.1.now c.in-Some.place (sym c.in-Some.ensures))
-    ∙ ap (at c.args.id) whole
-
-pub returns-in_ok-place-in-None : goal.returns-in_ok-place-in-None
-returns-in_ok-place-in-None c =
-    let items : c.self.inside.tickets.items ≡ c.args.self.now.ids = ap (λ (k : Kept). k.ids) c.self.view_is in
-    let whole : c.as_slices.result.0.now ++ c.as_slices.result.1.now ≡ c.args.self.now.ids = c.as_slices.ensures.items ∙ items in
-    sym (position-later c.args.id c.as_slices.result.0.now c.as_slices.result.1.now c.in_ok-place-in-None.place (sym c.in-None.ensures) (sym c.in_ok-place-in-None.ensures))
-    ∙ ap (at c.args.id) whole
+    sym (only_place c.self.inside.next c.args.id c.self.inside.tickets.items c.in-Some.place c.self.invariant (sym c.is_some.ensures ∙ c.if-is_some.true) c.in-Some.ensures.within c.in-Some.ensures.same)
+    ∙ ap (λ (k : Kept). position (λ x. same_request x c.args.id) k.ids) c.self.view_is

@@ -1,13 +1,18 @@
-use Rattle.std.proofs.Common.{◌≡◌, ℕ, List, length, Option, Some, None, OnSome, refl, sym, ◌∙◌, ap, ap₂, slice_index_or, remove, IsSome, arith}
+use Rattle.std.proofs.Common.{◌≡◌, ℕ, List, length, Option, Some, None, IfNone, OnSome, sym, ◌∙◌, ap, ap₂, slice_index_or, remove, IsSome, arith}
 use Rattle.std.proofs.lemmas.Option.{IfSome_then}
 use Rattle.bd_base.specs.declared.id.ReqId.{ReqId}
 use Rattle.bd_msg.specs.Purse.{Kept}
+use Rattle.bd_msg.proofs.Rising.{taken}
 use Rattle.bd_msg.proofs.Without.{position-contains, position-none, position-some, position-at, remove-position}
 use Rattle.bd_msg.proofs.purse.Purse.take.Goals as goal
 
 not_some : (r : Option ReqId) → r ≡ None → IsSome r → ⊥
 not_some None e h = cc
 not_some (Some x) e h = cc
+
+on_none : {X A B : Type 0} (r : Option X) → (A → B) → IfNone r A → IfNone r B
+on_none None so h = so h
+on_none (Some x) so h = h
 
 on_some : {X A B : Type 0} (r : Option X) → (A → B) → OnSome r A → OnSome r B
 on_some None so h = h
@@ -45,3 +50,8 @@ returns-clause-rest c =
     ∙ remove-position c.args.id c.args.self.now.ids c.in_ok-place.place (sym c.in_ok-place.ensures))
     (c.remove.ensures.capacity ∙ room))
     c.remove.ensures.items
+
+pub invariant_of-self : goal.invariant_of-self
+invariant_of-self c =
+    taken c.remove.result c.self.inside.next c.self.inside.tickets.items c.remove.new.self.items c.in_ok-place.place c.self.invariant
+    c.remove.ensures.items (on_none c.remove.result (λ same. ap (λ q. q.items) same) c.remove.ensures.unchanged)
