@@ -13,6 +13,8 @@ use Rattle.bd_machine.proofs.Tables.{id_same, look_up-write, IsSame}
 use Rattle.bd_rule_effects.proofs.Firsts.{before, found_at, found_before, missed_before}
 use Rattle.bd_tokens.specs.declared.key.Key.{Key}
 use Rattle.bd_tokens.specs.Tokens.{here_in, items_of, Sets}
+use Rattle.bd_tokens.specs.declared.places.Tier.{Tier}
+use Rattle.bd_tokens.specs.declared.places.Tier.TheVariants.{Near, Far}
 use Rattle.bd_tokens.specs.Places.{items_in, items_with, place_of, AreAt, AreKept}
 use Rattle.bd_tokens.specs.Walks.{items_of_walks, unplaced_with, walk_of, walks_in, AreOnce, AreUnplaced, EachIsAmong, EachIsHere, IsAmong}
 use Rattle.bd_tokens.proofs.Placed.{first_of, here_both}
@@ -280,21 +282,25 @@ walks_unplaced walks entries before =
     ∙ append_none (map (λ walk. walk.0) walks)
 
 -- no walk is at a place
-none_placed : (place : ℕ) (rows : List (Option (Id × Kept))) → AreAt place rows → walks_in (items_in rows) ≡ []
-none_placed place [] at = refl
-none_placed place (None ∷ rows) at = none_placed (place + 1) rows at.1
-none_placed place (Some item ∷ rows) at = go item.0 at.0 (none_placed (place + 1) rows at.1)
+walk_nowhere : (tier : Tier) (walk : WalkId) → place_of tier (Walk walk) ≡ None
+walk_nowhere Near walk = refl
+walk_nowhere Far walk = refl
+
+none_placed : (tier : Tier) (place : ℕ) (rows : List (Option (Id × Kept))) → AreAt tier place rows → walks_in (items_in rows) ≡ []
+none_placed tier place [] at = refl
+none_placed tier place (None ∷ rows) at = none_placed tier (place + 1) rows at.1
+none_placed tier place (Some item ∷ rows) at = go item.0 at.0 (none_placed tier (place + 1) rows at.1)
   where
-    go : (i : Id) → place_of i ≡ Some place → walks_in (items_in rows) ≡ [] → cons_option (walk_of i) (walks_in (items_in rows)) ≡ []
+    go : (i : Id) → place_of tier i ≡ Some place → walks_in (items_in rows) ≡ [] → cons_option (walk_of i) (walks_in (items_in rows)) ≡ []
     go (Request req) is-at ih = ih
     go (Piece req k) is-at ih = ih
-    go (Walk walk) is-at ih = absurd (none_some place is-at)
+    go (Walk walk) is-at ih = absurd (none_some place (sym (walk_nowhere tier walk) ∙ is-at))
     go (Notice sender receiver number) is-at ih = ih
 
-pub walks_with : (rows : List (Option (Id × Kept))) (unplaced : List (Id × Kept)) → AreKept rows unplaced → walks_in (items_with rows unplaced) ≡ walks_in unplaced
-walks_with rows unplaced before =
+pub walks_with : (tier : Tier) (rows : List (Option (Id × Kept))) (unplaced : List (Id × Kept)) → AreKept tier rows unplaced → walks_in (items_with rows unplaced) ≡ walks_in unplaced
+walks_with tier rows unplaced before =
     filter_map-append (λ item. walk_of item.0) (items_in rows) unplaced
-    ∙ ap (λ (ws : List WalkId). ws ++ walks_in unplaced) (none_placed 0 rows before.at)
+    ∙ ap (λ (ws : List WalkId). ws ++ walks_in unplaced) (none_placed tier 0 rows before.at)
 
 -- ---- laws
 

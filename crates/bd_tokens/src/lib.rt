@@ -1,6 +1,7 @@
 //! What a thread holds: its tokens, with what is kept of each.
 #![tactic(auto)]
 
+mod beyond;
 mod key;
 pub mod law;
 mod others;

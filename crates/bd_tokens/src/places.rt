@@ -1,7 +1,7 @@
-//! Places for tokens: each request and each piece has one, which it shares with others. What is at the places is
-//! found without a search; a token whose place another one has is in a map.
+//! Places for tokens: each request and each piece has one near, which it shares with others, and one far off, for where
+//! many are held at once. What is at the places is found without a search; a token whose places others have is in a map.
 ghost use Rattle.std.specs.Prelude.{◌≡◌, ◌<◌, ◌≤◌, [], length, slice_index_or, slice_set, option_copied, option_map, true, vec_len, IfErr, IfNone, IfOk, IfSome, OnErr, OnOk, Some, None};
-ghost use Rattle.bd_tokens.specs.Places.{is_free, is_own, items_in, kept_in, kept_of, place_of, AreAt};
+ghost use Rattle.bd_tokens.specs.Places.{far_place_of, is_free, is_own, items_in, kept_in, kept_of, near_place_of, place_of, AreAt};
 ghost use Rattle.bd_tokens.specs.Tokens.{here_in};
 
 use bd_base::DevId;
@@ -10,8 +10,12 @@ use bd_parcel::Parcel;
 use bd_rule_view::same_id;
 use std::alloc::Global;
 
-/// How many places there are.
-const PLACES: usize = 384;
+/// Places of one kind: near ones, which are few, or those far off, for where many tokens are held at once.
+#[derive(Clone, Copy)]
+pub(crate) enum Tier {
+    Near,
+    Far,
+}
 
 /// How many parcels are kept for tokens to come.
 const SPARES: usize = 16;
@@ -19,9 +23,19 @@ const SPARES: usize = 16;
 /// What is at a place: a token with what is kept of it, if there is one.
 pub(crate) type Row = Option<(Id, Parcel)>;
 
-// The place of a request or a piece.
-fn place_of(id: Id) -> Option<usize>
-    ensures { result ≡ place_of id }
+// How many places there are of this kind.
+fn place_count(tier: Tier) -> usize
+    ensures { result ≤ 4096 }
+{
+    match tier {
+        Tier::Near => 384,
+        Tier::Far => 3072,
+    }
+}
+
+// The near place of a request or a piece.
+fn near_place_of(id: Id) -> Option<usize>
+    ensures { result ≡ near_place_of id }
 {
     match id {
         Id::Request(req) => Some(256 + (req.seq % 128) as usize),
@@ -30,6 +44,27 @@ fn place_of(id: Id) -> Option<usize>
             Some(16 * (req.thread % 16) as usize + column)
         }
         _ => None,
+    }
+}
+
+// The far place of a request or a piece.
+fn far_place_of(id: Id) -> Option<usize>
+    ensures { result ≡ far_place_of id }
+{
+    match id {
+        Id::Request(req) => Some(1024 + (req.seq % 2048) as usize),
+        Id::Piece(req, k) => Some(64 * (req.seq % 16) as usize + (k % 64) as usize),
+        _ => None,
+    }
+}
+
+// The place of a token of this kind of places.
+fn place_of(tier: Tier, id: Id) -> Option<usize>
+    ensures { result ≡ place_of tier id }
+{
+    match tier {
+        Tier::Near => near_place_of(id),
+        Tier::Far => far_place_of(id),
     }
 }
 
@@ -70,11 +105,11 @@ fn is_own(row: &Row, id: Id) -> bool
 }
 
 /// What is kept of the token, where it is at its place.
-pub(crate) fn kept_at_place(rows: &[Row], id: Id) -> Option<&Kept>
-    requires { AreAt 0 rows.now }
+pub(crate) fn kept_at_place(tier: Tier, rows: &[Row], id: Id) -> Option<&Kept>
+    requires { AreAt tier 0 rows.now }
     ensures { option_copied result ≡ here_in (items_in rows.now) id }
 {
-    let Some(place) = place_of(id) else {
+    let Some(place) = place_of(tier, id) else {
         return None;
     };
     match rows.get(place) {
@@ -84,14 +119,14 @@ pub(crate) fn kept_at_place(rows: &[Row], id: Id) -> Option<&Kept>
 }
 
 /// The place of the token, where no other one is there.
-pub(crate) fn free_place(rows: &[Row], id: Id) -> Option<usize>
-    requires { AreAt 0 rows.now }
+pub(crate) fn free_place(tier: Tier, rows: &[Row], id: Id) -> Option<usize>
+    requires { AreAt tier 0 rows.now }
     ensures within { IfSome result (λ place. place < length rows.now) }
-    ensures place { IfSome result (λ place. place_of id ≡ Some place) }
+    ensures place { IfSome result (λ place. place_of tier id ≡ Some place) }
     ensures free { IfSome result (λ place. is_free id (slice_index_or rows.now place None) ≡ true) }
     ensures none { IfNone result (here_in (items_in rows.now) id ≡ None) }
 {
-    let Some(place) = place_of(id) else {
+    let Some(place) = place_of(tier, id) else {
         return None;
     };
     let Some(row) = rows.get(place) else {
@@ -101,14 +136,14 @@ pub(crate) fn free_place(rows: &[Row], id: Id) -> Option<usize>
 }
 
 /// The place of the token, where it is there.
-pub(crate) fn own_place(rows: &[Row], id: Id) -> Option<usize>
-    requires { AreAt 0 rows.now }
+pub(crate) fn own_place(tier: Tier, rows: &[Row], id: Id) -> Option<usize>
+    requires { AreAt tier 0 rows.now }
     ensures within { IfSome result (λ place. place < length rows.now) }
-    ensures place { IfSome result (λ place. place_of id ≡ Some place) }
+    ensures place { IfSome result (λ place. place_of tier id ≡ Some place) }
     ensures own { IfSome result (λ place. is_own id (slice_index_or rows.now place None) ≡ true) }
     ensures none { IfNone result (here_in (items_in rows.now) id ≡ None) }
 {
-    let Some(place) = place_of(id) else {
+    let Some(place) = place_of(tier, id) else {
         return None;
     };
     let Some(row) = rows.get(place) else {
@@ -118,30 +153,31 @@ pub(crate) fn own_place(rows: &[Row], id: Id) -> Option<usize>
 }
 
 /// Makes the places, where there are none yet, as far as there is memory for them.
-pub(crate) fn make_places(rows: &mut Vec<Row>)
-    requires at { AreAt 0 rows.old.items }
-    requires few { vec_len rows.old ≤ 384 }
-    ensures at { AreAt 0 rows.new.items }
-    ensures few { vec_len rows.new ≤ 384 }
+pub(crate) fn make_places(tier: Tier, rows: &mut Vec<Row>)
+    requires at { AreAt tier 0 rows.old.items }
+    requires few { vec_len rows.old ≤ 4096 }
+    ensures at { AreAt tier 0 rows.new.items }
+    ensures few { vec_len rows.new ≤ 4096 }
     ensures same { items_in rows.new.items ≡ items_in rows.old.items }
 {
     if rows.is_empty() {
-        add_places(rows);
+        add_places(tier, rows);
     }
 }
 
 // Makes the places, as far as there is memory for them.
 #[tactic(auto, using(crate::proofs::Placed::none_more, crate::proofs::Placed::at_more))]
-fn add_places(rows: &mut Vec<Row>)
+fn add_places(tier: Tier, rows: &mut Vec<Row>)
     requires { rows.old.items ≡ [] }
-    ensures at { AreAt 0 rows.new.items }
-    ensures few { vec_len rows.new ≤ 384 }
+    ensures at { AreAt tier 0 rows.new.items }
+    ensures few { vec_len rows.new ≤ 4096 }
     ensures none { items_in rows.new.items ≡ [] }
 {
-    if rows.reserve_exact(PLACES).is_err() {
+    let places = place_count(tier);
+    if rows.reserve_exact(places).is_err() {
         return;
     }
-    for _place in 0..PLACES {
+    for _place in 0..places {
         if rows.push(None).is_err() {
             return;
         }

@@ -4,15 +4,16 @@ ghost use Rattle.std.specs.List.{slice_get};
 ghost use Rattle.bd_rule_effects.specs.Begun.{begun, taken, walk_moved};
 ghost use Rattle.bd_machine.specs.Alone.{held_after};
 ghost use Rattle.bd_tokens.specs.Pended.{are_own_pended, is_pended_at};
-ghost use Rattle.bd_tokens.specs.Places.{is_free, items_with, place_of, AreKept};
+ghost use Rattle.bd_tokens.specs.Places.{is_free, items_with, near_place_of, AreKept};
+ghost use Rattle.bd_tokens.specs.declared.places.Tier.TheVariants.{Near};
 ghost use Rattle.bd_tokens.specs.Tokens.{here_in, left_of, Sets};
 ghost use Rattle.bd_tokens.specs.Walks.{walks_in};
 
+use crate::beyond::Beyond;
 use crate::pended::{are_rows_pended, is_pended};
 use crate::places::{
-    Row, clear_at, count, free_place, kept_at_place, make_places, own_place, put_at, take_at,
+    Row, Tier, clear_at, count, free_place, kept_at_place, make_places, own_place, put_at, take_at,
 };
-use crate::unplaced::Unplaced;
 use bd_base::{OutOfMemory, ReqId, Setup, Token, WalkId};
 use bd_machine::{Id, Kept, OpenWalk, Part};
 use bd_parcel::Parcel;
@@ -29,40 +30,41 @@ pub struct Tokens {
     rows: Vec<Row>,
     // parcels of tokens that were let go, for tokens to come: what is in them means nothing
     spares: Vec<Parcel>,
-    // walks and notices, and tokens whose place another one has
-    unplaced: Unplaced,
+    // tokens whose place another one has, walks and notices
+    beyond: Beyond,
 }
 
 impl Model for Tokens {
     ghost use Rattle.bd_tokens.specs.Places.{items_with, AreKept};
+    ghost use Rattle.bd_tokens.specs.declared.places.Tier.TheVariants.{Near};
     ghost use Rattle.bd_tokens.specs.Tokens.{Held};
 
     ghost Value = { Held };
 
-    ghost view = { λ t. record { items = items_with t.rows.items t.unplaced.items; room = t.unplaced.room } };
+    ghost view = { λ t. record { items = items_with t.rows.items t.beyond.items; room = t.beyond.room } };
 
-    ghost invariant = { λ t. AreKept t.rows.items t.unplaced.items };
+    ghost invariant = { λ t. AreKept Near t.rows.items t.beyond.items };
 }
 
 // The token is at its place, where that is free, and else it has none.
 fn hold(
     rows: &mut Vec<Row>,
     spares: &mut Vec<Parcel>,
-    unplaced: &mut Unplaced,
+    beyond: &mut Beyond,
     id: Id,
     kept: Kept,
 ) -> Result<(), OutOfMemory>
-    requires { AreKept rows.old.items unplaced.old.items }
-    ensures kept { AreKept rows.new.items unplaced.new.items }
-    ensures ok { OnOk result (Sets (items_with rows.old.items unplaced.old.items) (items_with rows.new.items unplaced.new.items) id (Some kept)) }
-    ensures err { OnErr result (items_with rows.new.items unplaced.new.items ≡ items_with rows.old.items unplaced.old.items) }
-    ensures room { unplaced.old.room ≤ unplaced.new.room + 1 }
-    ensures holds { 0 < unplaced.old.room → IsOk result }
+    requires { AreKept Near rows.old.items beyond.old.items }
+    ensures kept { AreKept Near rows.new.items beyond.new.items }
+    ensures ok { OnOk result (Sets (items_with rows.old.items beyond.old.items) (items_with rows.new.items beyond.new.items) id (Some kept)) }
+    ensures err { OnErr result (items_with rows.new.items beyond.new.items ≡ items_with rows.old.items beyond.old.items) }
+    ensures room { beyond.old.room ≤ beyond.new.room + 1 }
+    ensures holds { 0 < beyond.old.room → IsOk result }
 {
-    match free_place(rows.as_slice(), id) {
-        Some(place) => hold_at(rows, spares, unplaced, place, id, kept),
+    match free_place(Tier::Near, rows.as_slice(), id) {
+        Some(place) => hold_at(rows, spares, beyond, place, id, kept),
         None => {
-            unplaced.hold(id, kept)?;
+            beyond.hold(id, kept)?;
             Ok(())
         }
     }
@@ -72,28 +74,28 @@ fn hold(
 fn hold_at(
     rows: &mut Vec<Row>,
     spares: &mut Vec<Parcel>,
-    unplaced: &mut Unplaced,
+    beyond: &mut Beyond,
     place: usize,
     id: Id,
     kept: Kept,
 ) -> Result<(), OutOfMemory>
-    requires kept { AreKept rows.old.items unplaced.old.items }
+    requires kept { AreKept Near rows.old.items beyond.old.items }
     requires within { place < vec_len rows.old }
-    requires place { place_of id ≡ Some place }
+    requires place { near_place_of id ≡ Some place }
     requires free { is_free id (slice_index_or rows.old.items place None) ≡ true }
-    ensures kept { AreKept rows.new.items unplaced.new.items }
-    ensures ok { OnOk result (Sets (items_with rows.old.items unplaced.old.items) (items_with rows.new.items unplaced.new.items) id (Some kept)) }
-    ensures err { OnErr result (items_with rows.new.items unplaced.new.items ≡ items_with rows.old.items unplaced.old.items) }
-    ensures room { unplaced.old.room ≤ unplaced.new.room + 1 }
-    ensures holds { 0 < unplaced.old.room → IsOk result }
+    ensures kept { AreKept Near rows.new.items beyond.new.items }
+    ensures ok { OnOk result (Sets (items_with rows.old.items beyond.old.items) (items_with rows.new.items beyond.new.items) id (Some kept)) }
+    ensures err { OnErr result (items_with rows.new.items beyond.new.items ≡ items_with rows.old.items beyond.old.items) }
+    ensures room { beyond.old.room ≤ beyond.new.room + 1 }
+    ensures holds { 0 < beyond.old.room → IsOk result }
 {
     match put_at(rows, spares, place, id, kept) {
         Ok(()) => {
-            unplaced.let_go(id);
+            beyond.let_go(id);
             Ok(())
         }
         Err(kept) => {
-            unplaced.hold(id, kept)?;
+            beyond.hold(id, kept)?;
             Ok(())
         }
     }
@@ -102,46 +104,40 @@ fn hold_at(
 // The token that a message brought is at its place, where that is free, and else it has none.
 fn hold_parcel(
     rows: &mut Vec<Row>,
-    unplaced: &mut Unplaced,
+    beyond: &mut Beyond,
     id: Id,
     parcel: Parcel,
 ) -> Result<(), OutOfMemory>
-    requires { AreKept rows.old.items unplaced.old.items }
-    ensures kept { AreKept rows.new.items unplaced.new.items }
-    ensures ok { OnOk result (Sets (items_with rows.old.items unplaced.old.items) (items_with rows.new.items unplaced.new.items) id (Some parcel)) }
-    ensures err { OnErr result (items_with rows.new.items unplaced.new.items ≡ items_with rows.old.items unplaced.old.items) }
-    ensures room { unplaced.old.room ≤ unplaced.new.room + 1 }
-    ensures holds { 0 < unplaced.old.room → IsOk result }
+    requires { AreKept Near rows.old.items beyond.old.items }
+    ensures kept { AreKept Near rows.new.items beyond.new.items }
+    ensures ok { OnOk result (Sets (items_with rows.old.items beyond.old.items) (items_with rows.new.items beyond.new.items) id (Some parcel)) }
+    ensures err { OnErr result (items_with rows.new.items beyond.new.items ≡ items_with rows.old.items beyond.old.items) }
+    ensures room { beyond.old.room ≤ beyond.new.room + 1 }
+    ensures holds { 0 < beyond.old.room → IsOk result }
 {
-    match free_place(rows.as_slice(), id) {
+    match free_place(Tier::Near, rows.as_slice(), id) {
         Some(place) => {
-            hold_parcel_at(rows, unplaced, place, id, parcel);
+            hold_parcel_at(rows, beyond, place, id, parcel);
             Ok(())
         }
         None => {
-            unplaced.hold(id, parcel.open())?;
+            beyond.hold(id, parcel.open())?;
             Ok(())
         }
     }
 }
 
 // The token is at its place, which is free.
-fn hold_parcel_at(
-    rows: &mut Vec<Row>,
-    unplaced: &mut Unplaced,
-    place: usize,
-    id: Id,
-    parcel: Parcel,
-)
-    requires kept { AreKept rows.old.items unplaced.old.items }
+fn hold_parcel_at(rows: &mut Vec<Row>, beyond: &mut Beyond, place: usize, id: Id, parcel: Parcel)
+    requires kept { AreKept Near rows.old.items beyond.old.items }
     requires within { place < vec_len rows.old }
-    requires place { place_of id ≡ Some place }
+    requires place { near_place_of id ≡ Some place }
     requires free { is_free id (slice_index_or rows.old.items place None) ≡ true }
-    ensures kept { AreKept rows.new.items unplaced.new.items }
-    ensures held { Sets (items_with rows.old.items unplaced.old.items) (items_with rows.new.items unplaced.new.items) id (Some parcel) }
-    ensures room { unplaced.old.room ≤ unplaced.new.room }
+    ensures kept { AreKept Near rows.new.items beyond.new.items }
+    ensures held { Sets (items_with rows.old.items beyond.old.items) (items_with rows.new.items beyond.new.items) id (Some parcel) }
+    ensures room { beyond.old.room ≤ beyond.new.room }
 {
-    unplaced.let_go(id);
+    beyond.let_go(id);
     rows[place] = Some((id, parcel));
 }
 
@@ -175,7 +171,7 @@ impl Tokens {
         Tokens {
             rows: Vec::new(alloc),
             spares: Vec::new(alloc),
-            unplaced: Unplaced::new(alloc),
+            beyond: Beyond::new(alloc),
         }
     }
 
@@ -183,16 +179,16 @@ impl Tokens {
     pub fn len(&self) -> usize
         ensures { result ≡ length self.now.items }
     {
-        count(self.rows.as_slice()) + self.unplaced.len()
+        count(self.rows.as_slice()) + self.beyond.len()
     }
 
     /// What is held of the token.
     pub fn get(&self, id: Id) -> Option<&Kept>
         ensures { option_copied result ≡ here_in self.now.items id }
     {
-        match kept_at_place(self.rows.as_slice(), id) {
+        match kept_at_place(Tier::Near, self.rows.as_slice(), id) {
             Some(kept) => Some(kept),
-            None => self.unplaced.get(id),
+            None => self.beyond.get(id),
         }
     }
 
@@ -202,7 +198,7 @@ impl Tokens {
         ensures { result ≡ are_own_pended setup.now part.now me self.now.items }
     {
         are_rows_pended(self.rows.as_slice(), setup, part, me)
-            && self.unplaced.are_pended(setup, part, me)
+            && self.beyond.are_pended(setup, part, me)
     }
 
     /// Whether the request is held, kept without an answer, and nothing stops it.
@@ -221,7 +217,7 @@ impl Tokens {
         ensures room { self.old.room ≤ self.new.room }
         ensures ok { OnOk result (n ≤ self.new.room) }
     {
-        self.unplaced.reserve(n)?;
+        self.beyond.reserve(n)?;
         Ok(())
     }
 
@@ -233,14 +229,8 @@ impl Tokens {
         ensures room { self.old.room ≤ self.new.room + 1 }
         ensures holds { 0 < self.old.room → IsOk result }
     {
-        make_places(&mut self.rows);
-        hold(
-            &mut self.rows,
-            &mut self.spares,
-            &mut self.unplaced,
-            id,
-            kept,
-        )
+        make_places(Tier::Near, &mut self.rows);
+        hold(&mut self.rows, &mut self.spares, &mut self.beyond, id, kept)
     }
 
     /// Takes out what is held of the token, where it is here. It takes memory only for a token that isn't at a place; out of
@@ -251,10 +241,10 @@ impl Tokens {
         ensures same { IfOk result (λ parcel. IfNone parcel (self.new.items ≡ self.old.items)) }
         ensures room { self.old.room ≤ self.new.room }
     {
-        match own_place(self.rows.as_slice(), id) {
+        match own_place(Tier::Near, self.rows.as_slice(), id) {
             Some(place) => Ok(take_at(&mut self.rows, place)),
             None => {
-                let kept = self.unplaced.take_out(id);
+                let kept = self.beyond.take_out(id);
                 let parcel = enclosed(*self.rows.allocator(), kept)?;
                 Ok(parcel)
             }
@@ -266,9 +256,9 @@ impl Tokens {
         ensures gone { Sets self.old.items self.new.items id None }
         ensures room { self.old.room ≤ self.new.room }
     {
-        match own_place(self.rows.as_slice(), id) {
+        match own_place(Tier::Near, self.rows.as_slice(), id) {
             Some(place) => clear_at(&mut self.rows, &mut self.spares, place),
-            None => self.unplaced.let_go(id),
+            None => self.beyond.let_go(id),
         }
     }
 
@@ -291,8 +281,8 @@ impl Tokens {
         }
         let mut parcel = kept;
         receive(&mut parcel);
-        make_places(&mut self.rows);
-        hold_parcel(&mut self.rows, &mut self.unplaced, id, parcel)
+        make_places(Tier::Near, &mut self.rows);
+        hold_parcel(&mut self.rows, &mut self.beyond, id, parcel)
     }
 
     /// A walk that begins is held. Out of memory, nothing changed.
@@ -325,13 +315,13 @@ impl Tokens {
     pub fn walk_count(&self) -> usize
         ensures { result ≡ length (walks_in self.now.items) }
     {
-        self.unplaced.walk_count()
+        self.beyond.walk_count()
     }
 
     /// The walk at this place of those that are held, from 0, in no order that means anything.
     pub fn walk_at(&self, place: usize) -> Option<WalkId>
         ensures { result ≡ slice_get (walks_in self.now.items) place }
     {
-        self.unplaced.walk_at(place)
+        self.beyond.walk_at(place)
     }
 }

@@ -5,6 +5,7 @@ use Rattle.bd_tokens.proofs.places.add_places.Given as goal
 abbrev pub invariant-loop-place : goal.invariant-loop-place
 invariant-loop-place l = record {
   few : vec_len l.rows ≤ l._place;
-  at : AreAt 0 l.rows.items;
+  bound : l.places ≤ 4096;
+  at : AreAt l.fn.tier 0 l.rows.items;
   none : items_in l.rows.items ≡ [];
 }

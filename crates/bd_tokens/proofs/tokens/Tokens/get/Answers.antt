@@ -8,11 +8,11 @@ use Rattle.bd_tokens.proofs.tokens.Tokens.get.Goals as goal
 
 pub returns-in-Some : goal.returns-in-Some
 returns-in-Some c =
-    sym (here_own c.self.inside.rows.items c.self.inside.unplaced.items c.args.id c.in-Some.kept.now (ap (λ (rs : List (Option (Id × Kept))). here_in (items_in rs) c.args.id) (sym c.as_slice.ensures.value) ∙ sym c.kept_at_place.ensures ∙ ap option_copied c.in-Some.is))
+    sym (here_own c.self.inside.rows.items c.self.inside.beyond.items c.args.id c.in-Some.kept.now (ap (λ (rs : List (Option (Id × Kept))). here_in (items_in rs) c.args.id) (sym c.as_slice.ensures.value) ∙ sym c.kept_at_place.ensures ∙ ap option_copied c.in-Some.is))
     ∙ ap (λ (h : Held). here_in h.items c.args.id) c.self.view_is
 
 pub returns-in-None : goal.returns-in-None
 returns-in-None c =
     c.get.ensures
-    ∙ sym (here_other c.self.inside.rows.items c.self.inside.unplaced.items c.args.id (ap (λ (rs : List (Option (Id × Kept))). here_in (items_in rs) c.args.id) (sym c.as_slice.ensures.value) ∙ sym c.kept_at_place.ensures ∙ ap option_copied c.in-None.is))
+    ∙ sym (here_other c.self.inside.rows.items c.self.inside.beyond.items c.args.id (ap (λ (rs : List (Option (Id × Kept))). here_in (items_in rs) c.args.id) (sym c.as_slice.ensures.value) ∙ sym c.kept_at_place.ensures ∙ ap option_copied c.in-None.is))
     ∙ ap (λ (h : Held). here_in h.items c.args.id) c.self.view_is
