@@ -105,6 +105,7 @@ fn is_own(row: &Row, id: Id) -> bool
 }
 
 /// What is kept of the token, where it is at its place.
+#[inline(always)]
 pub(crate) fn kept_at_place(tier: Tier, rows: &[Row], id: Id) -> Option<&Kept>
     requires { AreAt tier 0 rows.now }
     ensures { option_copied result ≡ here_in (items_in rows.now) id }
@@ -119,6 +120,7 @@ pub(crate) fn kept_at_place(tier: Tier, rows: &[Row], id: Id) -> Option<&Kept>
 }
 
 /// The place of the token, where no other one is there.
+#[inline(always)]
 pub(crate) fn free_place(tier: Tier, rows: &[Row], id: Id) -> Option<usize>
     requires { AreAt tier 0 rows.now }
     ensures within { IfSome result (λ place. place < length rows.now) }
@@ -136,6 +138,7 @@ pub(crate) fn free_place(tier: Tier, rows: &[Row], id: Id) -> Option<usize>
 }
 
 /// The place of the token, where it is there.
+#[inline(always)]
 pub(crate) fn own_place(tier: Tier, rows: &[Row], id: Id) -> Option<usize>
     requires { AreAt tier 0 rows.now }
     ensures within { IfSome result (λ place. place < length rows.now) }
@@ -229,6 +232,7 @@ fn keep_spare(spares: &mut Vec<Parcel>, parcel: Parcel)
 
 /// The token is at its place, where no other one is, with this kept of it, in a spare if there is one. Out of memory, what is
 /// kept comes back.
+#[inline(always)]
 pub(crate) fn put_at(
     rows: &mut Vec<Row>,
     spares: &mut Vec<Parcel>,
@@ -253,6 +257,7 @@ pub(crate) fn put_at(
 }
 
 /// Nothing is at the place any more. The parcel that was there becomes a spare, without what was in it.
+#[inline(always)]
 pub(crate) fn clear_at(rows: &mut Vec<Row>, spares: &mut Vec<Parcel>, place: usize)
     requires { place < vec_len rows.old }
     ensures { rows.new.items ≡ slice_set rows.old.items place None }
