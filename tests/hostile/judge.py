@@ -522,8 +522,6 @@ SHAPES = {
     b"post": [is_name],
     b"await": [is_name],
     b"gone": [is_name],
-    b"resize": [is_device, is_number],
-    b"sized": [is_name, is_number],
 }
 SUBMITS = (b"read", b"write", b"zeroes", b"unmap", b"flush", b"reset", b"abort")
 

@@ -1,4 +1,3 @@
-pub mod DevSet
 pub mod Errno
 pub mod Name
 pub mod Pattern

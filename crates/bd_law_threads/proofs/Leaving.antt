@@ -69,5 +69,4 @@ departures_are_stamped setup t p c l posts queues none same goes h = record {
   wrote = h.wrote;
   followed = h.followed;
   served = h.served;
-  held = h.held;
 }

@@ -112,12 +112,11 @@ blank_part = record {
   marked = [];
   resets = [];
   moments = record { first = None; last = 0 };
-  prior = None;
+  injection = None;
   bases = [];
   limited = [];
   destructed = [];
   delayed = [];
-  sized = [];
 }
 
 abbrev pub part_of : State → ℕ → Part

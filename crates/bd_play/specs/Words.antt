@@ -112,4 +112,4 @@ is_of_course _ = false
 abbrev pub submission_of : Act → Submission
 submission_of (acts.Accept dev lba handle req op count) = record { op = op; lba = lba; count = count }
 submission_of (acts.Refuse errno lba handle op count) = record { op = op; lba = lba; count = count }
-submission_of _ = record { op = ops.Reset 0; lba = 0; count = 0 }
+submission_of _ = record { op = ops.Reset; lba = 0; count = 0 }

@@ -11,7 +11,6 @@ pub mod Took
 pub mod Timing
 pub mod OnTime
 pub mod Going
-pub mod Growing
 pub mod Left
 pub mod Ends
 pub mod Registering
@@ -22,9 +21,7 @@ pub mod Leftovers
 pub mod Idle
 pub mod Carried
 pub mod Waiting
-pub mod Gracing
 pub mod Walking
-pub mod Noted
 pub mod Aborting
 pub mod Naming
 pub mod Begun

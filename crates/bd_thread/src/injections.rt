@@ -9,7 +9,6 @@ ghost use Rattle.bd_thread.specs.Acted.{Acted};
 ghost use Rattle.bd_thread.specs.Calls.{NoCallOf, StandsAsked};
 ghost use Rattle.bd_thread.specs.Injections.{asked_of, decision_asked, pend_due, Decides, NoDecisionOf, Pends, TakesDecision};
 ghost use Rattle.bd_thread.specs.Lines.{may_ask};
-ghost use Rattle.bd_thread.specs.Noted.{CallsAll, CallsFirst, CallsNoted, CallsRest};
 ghost use Rattle.bd_thread.specs.Requests.{KeepsTickets};
 ghost use Rattle.bd_thread.specs.Seen.{untaken, view_of};
 ghost use Rattle.bd_thread.specs.Waits.{Idles};
@@ -182,7 +181,6 @@ impl<'a> Thread<'a> {
         ensures acted { OnOk result (Acted self.old links.old self.new links.new) }
         ensures tickets { OnOk result (KeepsTickets self.old → KeepsTickets self.new) }
         ensures quiet { OnOk result (Idles (NoDecisionOf req) self.old links.old self.new links.new) }
-        ensures noted { OnOk result (self.new.calls ≡ self.old.calls) }
     {
         for _round in 0..LAYERS {
             if !self.decide(links, req)? {
@@ -199,7 +197,6 @@ impl<'a> Thread<'a> {
         ensures acted { OnOk result (Acted self.old links.old self.new links.new) }
         ensures tickets { OnOk result (KeepsTickets self.old → KeepsTickets self.new) }
         ensures quiet { OnOk result (Idles (NoCallOf req) self.old links.old self.new links.new) }
-        ensures noted { OnOk result (self.new.calls ≡ self.old.calls) }
     {
         self.decide_all(links, req)?;
         self.reset(links, req)?;
@@ -213,7 +210,6 @@ impl<'a> Thread<'a> {
         requires rows { links.old.registry.setup ≡ rows_of self.old.setup.now }
         ensures acted { OnOk result (Acted self.old links.old self.new links.new) }
         ensures tickets { OnOk result (KeepsTickets self.old → KeepsTickets self.new) }
-        ensures calls { OnOk result (CallsAll self.old links.old self.new links.new) }
     {
         for _round in 0..self.calls.len() {
             let Some(req) = self.calls.pop_front() else {
@@ -232,7 +228,6 @@ impl<'a> Thread<'a> {
         ensures acted { OnOk result (Acted self.old links.old self.new links.new) }
         ensures tickets { OnOk result (KeepsTickets self.old → KeepsTickets self.new) }
         ensures quiet { OnOk result (Idles (StandsAsked None) self.old links.old self.new links.new) }
-        ensures first { OnOk result (CallsFirst entries self.old links.old self.new links.new) }
     {
         if entries != links.entries.len() {
             return Ok(());
@@ -251,7 +246,6 @@ impl<'a> Thread<'a> {
         ensures acted { OnOk result (Acted self.old links.old self.new links.new) }
         ensures tickets { OnOk result (KeepsTickets self.old → KeepsTickets self.new) }
         ensures quiet { OnOk result (entries ≡ length links.old.entries → Idles (StandsAsked None) self.old links.old self.new links.new) }
-        ensures rest { OnOk result (CallsRest entries self.old links.old self.new links.new) }
     {
         if entries != links.entries.len() {
             self.call_all(links)?;
@@ -271,7 +265,6 @@ impl<'a> Thread<'a> {
         ensures acted { OnOk result (Acted self.old links.old self.new links.new) }
         ensures tickets { OnOk result (KeepsTickets self.old → KeepsTickets self.new) }
         ensures quiet { OnOk result (entries ≡ length links.old.entries → Idles (StandsAsked None) self.old links.old self.new links.new) }
-        ensures noted { OnOk result (CallsNoted entries self.old links.old self.new links.new) }
     {
         self.call_first(links, entries)?;
         self.call_rest(links, entries)?;

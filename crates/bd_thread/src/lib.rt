@@ -6,7 +6,6 @@ mod delays;
 mod disks;
 mod duties;
 mod ending;
-mod grace;
 mod homes;
 mod injections;
 pub mod law;

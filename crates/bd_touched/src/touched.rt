@@ -152,7 +152,6 @@ impl Touched {
     {
         match reach_of(act) {
             Reach::Nobody => {}
-            Reach::Everybody => self.set_all(),
             Reach::Named(req) => {
                 if req.thread == me {
                     self.add(req);
