@@ -95,7 +95,9 @@ SCRIPT = b"""# a script
 LINES = ["read h 0", "read h 0 1 2", "read h -1 1", "read h 0x0 1", "read h 18446744073709551616 1", "read h 00 1", "read h 1.0 1", "write h 0 1", "write h 0 1 1e3",
          "open h M", "open h M rw", "open h M W", "open h/ M r", "open " + "h" * 33 + " M r", "open h " + "M" * 256 + " r", "open \xe9 M r", "open h M\x7f r", "close",
          "close h k", "claim h", "claim h both", "claim h shared", "claim h shared x", "claim h exclusive 1", "abort h 1", "abort h 3", "abort h 999", "abort h", "reset h",
-         "reset", "reset h 1", "sleep 1", "sleep", "sleep -1", "wait now", "post", "post a b", "await", "await a b", "gone", "gone h 1", "remove", "remove M M", "remove M\x00",
+         "reset", "reset h 1", "sleep 1", "sleep", "sleep -1", "wait now", "post", "post a b", "await", "await a b", "gone", "gone h 1", "remove", "remove M M", "remove M\x00", "resize", "resize M",
+         "resize M x", "resize M 065", "resize M 65 1", "resize M\x7f 65", "resize 65 M", "sized", "sized h", "sized h x", "sized h/ 65", "sized h 65 1", "sized 65 -1",
+         "resize M 18446744073709551616", "resize M 65", "resize M 18446744073709551615", "sized h 1", "sized h 65",
          "open h M r # opened", "unmap h 0", "flush h", "zeroes h 0 1 1", "READ h 0 1", "copy h 0 1", "read\x0bh 0 1", "read h 0 1\r", "read h 0 1\x00", "sleep 99999999999999999999"]
 THREADS = ["2", "16", "-1", "01", "x", "", "4294967296", "18446744073709551616", "0x0", "1.0"]
 

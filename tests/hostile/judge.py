@@ -514,7 +514,6 @@ SHAPES = {
     b"zeroes": [is_name, is_number, is_number],
     b"unmap": [is_name, is_number, is_number],
     b"flush": [is_name, is_number, is_number],
-    b"reset": [is_name],
     b"abort": [is_name, is_number],
     b"remove": [is_device],
     b"wait": [],
@@ -522,6 +521,8 @@ SHAPES = {
     b"post": [is_name],
     b"await": [is_name],
     b"gone": [is_name],
+    b"resize": [is_device, is_number],
+    b"sized": [is_name, is_number],
 }
 SUBMITS = (b"read", b"write", b"zeroes", b"unmap", b"flush", b"reset", b"abort")
 
@@ -531,6 +532,8 @@ def is_command(word, rest, thread, submitted):
         return len(rest) == 3 and is_name(rest[0]) and is_device(rest[1]) and rest[2] in (b"r", b"w")
     if word == b"claim":
         return len(rest) >= 1 and is_name(rest[0]) and is_claim(rest[1:])
+    if word == b"reset":
+        return len(rest) in (1, 2) and is_name(rest[0]) and all(is_number(time) for time in rest[1:])
     if word not in SHAPES or len(rest) != len(SHAPES[word]) or not all(is_(given) for is_, given in zip(SHAPES[word], rest)):
         return False
     return word != b"abort" or (thread, number(rest[1])) in submitted

@@ -137,9 +137,9 @@ def line_of(dice, threads, place):
     made = [
         ["open", handle, dice.of(NAMES), dice.of(["r", "w"])], ["close", handle], ["claim", handle, dice.of(["exclusive", "one", "none"])], ["claim", handle, "shared", "7"],
         ["read", handle, *numbers], ["write", handle, *numbers, "5"], ["zeroes", handle, *numbers], ["unmap", handle, *numbers], ["flush", handle, *numbers], ["wait"],
-        ["post", "mark-1"], ["remove", dice.of(NAMES)],
+        ["post", "mark-1"], ["remove", dice.of(NAMES)], ["resize", dice.of(NAMES), str(dice.below(140))],
     ]
-    rare = [["await", "mark-1"], ["gone", handle], ["reset", handle], ["sleep", "5"], ["abort", handle, str(1 + dice.below(place + 1))]]
+    rare = [["await", "mark-1"], ["gone", handle], ["sized", handle, str(dice.below(140))], ["reset", handle], ["reset", handle, "5"], ["sleep", "5"], ["abort", handle, str(1 + dice.below(place + 1))]]
     return [thread, *(dice.of(rare) if dice.below(40) == 0 else dice.of(made))]
 
 

@@ -8,7 +8,8 @@ prints the report, where each of so many orders by chance (100) gives the same, 
 
 A device has its faults as the last of what imitate.py is given: a map with `delay` (the latencies of reads and writes), `inject` (what is
 injected, in its order), `limits` and `depth` (how many pieces its queue takes), as far as it has them. How long something waits for a
-delay or a limit is left to chance, but for what would be held LONG: that waits until it is stopped.
+delay or a limit is left to chance, and how long a drain time lasts, but for what would be held LONG: that waits until it is stopped, and
+so long a drain time never ends.
 
 By `strict` a thread keeps to what docs/ARCHITECTURE.md says of the order in a turn: up to eight lines are done with nothing between them
 but what the registry is asked, once all that came was served, and what it sends goes before its marks. Time passes only where nothing
@@ -33,12 +34,13 @@ class Stopping(Imitation):
     def __init__(self, text, threads, devices, seed, strict=False):
         super().__init__(text, threads, devices, seed)
         self.strict = strict
-        for kind in ("go", "ask", "let", "release", "call", "visit"):
+        for kind in ("go", "ask", "let", "release", "due", "call", "visit"):
             self.weights[kind] = self.random.choice([0.02, 0.3, 1, 1, 5])
         for thread in self.threads:
             thread.requests, thread.by_line = [], {}
             thread.leaving, thread.asking, thread.held = [], [], []  # on the way to a limit; for the registry; by delays
             thread.frozen, thread.calls, thread.walks = set(), [], []
+            thread.soft = {}  # of soft marks their drain times
         for device in self.devices.values():
             device.line, device.reset, device.resets = deque(), "idle", deque()
             device.injected = injections(device)
@@ -76,6 +78,8 @@ class Stopping(Imitation):
             yield "release", self.release
         if any(device.line for device in self.devices.values() if device.home == t):
             yield "let", self.let
+        if any(time < LONG for time in self.threads[t].soft.values()):
+            yield "due", self.harden
 
     def pass_time(self):
         found = [(t, call) for t in range(len(self.threads)) for _, call in self.choices_in_time(t)]
@@ -162,6 +166,7 @@ class Stopping(Imitation):
         thread = self.threads[t]
         request = Request(thread.lines[thread.next][0], words, handle)
         request.thread, request.is_cut, request.is_away, request.latency, request.limits = t, False, False, 0, []
+        request.late = {device for device in handle.device.below if device in thread.frozen or device in thread.soft}
         thread.counts["accepted"] += 1
         thread.open += 1
         handle.requests += 1
@@ -169,12 +174,16 @@ class Stopping(Imitation):
         thread.by_line[request.line] = request
         return request
 
-    def is_over_mark(self, thread, device):
-        return any(lower in thread.marked or lower in thread.frozen for lower in device.below)
+    def is_over_mark(self, thread, request):
+        return any(lower in thread.marked or self.is_frozen_for(thread, request, lower) for lower in request.handle.device.below)
+
+    def is_frozen_for(self, thread, request, device):
+        """Whether the device's freeze mark stops the request: a soft one stops what is late."""
+        return device in thread.frozen or device in thread.soft and device in request.late
 
     def carry_on(self, t, request):
         thread = self.threads[t]
-        if self.is_over_mark(thread, request.handle.device):
+        if self.is_over_mark(thread, request):
             self.stop(t, request)
         elif request.limits:
             thread.leaving.append(request)
@@ -213,7 +222,7 @@ class Stopping(Imitation):
         self.send_to(t, request.limits[0].home, ("limit", request))
 
     def stand_in_line(self, t, request):
-        if self.is_over_mark(self.threads[t], request.handle.device):
+        if self.is_over_mark(self.threads[t], request):
             self.send_back_aborted(t, request)
         else:
             request.limits[0].line.append(request)
@@ -225,7 +234,7 @@ class Stopping(Imitation):
     def let(self, t):
         device = self.random.choice([device for device in self.devices.values() if device.home == t and device.line])
         request = device.line.popleft()
-        if self.is_over_mark(self.threads[t], request.handle.device):
+        if self.is_over_mark(self.threads[t], request):
             self.send_back_aborted(t, request)
         else:
             self.threads[t].due.append((request.thread, ("let", request)))
@@ -326,6 +335,7 @@ class Stopping(Imitation):
             thread.counts["refused"] += 1
             return errno
         request = self.accept(t, words, handle)
+        request.time = int(words[2]) if len(words) > 2 else 0
         thread.calls.append(("begin", request))
         return request
 
@@ -384,24 +394,39 @@ class Stopping(Imitation):
     def visit(self, t, kind, request, left):
         thread, device = self.threads[t], request.handle.device
         if kind == "freeze" and device in thread.channels:
-            thread.frozen.add(device)
+            thread.frozen.discard(device)
+            if request.time:
+                thread.soft[device] = request.time
+            else:
+                thread.frozen.add(device)
             self.stop_all(t, device)
         elif kind == "thaw":
             thread.frozen.discard(device)
+            thread.soft.pop(device, None)
         if len(left) > 1 or t != request.thread:
             thread.due.append((left[1] if len(left) > 1 else request.thread, ("stage", (kind, request, left[1:]))))
         else:
             self.walk_ended(t, kind, request)
 
     def stop_all(self, t, device):
-        """What waits here over a device that is frozen."""
-        for request in list(self.threads[t].requests):
-            if device in request.handle.device.below:
+        """What waits here over a device that is frozen, as far as that stops it."""
+        thread = self.threads[t]
+        stops = lambda request: device in request.handle.device.below and self.is_frozen_for(thread, request, device)
+        for request in list(thread.requests):
+            if stops(request):
                 self.stop(t, request)
         for home in self.devices.values():
-            for request in [request for request in home.line if home.home == t and device in request.handle.device.below]:
+            for request in [request for request in home.line if home.home == t and stops(request)]:
                 home.line.remove(request)
                 self.send_back_aborted(t, request)
+
+    def harden(self, t):
+        """A drain time has passed."""
+        thread = self.threads[t]
+        device = self.random.choice([device for device, time in thread.soft.items() if time < LONG])
+        del thread.soft[device]
+        thread.frozen.add(device)
+        self.stop_all(t, device)
 
     def walk_ended(self, t, kind, request):
         if kind == "freeze":
@@ -419,7 +444,9 @@ class Stopping(Imitation):
 
     def pay(self, t):
         super().pay(t)
-        self.threads[t].frozen &= self.threads[t].channels
+        thread = self.threads[t]
+        thread.frozen &= thread.channels
+        thread.soft = {device: time for device, time in thread.soft.items() if device in thread.channels}
 
 
 def injections(device):

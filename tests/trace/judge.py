@@ -34,6 +34,7 @@ class Devices:
                 bases[params["name"]] = params["base_bdev_name"]
             elif call["method"] == "bdev_set_qos_limit":
                 rates[params["name"]].update((key, params[key]) for key in LIMITS if key in params)
+        self.names, self.kinds = names, [row[2] for row in rows]
         self.size = [int(row[row.index("size") + 1]) for row in rows]
         self.below, self.home, self.quotas = [], [], []
         for name in names:
@@ -44,6 +45,11 @@ class Devices:
             self.home.append(self.below[-1][-1] % threads)
             of = rates[name]
             self.quotas.append({key: (of[key] + 999) // 1000 if key == LIMITS[0] else of[key] * 1048576 // 1000 for key in of if of[key]})
+
+    def following(self, device):
+        """A device and those over it that have its blocks: through passthru, delay and error devices alone."""
+        return [each for each, stack in enumerate(self.below)
+                if device in stack and all(self.kinds[of] in ("passthru", "delay", "error") for of in stack[: stack.index(device)])]
 
     def counted(self, device, kind):
         """The limits of a device that count a request of a type."""
@@ -220,6 +226,67 @@ def limits(entries, devices):
         yield f"requests don't come back: {away}"
 
 
+def sizes(report, entries, devices):
+    """A handle has as many blocks as its device: those that the report says, until a resize ends. A request stays within the blocks
+    that its thread was told of, at the open and by size events."""
+    rows = [line.split(" ") for line in report if line.startswith("device ")]
+    blocks, known = [int(row[row.index("blocks") + 1]) for row in rows], {}
+    for entry in entries:
+        if entry.get("answer") == "opened":
+            known[entry.get("handle")] = int(entry.get("blocks"))
+            if blocks[int(entry.get("device")):][:1] != [int(entry.get("blocks"))]:
+                yield f"{entry.line()!r}: the devices have {blocks}"
+        elif entry.get("answer") == "resized":
+            for device in devices.following(int(entry.get("device"))):
+                blocks[device] = int(entry.get("blocks"))
+        elif entry.act == "took" and entry.get("message") == "sized":
+            known[entry.get("handle")] = int(entry.get("blocks"))
+        elif entry.act == "accept" and int(entry.get("lba")) + int(entry.get("count")) > known.get(entry.get("handle"), 0):
+            yield f"{entry.line()!r}: the handle is known to have {known.get(entry.get('handle'), 0)} blocks"
+
+
+def resizes(entries, devices):
+    """A resize begins where none of its device is under way, and to more blocks; then its home is told, and lets the content grow just
+    before it ends it; then each handle that is open on the device, or on one that follows it, is told on its thread."""
+    growing, due, grown, handles, last = {}, Counter(), {}, {}, {}
+    for entry in entries:
+        line, of_thread = entry.line(), last.get(entry.thread)
+        last[entry.thread] = entry
+        if of_thread is not None and of_thread.act == "grow" and (entry.get("event"), entry.get("device")) != ("end-resize", of_thread.get("device")):
+            yield f"{line!r} stands after {of_thread.line()!r}"
+        if entry.get("answer") == "opened":
+            handles[entry.get("handle")] = int(entry.get("device")), str(entry.thread)
+        elif entry.get("answer") == "closed":
+            handles.pop(entry.get("handle"), None)
+        elif entry.get("answer") == "resizing":
+            device, blocks = int(entry.get("device")), entry.get("blocks")
+            if device in growing or int(blocks) <= grown.get(device, 0) or int(entry.get("home")) != devices.home[device] or devices.names[device] != entry.get("name"):
+                yield f"{line!r} begins where {growing} grow, and {grown} have"
+            growing[device] = blocks
+            due["grow", entry.get("device"), blocks, entry.get("home")] += 1
+        elif entry.act == "put" and entry.get("message") in ("grow", "sized"):
+            what = (*(value for _, value in entry.fields[2:]), entry.get("to"))
+            due[what] -= 1
+            if due[what] < 0:
+                yield f"{line!r} isn't due"
+        elif entry.act == "grow":
+            device = int(entry.get("device"))
+            if growing.get(device) != entry.get("blocks") or entry.thread != devices.home[device] or device in grown and grown[device] >= int(entry.get("blocks")):
+                yield f"{line!r}, and {growing} grow"
+            grown[device] = int(entry.get("blocks"))
+        elif entry.get("event") == "end-resize":
+            device = int(entry.get("device"))
+            follow = devices.following(device)
+            told = sorted((handle, owner) for handle, (of, owner) in handles.items() if of in follow)
+            if of_thread is None or of_thread.act != "grow" or growing.pop(device, None) != entry.get("blocks"):
+                yield f"{line!r} ends no growth"
+            if sorted(zip(entry.all("handle"), entry.all("owner"))) != told or entry.all("handle") != sorted(entry.all("handle"), key=int):
+                yield f"{line!r}: open are {told}"
+            due.update(("sized", handle, entry.get("blocks"), owner) for handle, owner in told)
+    if growing or any(due.values()):
+        yield f"resizes don't end: {growing}, and to be told is {+due}"
+
+
 def registry(entries, kept):
     """Handles are numbered in turn and closed once; channels are given back as often as they are got, and dropped
     where a message says so; a removal visits the threads with a channel; what ends is told. A channel that a home keeps
@@ -348,26 +415,44 @@ def resets(entries, devices):
 
 def aborts(entries, devices):
     """A request is aborted by a mark that is set on the thread, of a device below its own: a removal's stays, and a reset's is set by the
-    visit of its freeze or with the channel that is made meanwhile, and taken away by its thaw or with the channel."""
-    marks, below = set(), {}
+    visit of its freeze or with the channel that is made meanwhile, and taken away by its thaw or with the channel. A soft one, which a Grace
+    follows, stops what was accepted under a mark of a reset alone, until its Due, which names no moment before that of its Grace."""
+    marks, below, late, visited, soft = set(), {}, {}, {}, {}
     for entry in entries:
         device, thread = entry.get("device"), entry.thread
         if entry.act == "accept":
             below[entry.get("request")] = devices.below[int(device)]
+            late[entry.get("request")] = {lower for lower in devices.below[int(device)] if ("frozen", thread, str(lower)) in marks}
         elif entry.act == "visit" and entry.get("kind") in ("freeze", "removal"):
             marks.add(("frozen" if entry.get("kind") == "freeze" else "removed", thread, device))
+            visited[thread] = entry.get("walk"), device
+            soft.pop((thread, device), None)
+        elif entry.act == "grace":
+            walk, device = visited.get(thread, (None, None))
+            soft[thread, device] = walk, int(entry.get("until"))
+            if walk != entry.get("walk"):
+                yield f"{entry.line()!r}, and no visit of it stands before"
+        elif entry.act == "due":
+            found = [(at, until) for at, (walk, until) in soft.items() if at[0] == thread and walk == entry.get("walk")]
+            if not found or found[0][1] > int(entry.get("now")):
+                yield f"{entry.line()!r}, and no mark is due"
+            for at, _ in found:
+                del soft[at]
         elif entry.act == "visit" and entry.get("kind") == "thaw" or entry.get("answer") == "dropped" and entry.get("channel") != "kept":
             marks.discard(("frozen", thread, device))
+            soft.pop((thread, device), None)
         elif entry.get("answer") == "got":
             marks.update(("frozen", thread, frozen) for frozen in entry.all("frozen"))
         elif entry.act == "abort" and entry.get("cause") != "named":
             if (entry.get("cause"), thread, device) not in marks or int(device) not in below[entry.get("request")]:
                 yield f"{entry.line()!r}, and there is no such mark"
+            elif entry.get("cause") == "frozen" and (thread, device) in soft and int(device) not in late[entry.get("request")]:
+                yield f"{entry.line()!r}, and the mark is soft yet"
 
 
 def asked(entries, script):
-    """Before a line that opens, claims or removes stands what was asked of the registry for it, with its answer."""
-    events = {"open": ("open", "opened"), "claim": ("claim", "claimed"), "remove": ("begin-remove", "removing")}
+    """Before a line that opens, claims, removes or resizes stands what was asked of the registry for it, with its answer."""
+    events = {"open": ("open", "opened"), "claim": ("claim", "claimed"), "remove": ("begin-remove", "removing"), "resize": ("begin-resize", "resizing")}
     since = defaultdict(list)
     for entry in entries if script else []:
         if entry.act == "registry":
@@ -527,6 +612,6 @@ def wrong_with(report, entries, script, config=(), threads=1):
     found, devices = [], Devices(report, config, threads)
     for part in (order(entries), requests(entries), cuts(entries), decisions(entries), limits(entries, devices), registry(entries, devices.kept()), resets(entries, devices), aborts(entries, devices),
                  asked(entries, script),
-                 messages(entries), ends(report, entries), counts(report, entries), lines(report, entries, script)):
+                 messages(entries), sizes(report, entries, devices), resizes(entries, devices), ends(report, entries), counts(report, entries), lines(report, entries, script)):
         found += list(part)[:10]
     return found

@@ -35,7 +35,7 @@ def made(threads, requests):
         return at
 
     for thread in range(threads):
-        add(thread, f"registry event open name Disk mode w answer opened handle {thread} device 0")
+        add(thread, f"registry event open name Disk mode w answer opened handle {thread} device 0 blocks 64")
         add(thread, f"script line {thread + 1} outcome ok")
     while any(left) or any(waiting):
         thread = chance.randrange(threads)

@@ -10,7 +10,7 @@ NUMBER = r"(?:0|[1-9][0-9]*)"
 OWN = rf"{NUMBER}\.{NUMBER}"
 NAME = r"[!-~]{1,255}"
 HEX8, HEX32 = r"[0-9a-f]{16}", r"[0-9a-f]{64}"
-TYPE = rf"type (?:read|zeroes|unmap|flush|reset|write seed {NUMBER} flip (?:yes|no)|abort names {NUMBER})"
+TYPE = rf"type (?:read|zeroes|unmap|flush|reset(?: drain {NUMBER})?|write seed {NUMBER} flip (?:yes|no)|abort names {NUMBER})"
 RANGE = rf"lba {NUMBER} count {NUMBER}"
 THREADS = rf"(?: thread {NUMBER})*"
 DESTRUCT = rf"(?: destruct {NUMBER})?"
@@ -18,7 +18,7 @@ DESTRUCT = rf"(?: destruct {NUMBER})?"
 TOKENS = [
     rf"request request {OWN}", rf"piece request {OWN} piece {NUMBER}", rf"walk walk {OWN}",
     rf"go request {OWN}{THREADS}", rf"gone handle {NUMBER}", rf"channel device {NUMBER}", rf"device device {NUMBER}",
-    rf"mark mark {NAME}",
+    rf"mark mark {NAME}", rf"grow device {NUMBER} blocks {NUMBER}", rf"sized handle {NUMBER} blocks {NUMBER}",
 ]
 EVENTS = [
     rf"open name {NAME} mode [rw]", rf"close handle {NUMBER}",
@@ -27,15 +27,17 @@ EVENTS = [
     rf"drop-channel device {NUMBER}", rf"begin-remove name {NAME}", rf"begin-reset device {NUMBER} request {OWN}",
     rf"end-reset device {NUMBER}", rf"finish-reset device {NUMBER}",
     rf"take-injection device {NUMBER} request {OWN} {TYPE}", rf"destructed device {NUMBER}",
+    rf"begin-resize name {NAME} blocks {NUMBER}", rf"end-resize device {NUMBER}",
 ]
 ANSWERS = [
-    rf"opened handle {NUMBER} device {NUMBER}", rf"closed{DESTRUCT}", "claimed",
+    rf"opened handle {NUMBER} device {NUMBER} blocks {NUMBER}", rf"closed{DESTRUCT}", "claimed",
     rf"got fresh (?:yes|no)(?: frozen {NUMBER})*", rf"put-down left {NUMBER}",
     rf"dropped channel (?:kept|gone|last)(?: zero {NUMBER})?{DESTRUCT}",
     rf"removing device {NUMBER}{THREADS}(?: handle {NUMBER} owner {NUMBER})*{DESTRUCT}",
     rf"reset-started{THREADS}", "reset-queued", rf"reset-ended{THREADS}",
     rf"reset-finished(?: next {OWN}{THREADS})?", "injected decision (?:pass|fail|pend|corrupt)",
-    rf"freed(?: close {NUMBER})?", rf"refused errno {NUMBER}",
+    rf"freed(?: close {NUMBER})?", rf"refused errno {NUMBER}", rf"resizing device {NUMBER} home {NUMBER}",
+    rf"resized blocks {NUMBER}(?: handle {NUMBER} owner {NUMBER})*{DESTRUCT}",
 ]
 
 
@@ -60,7 +62,10 @@ ACTS = {
     "abort": rf" request {OWN} cause (?:frozen device {NUMBER}|removed device {NUMBER}|named by {OWN})",
     "complete": rf" request {OWN} status (?:success|failed|aborted)(?: first {HEX8} sha256 {HEX32})?",
     "visit": rf" walk {OWN} device {NUMBER} kind (?:freeze|drain|thaw|removal)",
+    "grace": rf" walk {OWN} until {NUMBER}",
+    "due": rf" walk {OWN} now {NUMBER}",
     "tick": rf" device {NUMBER} now {NUMBER} slices {NUMBER}",
+    "grow": rf" device {NUMBER} blocks {NUMBER}",
     "destruct": rf" device {NUMBER}(?: sha256 {HEX32})?",
     "script": rf" line {NUMBER} outcome (?:ok|refused errno {NUMBER}|busy open {NUMBER}|accepted request {OWN})",
     "shutdown": "",

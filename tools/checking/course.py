@@ -1,15 +1,19 @@
 """What of a script is refused once it is played, as far as its lines and the devices alone say so.
 
 The program ends with status 0 whatever a request came to, so such a slip is easily overlooked. Nothing is said of devices that
-the script removes or claims, nor of lines whose answer depends on the order in which threads take their turns, nor of those after a
+the script removes or claims, nor of blocks that a device may have got by a resize, nor of lines whose answer depends on the order in which threads take their turns, nor of those after a
 wait that a request may hold up for ever: one that an injected error keeps, and that no reset of the same thread frees.
 """
 
 from .places import quoted
-from .rules import meant
+from .rules import MOST_BLOCKS, MOST_MEMORY, meant
 from .mistakes import Mistake
 
 MOST_BYTES_OF_REQUEST = 262144
+# The kinds of devices that can grow, and those that have as many blocks as the one below them.
+GROWING = ("malloc", "null")
+FOLLOWING = ("passthru", "delay", "error")
+MOST_MALLOC_BLOCKS = 1 << 21
 UNBOUND, UNSURE = "unbound", "unsure"
 WRITES = ("write", "zeroes", "unmap", "flush")
 # The types of request by which injected errors go, where they have other names.
@@ -34,6 +38,7 @@ class Course:
         self.notes = []
         self.posted = {words[1] for _, _, words in script.commands if words[0] == "post"}
         self.shaky = self.unsure_devices()
+        self.resizes = [words[1] for _, _, words in script.commands if words[0] == "resize"]
         self.errnos = {}  # of lines: the number of the error, or None where the line is never done
         for thread in sorted({thread for _, thread, _ in script.commands}):
             self.handles = {}
@@ -57,6 +62,12 @@ class Course:
             names.append(device.name)
             device = device.base
         return names
+
+    def may_grow(self, device):
+        """Whether a line may let the device grow: it resizes the one that gives the device its blocks."""
+        while device.kind in FOLLOWING:
+            device = device.base
+        return device.kind in GROWING and device.name in self.resizes
 
     def keeps(self, word, device=None):
         """Whether an injected error may keep such a request on this device, or on any."""
@@ -90,13 +101,34 @@ class Course:
         elif word == "remove":
             if words[1] not in self.made:
                 self.note(place, 19, self.no_device(words[1]))
-        elif word in ("close", "claim", "gone", *SUBMITS):
+        elif word == "resize":
+            self.resize(place, words[1], int(words[2]))
+        elif word in ("close", "claim", "gone", "sized", *SUBMITS):
             return self.with_handle(place, word, words)
         return True
 
     def no_device(self, name):
         close = meant(name, self.made)
         return "the configuration makes no device %s%s" % (quoted(name), "; %s is meant, it seems" % quoted(close) if close else "")
+
+    def resize(self, place, name, blocks):
+        device = self.made.get(name)
+        if device is None:
+            self.note(place, 19, self.no_device(name))
+        elif name in self.shaky or self.resizes.count(name) > 1:
+            return
+        elif device.kind not in GROWING:
+            self.note(place, 22, "%s is a %s device; only a malloc or null device can grow" % (quoted(name), device.kind))
+        elif blocks <= device.blocks:
+            self.note(place, 22, "BLOCKS is %d, and %s has %d blocks; a device only grows" % (blocks, quoted(name), device.blocks))
+        elif blocks > (MOST_MALLOC_BLOCKS if device.kind == "malloc" else MOST_BLOCKS):
+            self.note(place, 22, "BLOCKS is %d; a %s device has at most %d" % (blocks, device.kind, MOST_MALLOC_BLOCKS if device.kind == "malloc" else MOST_BLOCKS))
+        elif device.kind == "malloc" and self.others(device) + blocks * device.size > MOST_MEMORY:
+            self.note(place, 22, "with %d blocks of %d bytes the memory devices would have more than %d bytes together" % (blocks, device.size, MOST_MEMORY))
+
+    def others(self, device):
+        """The bytes of the other memory devices, as the configuration makes them."""
+        return sum(each.blocks * each.size for each in self.made.values() if each.kind == "malloc" and each is not device)
 
     def open(self, place, name, device, mode):
         state = self.handles.get(name, UNBOUND)
@@ -126,6 +158,10 @@ class Course:
         elif word == "gone":
             self.note(place, None, "no line removes the device of %s, so this waits in vain, and the thread does no line after it" % quoted(name))
             return False
+        elif word == "sized":
+            if int(words[2]) > handle.device.blocks and not self.may_grow(handle.device):
+                self.note(place, None, "no line lets the device of %s grow, so this waits in vain, and the thread does no line after it" % quoted(name))
+                return False
         elif word == "close":
             self.handles[name] = UNSURE if handle.is_used else UNBOUND
             if handle.is_used:
@@ -150,6 +186,8 @@ class Course:
         elif count * device.size > MOST_BYTES_OF_REQUEST:
             said = "COUNT is %d, which are %d bytes; a request has at most %d, here %d blocks"
             self.note(place, 22, said % (count, count * device.size, MOST_BYTES_OF_REQUEST, MOST_BYTES_OF_REQUEST // device.size))
+        elif first + count > device.blocks and self.may_grow(device):
+            handle.is_used = True
         elif first + count > device.blocks:
             self.note(place, 22, "the blocks %d to %d pass the end of %s, which has %d blocks" % (first, first + count - 1, quoted(device.name), device.blocks))
         else:

@@ -22,6 +22,8 @@ COMMANDS = {
     "flush": ("HANDLE", "LBA", "COUNT"),
     "remove": ("DEVICE",),
     "gone": ("HANDLE",),
+    "resize": ("DEVICE", "BLOCKS"),
+    "sized": ("HANDLE", "BLOCKS"),
     "wait": (),
     "post": ("MARK",),
     "await": ("MARK",),
@@ -30,7 +32,7 @@ COMMANDS = {
     "abort": ("HANDLE", "LINE"),
 }
 SUBMITS = ("read", "write", "zeroes", "unmap", "flush", "reset", "abort")
-NUMBERS = ("LBA", "COUNT", "SEED", "KEY", "LINE", "MICROS")
+NUMBERS = ("LBA", "COUNT", "SEED", "KEY", "LINE", "MICROS", "BLOCKS")
 CLAIMS = ("exclusive", "one", "none", "shared")
 
 
@@ -57,7 +59,7 @@ def no_number(word):
         value = int(text, 16)
         return "a number is decimal" + (": %d" % value if value <= U64 else "")
     if re.fullmatch(r"[0-9]+[kKmMgGbB].*", text):
-        return "a number has no unit; LBA and COUNT are numbers of blocks"
+        return "a number has no unit; LBA, COUNT and BLOCKS are numbers of blocks"
     if re.fullmatch(r"-[0-9]+", text):
         return "a number isn't below 0"
     if re.fullmatch(r"[0-9]*[.][0-9]*|[0-9.]+[eE][+-]?[0-9]+", text):
@@ -129,6 +131,8 @@ class Script:
         wanted = COMMANDS[word]
         if word == "claim" and words[3:4] == [b"shared"]:
             wanted = ("HANDLE", "KIND", "KEY")
+        if word == "reset" and len(words) > 3:
+            wanted = ("HANDLE", "MICROS")
         form = " ".join([word, *wanted])
         for i, kind in enumerate(wanted, 2):
             if i >= len(words):

@@ -1,3 +1,4 @@
+pub mod DevSet
 pub mod Errno
 pub mod Name
 pub mod Pattern

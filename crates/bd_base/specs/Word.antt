@@ -3,7 +3,7 @@ use Rattle.std.specs.Prelude.{ℕ, List, codes}
 use Rattle.bd_base.specs.declared.device.Kind.{Kind}
 use Rattle.bd_base.specs.declared.device.Kind.TheVariants.{Malloc, Null, Aio, Passthru, Part, Delay, Error}
 use Rattle.bd_base.specs.declared.job.Job.{Job}
-use Rattle.bd_base.specs.declared.job.Job.TheVariants.{Open, Close, Claim, Submit, Remove, Wait, Sleep, Post, Await, Gone}
+use Rattle.bd_base.specs.declared.job.Job.TheVariants.{Open, Close, Claim, Submit, Remove, Wait, Sleep, Post, Await, Gone, Resize, Sized}
 use Rattle.bd_base.specs.declared.request.Op.{Op}
 use Rattle.bd_base.specs.declared.request.Op.TheVariants.{Read, Write, Zeroes, Unmap, Flush, Reset, Abort}
 use Rattle.bd_base.specs.declared.request.Status.{Status}
@@ -30,7 +30,7 @@ submit_word (Write fill) = codes "write"
 submit_word Zeroes = codes "zeroes"
 submit_word Unmap = codes "unmap"
 submit_word Flush = codes "flush"
-submit_word Reset = codes "reset"
+submit_word (Reset time) = codes "reset"
 submit_word (Abort seq) = codes "abort"
 
 abbrev pub job_word : Job → List ℕ
@@ -44,3 +44,5 @@ job_word (Sleep micros) = codes "sleep"
 job_word (Post mark) = codes "post"
 job_word (Await mark) = codes "await"
 job_word (Gone handle) = codes "gone"
+job_word (Resize dev blocks) = codes "resize"
+job_word (Sized handle blocks) = codes "sized"

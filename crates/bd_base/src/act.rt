@@ -23,6 +23,10 @@ pub enum Token {
     Device(DevId),
     /// A script's mark.
     Mark(Name),
+    /// The content of this device is to grow to so many blocks.
+    Grow(DevId, u64),
+    /// The device of this handle has so many blocks from now on.
+    Sized(HandleId, u64),
 }
 
 /// How the home ended a piece.
@@ -158,6 +162,21 @@ pub enum Act {
     },
     /// Every thread is at rest, and no further line is done.
     Shutdown,
+    /// The home gave a device's content this number of blocks, more than it had; the new ones are zeros.
+    Grow {
+        dev: DevId,
+        blocks: u64,
+    },
+    /// The drain time that a reset's walk began on this thread lasts until this moment (microseconds).
+    Grace {
+        walk: WalkId,
+        until: u64,
+    },
+    /// That drain time was over at this moment (microseconds), and what still waits is aborted.
+    Due {
+        walk: WalkId,
+        now: u64,
+    },
 }
 
 /// A line of a thread's log. Stamps rise in each log, beginning at 1 or above.
@@ -167,3 +186,14 @@ pub struct Entry {
     pub thread: u32,
     pub act: Act,
 }
+
+// A history has millions of entries, and each log keeps its own in a table.
+const _: () = prove!(size_of::<Op>() == 24);
+
+const _: () = prove!(size_of::<Token>() == 48);
+
+const _: () = prove!(size_of::<RegEvent>() == 48);
+
+const _: () = prove!(size_of::<Act>() == 80);
+
+const _: () = prove!(size_of::<Entry>() == 112);

@@ -1,5 +1,5 @@
 //! Events of the registry: what a thread asks of it, and what it answers.
-use crate::id::{DevId, HandleId, ReqId};
+use crate::id::{DevId, HandleId, ReqId, ThreadId};
 use crate::name::Name;
 use crate::request::{Decision, Errno, Op};
 use crate::rows::{DevList, HandleList};
@@ -45,14 +45,19 @@ pub enum RegEvent {
     FinishReset { dev: DevId },
     TakeInjection { dev: DevId, req: ReqId, op: Op },
     Destructed { dev: DevId },
+    /// A malloc or null device is to have this number of blocks, more than it has.
+    BeginResize { name: Name, blocks: u64 },
+    EndResize { dev: DevId },
 }
 
 /// What the registry answers.
 #[derive(Drop)]
 pub enum Answer {
+    /// `blocks`: the size that the device has now.
     Opened {
         handle: HandleId,
         dev: DevId,
+        blocks: u64,
     },
     /// `destruct`: the device that this close left being removed with neither handle nor channel.
     Closed {
@@ -98,6 +103,18 @@ pub enum Answer {
     /// The base handle whose last user was destructed.
     Freed {
         close: Option<HandleId>,
+    },
+    /// The thread that is to let the content grow.
+    Resizing {
+        dev: DevId,
+        home: ThreadId,
+    },
+    /// The open handles, by rising number, whose devices have this size from now on; `destruct`: the device,
+    /// where it is being removed and only its resize kept it.
+    Resized {
+        handles: HandleList,
+        blocks: u64,
+        destruct: Option<DevId>,
     },
     /// Nothing else changed.
     Refused(Errno),

@@ -5,7 +5,7 @@ ghost use Rattle.bd_base.specs.Word.{job_word, submit_word};
 use crate::event::ClaimKind;
 use crate::name::Name;
 use crate::request::Op;
-use crate::rows::{NameList, Rows};
+use crate::rows::{NameList, Rows, SizeList};
 
 /// What a script's line asks.
 #[derive(Drop)]
@@ -46,6 +46,16 @@ pub enum Job {
     Gone {
         handle: Name,
     },
+    /// Begins to let a malloc or null device grow to this number of blocks.
+    Resize {
+        dev: Name,
+        blocks: u64,
+    },
+    /// Goes on once the handle's device is known here to have at least this number of blocks.
+    Sized {
+        handle: Name,
+        blocks: u64,
+    },
 }
 
 impl Job {
@@ -64,6 +74,8 @@ impl Job {
             Job::Post(_) => "post",
             Job::Await(_) => "await",
             Job::Gone { .. } => "gone",
+            Job::Resize { .. } => "resize",
+            Job::Sized { .. } => "sized",
         }
     }
 }
@@ -78,7 +90,7 @@ fn submit_word(op: &Op) -> &'static str
         Op::Zeroes => "zeroes",
         Op::Unmap => "unmap",
         Op::Flush => "flush",
-        Op::Reset => "reset",
+        Op::Reset(_) => "reset",
         Op::Abort(_) => "abort",
     }
 }
@@ -112,4 +124,6 @@ pub struct View {
     pub gone: NameList,
     /// The names that are bound to a handle.
     pub bound: NameList,
+    /// The names that are bound to an open handle, each with the number of blocks that its device is known to have.
+    pub sizes: SizeList,
 }

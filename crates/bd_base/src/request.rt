@@ -78,7 +78,9 @@ pub enum Op {
     Zeroes,
     Unmap,
     Flush,
-    Reset,
+    /// Reset of the handle's device. What waits there goes on for this drain time (microseconds), and is aborted
+    /// then; with 0, which is a reset without one, it is aborted at once.
+    Reset(u64),
     /// Abort of the request of the same thread with this number; the greatest number names none.
     Abort(u64),
 }

@@ -23,6 +23,9 @@ pub type DevList = Rows<DevId>;
 /// Names, seen as their list.
 pub type NameList = Rows<Name>;
 
+/// Names with numbers of blocks, seen as their list.
+pub type SizeList = Rows<(Name, u64)>;
+
 /// Handles with their threads, seen as their list.
 pub type HandleList = Rows<(HandleId, ThreadId)>;
 

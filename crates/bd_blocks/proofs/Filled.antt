@@ -1,5 +1,5 @@
 -- What a write puts into the blocks of pages is what the machine says.
-use Rattle.std.proofs.Common.{◌≡◌, ℕ, ◌+◌, Bool, true, false, cond, List, [], ◌∷◌, length, refl, sym, ◌∙◌, ap}
+use Rattle.std.proofs.Common.{◌≡◌, ℕ, ◌+◌, Bool, true, false, cond, List, [], ◌∷◌, length, refl, ◌∙◌, ap}
 use Rattle.bd_base.specs.Pattern.{pattern}
 use Rattle.bd_base.specs.declared.request.Fill.{Fill}
 use Rattle.bd_base.specs.declared.request.Op.TheVariants as ops

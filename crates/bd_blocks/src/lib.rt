@@ -5,6 +5,7 @@
 mod bases;
 mod channels;
 mod digest;
+mod growing;
 mod limits;
 mod pieces;
 mod registry;
@@ -17,11 +18,12 @@ mod threads;
 pub use bases::{base_place, find_base};
 pub use bd_stack::{
     at, base_handle, base_of, below, blocks_of, boundary_of, depth_of, device_named, firsts, home,
-    is_aio, is_base_handle, is_below, is_delay, is_error, is_home, is_malloc, number_named, row_of,
-    size_of, stands_on, users,
+    is_aio, is_base_handle, is_below, is_delay, is_error, is_home, is_malloc, is_null, is_over,
+    number_named, row_of, size_of, stands_on, users,
 };
 pub use channels::{get_channel, references, set_count};
 pub use digest::{digest_due, is_digest_due};
+pub use growing::grow;
 pub use limits::{
     bytes_in_slice, counts_way, is_limited, one_quota, rates_of, requests_in_slice, way_of,
 };

@@ -9,7 +9,7 @@ use bd_base::{
     ClaimKind, DevId, ErrKind, HandleId, Injection, Injections, OutOfMemory, Rows, Setup, ThreadId,
 };
 use bd_machine::{Device, Handle, Registry, ResetState, Standing};
-use bd_stack::{firsts, home, stands_on};
+use bd_stack::{blocks_of, firsts, home, stands_on};
 use std::alloc::Global;
 
 const NO_INJECTION: Injection = Injection {
@@ -37,6 +37,8 @@ fn device_at_start(alloc: Global, setup: &Setup, dev: DevId) -> Device
         reset: ResetState::Idle,
         waiting: Rows::new(alloc),
         injections,
+        blocks: blocks_of(setup, dev),
+        growing: None,
     }
 }
 
@@ -58,12 +60,14 @@ fn devices_at_start(alloc: Global, setup: &Setup) -> Result<Rows<Device>, OutOfM
 fn base_handle(setup: &Setup, number: u128, first: DevId) -> Handle
     ensures { handles_from setup.now number (first ∷ []) ≡ result ∷ [] }
 {
+    let dev = stands_on(setup, first).unwrap_or(first);
     Handle {
         id: HandleId(number),
-        dev: stands_on(setup, first).unwrap_or(first),
+        dev,
         thread: ThreadId(home(setup, first)),
         write: true,
         claim: Some(ClaimKind::Exclusive),
+        blocks: blocks_of(setup, dev),
     }
 }
 

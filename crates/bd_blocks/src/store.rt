@@ -51,7 +51,7 @@ fn rewrite_at(
             blocks.zero(first, count);
             Ok(())
         }
-        Op::Read | Op::Flush | Op::Reset | Op::Abort(_) => Ok(()),
+        Op::Read | Op::Flush | Op::Reset(_) | Op::Abort(_) => Ok(()),
     }
 }
 

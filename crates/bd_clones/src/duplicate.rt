@@ -68,6 +68,8 @@ impl Duplicate for News {
             News::Channel(dev) => Ok(News::Channel(*dev)),
             News::Device(dev) => Ok(News::Device(*dev)),
             News::Go(req, threads) => Ok(News::Go(*req, *threads)),
+            News::Grow(dev, blocks) => Ok(News::Grow(*dev, *blocks)),
+            News::Sized(handle, blocks) => Ok(News::Sized(*handle, *blocks)),
         }
     }
 }
@@ -174,11 +176,12 @@ impl Duplicate for Part {
             marked: self.marked.copy()?,
             resets: self.resets.copy()?,
             moments: self.moments,
-            injection: self.injection,
+            prior: self.prior,
             bases: duplicate_rows(alloc, &self.bases)?,
             limited: duplicate_rows(alloc, &self.limited)?,
             destructed: self.destructed.copy()?,
             delayed: self.delayed.copy()?,
+            sized: self.sized.copy()?,
         })
     }
 }
@@ -191,6 +194,8 @@ impl Duplicate for Device {
             reset: self.reset,
             waiting,
             injections: self.injections,
+            blocks: self.blocks,
+            growing: self.growing,
         })
     }
 }
@@ -286,6 +291,14 @@ impl Duplicate for Job {
             Job::Await(mark) => Ok(Job::Await(mark.copy()?)),
             Job::Gone { handle } => Ok(Job::Gone {
                 handle: handle.copy()?,
+            }),
+            Job::Resize { dev, blocks } => Ok(Job::Resize {
+                dev: dev.copy()?,
+                blocks: *blocks,
+            }),
+            Job::Sized { handle, blocks } => Ok(Job::Sized {
+                handle: handle.copy()?,
+                blocks: *blocks,
             }),
         }
     }

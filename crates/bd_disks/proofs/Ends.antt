@@ -33,7 +33,7 @@ writing_reads_not ops.Zeroes h = refl
 writing_reads_not ops.Unmap h = refl
 writing_reads_not ops.Read h = absurd h
 writing_reads_not ops.Flush h = refl
-writing_reads_not ops.Reset h = refl
+writing_reads_not (ops.Reset time) h = refl
 writing_reads_not (ops.Abort k) h = refl
 
 writing_flushes_not : (op : Op) → IsWriting op → is_flush op ≡ false
@@ -42,7 +42,7 @@ writing_flushes_not ops.Zeroes h = refl
 writing_flushes_not ops.Unmap h = refl
 writing_flushes_not ops.Read h = refl
 writing_flushes_not ops.Flush h = absurd h
-writing_flushes_not ops.Reset h = refl
+writing_flushes_not (ops.Reset time) h = refl
 writing_flushes_not (ops.Abort k) h = refl
 
 pub zeroing_writes : (op : Op) → IsZeroing op → IsWriting op
@@ -51,7 +51,7 @@ zeroing_writes ops.Unmap h = tt
 zeroing_writes (ops.Write fill) h = absurd h
 zeroing_writes ops.Read h = absurd h
 zeroing_writes ops.Flush h = absurd h
-zeroing_writes ops.Reset h = absurd h
+zeroing_writes (ops.Reset time) h = absurd h
 zeroing_writes (ops.Abort k) h = absurd h
 
 zeros_put : (size count : ℕ) → replicate (count * size) 0 ≡ concat (rewritten ops.Zeroes 0 (zero_blocks size count))
@@ -66,11 +66,11 @@ zeroing_puts size count n ops.Unmap h = zeros_put size count
 zeroing_puts size count n (ops.Write fill) h = absurd h
 zeroing_puts size count n ops.Read h = absurd h
 zeroing_puts size count n ops.Flush h = absurd h
-zeroing_puts size count n ops.Reset h = absurd h
+zeroing_puts size count n (ops.Reset time) h = absurd h
 zeroing_puts size count n (ops.Abort k) h = absurd h
 
 idle_keeps : (op : Op) (n : ℕ) (bs : List (List ℕ)) → IsNoPiece op → rewritten op n bs ≡ bs
-idle_keeps ops.Reset n bs h = refl
+idle_keeps (ops.Reset time) n bs h = refl
 idle_keeps (ops.Abort k) n bs h = refl
 idle_keeps (ops.Write fill) n bs h = absurd h
 idle_keeps ops.Zeroes n bs h = absurd h
@@ -79,7 +79,7 @@ idle_keeps ops.Read n bs h = refl
 idle_keeps ops.Flush n bs h = refl
 
 idle_reads_not : (op : Op) → IsNoPiece op → is_read op ≡ false
-idle_reads_not ops.Reset h = refl
+idle_reads_not (ops.Reset time) h = refl
 idle_reads_not (ops.Abort k) h = refl
 idle_reads_not (ops.Write fill) h = refl
 idle_reads_not ops.Zeroes h = refl
@@ -88,7 +88,7 @@ idle_reads_not ops.Read h = absurd h
 idle_reads_not ops.Flush h = refl
 
 idle_flushes_not : (op : Op) → IsNoPiece op → is_flush op ≡ false
-idle_flushes_not ops.Reset h = refl
+idle_flushes_not (ops.Reset time) h = refl
 idle_flushes_not (ops.Abort k) h = refl
 idle_flushes_not (ops.Write fill) h = refl
 idle_flushes_not ops.Zeroes h = refl

@@ -38,7 +38,7 @@ put_by_size size ops.Zeroes n bs w h = zeros_by_size size bs h
 put_by_size size ops.Unmap n bs w h = zeros_by_size size bs h
 put_by_size size ops.Read n bs w h = absurd w
 put_by_size size ops.Flush n bs w h = absurd w
-put_by_size size ops.Reset n bs w h = absurd w
+put_by_size size (ops.Reset time) n bs w h = absurd w
 put_by_size size (ops.Abort k) n bs w h = absurd w
 
 -- as many bytes as the blocks have

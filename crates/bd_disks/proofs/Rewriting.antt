@@ -58,7 +58,7 @@ sizes_rewritten size (ops.Write fill) n bs h = sizes_flipped size fill.flip (pat
 sizes_rewritten size ops.Zeroes n bs h = sizes_zeroed size bs h
 sizes_rewritten size ops.Unmap n bs h = sizes_zeroed size bs h
 sizes_rewritten size ops.Flush n bs h = h
-sizes_rewritten size ops.Reset n bs h = h
+sizes_rewritten size (ops.Reset time) n bs h = h
 sizes_rewritten size (ops.Abort k) n bs h = h
 
 pub length_rewritten : (op : Op) (n : ℕ) (bs : List (List ℕ)) → length (rewritten op n bs) ≡ length bs
@@ -67,7 +67,7 @@ length_rewritten (ops.Write fill) n bs = length_flipped fill.flip (patterned fil
 length_rewritten ops.Zeroes n bs = length_zeroed bs
 length_rewritten ops.Unmap n bs = length_zeroed bs
 length_rewritten ops.Flush n bs = refl
-length_rewritten ops.Reset n bs = refl
+length_rewritten (ops.Reset time) n bs = refl
 length_rewritten (ops.Abort k) n bs = refl
 
 -- ---- by the sizes alone

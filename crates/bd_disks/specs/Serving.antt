@@ -38,7 +38,7 @@ IsZeroing _ = ⊥
 
 -- no piece has this type
 abbrev pub IsNoPiece : Op → Type 0
-IsNoPiece ops.Reset = Unit {0}
+IsNoPiece (ops.Reset time) = Unit {0}
 IsNoPiece (ops.Abort seq) = Unit {0}
 IsNoPiece _ = ⊥
 

@@ -207,6 +207,6 @@ pub fn serve<D: Disk>(
         }
         Op::Zeroes | Op::Unmap => clear(alloc, disk, size, piece),
         Op::Flush => Ok(flush(alloc, disk, size, piece)),
-        Op::Reset | Op::Abort(_) => Ok(pass(alloc, disk, size, piece)),
+        Op::Reset(_) | Op::Abort(_) => Ok(pass(alloc, disk, size, piece)),
     }
 }

@@ -49,7 +49,7 @@ impl InjectionCalls for Injections {
             Op::Zeroes => take_without_data(&mut self.zeroes),
             Op::Unmap => take_without_data(&mut self.unmap),
             Op::Flush => take_without_data(&mut self.flush),
-            Op::Reset | Op::Abort(_) => Decision::Pass,
+            Op::Reset(_) | Op::Abort(_) => Decision::Pass,
         }
     }
 }

@@ -86,7 +86,7 @@ module _ (setup : Setup) (t : ℕ) (v : View) (req : ReqId) (r : OpenRequest) wh
 
   -- a request with a range that isn't cut has no success due
   no_success : (op : Op) → has_range op ≡ true → is_some r.pieces ≡ false → is_success_due v req r op ≡ false
-  no_success ops.Reset range uncut = cc
+  no_success (ops.Reset time) range uncut = cc
   no_success (ops.Abort seq) range uncut = cc
   no_success ops.Read range uncut = ap (λ (b : Bool). b && list_all is_done (pieces_of v req r)) uncut
   no_success (ops.Write fill) range uncut = ap (λ (b : Bool). b && list_all is_done (pieces_of v req r)) uncut

@@ -179,9 +179,9 @@ module _ (setup : Setup) (t : ℕ) (v : View) (req : ReqId) (r : OpenRequest) wh
   cut_here : IsLet steps.Cut → first_step (steps_due setup t v req r) ≡ steps.Cut
   cut_here h =
       let way = and_parts (is_under_way setup t v req r) (has_every_decision setup r) h in
-      let g = and_parts (is_at_own t req r && has_range r.op && is_none r.pieces && is_none r.aborted && not (is_marked setup v.part r.dev) && is_none (next_limited setup r)) (goes_on r.injected.last) way.0 in
-      let n = and_parts (is_at_own t req r && has_range r.op && is_none r.pieces && is_none r.aborted && not (is_marked setup v.part r.dev)) (is_none (next_limited setup r)) g.0 in
-      let m = and_parts (is_at_own t req r && has_range r.op && is_none r.pieces && is_none r.aborted) (not (is_marked setup v.part r.dev)) n.0 in
+      let g = and_parts (is_at_own t req r && has_range r.op && is_none r.pieces && is_none r.aborted && not (is_marked setup v.part r) && is_none (next_limited setup r)) (goes_on r.injected.last) way.0 in
+      let n = and_parts (is_at_own t req r && has_range r.op && is_none r.pieces && is_none r.aborted && not (is_marked setup v.part r)) (is_none (next_limited setup r)) g.0 in
+      let m = and_parts (is_at_own t req r && has_range r.op && is_none r.pieces && is_none r.aborted) (not (is_marked setup v.part r)) n.0 in
       let a = and_parts (is_at_own t req r && has_range r.op && is_none r.pieces) (is_none r.aborted) m.0 in
       let p = and_parts (is_at_own t req r && has_range r.op) (is_none r.pieces) a.0 in
       let o = and_parts (is_at_own t req r) (has_range r.op) p.0 in

@@ -10,7 +10,7 @@ use Rattle.bd_base.specs.declared.setup.Setup.{Setup}
 use Rattle.bd_machine.specs.declared.state.OpenRequest.{OpenRequest}
 use Rattle.bd_machine.specs.Aborts.{is_below, is_cause, may_abort}
 use Rattle.bd_machine.specs.BlockMap.{below}
-use Rattle.bd_machine.specs.Marks.{has_mark, is_frozen, is_marked, is_removed}
+use Rattle.bd_machine.specs.Marks.{freezes_here, is_marked, is_removed, stops_here}
 use Rattle.bd_machine.specs.Same.{same_dev}
 use Rattle.bd_machine.specs.Users.{dev_of}
 use Rattle.bd_machine.specs.View.{View}
@@ -41,10 +41,6 @@ stands_here d xs = ap (λ (b : Bool). b || list_any (same_dev d) xs) (eq-eqb d.0
 stands_later : (b : Bool) (rest : Bool) → rest ≡ true → (b || rest) ≡ true
 stands_later true rest h = refl
 stands_later false rest h = h
-
-or_false : (b : Bool) → (b || false) ≡ b
-or_false true = refl
-or_false false = refl
 
 pub one_of : {X : Type 0} (x y : X) → Some x ≡ Some y → x ≡ y
 one_of x y h = cc
@@ -86,8 +82,8 @@ module _ (setup : Setup) (t : ℕ) (v : View) (req : ReqId) (r : OpenRequest) wh
       by_removal true = refl
       by_removal false = refl
 
-  mark_is_mark : (c : AbortCause) → mark_below setup v.part r.dev ≡ Some c → is_mark c ≡ true
-  mark_is_mark c h = by_found (find (has_mark v.part) (below setup r.dev)) h
+  mark_is_mark : (c : AbortCause) → mark_below setup v.part r ≡ Some c → is_mark c ≡ true
+  mark_is_mark c h = by_found (find (stops_here v.part r.late) (below setup r.dev)) h
     where
       by_found : (o : Option DevId) → option_map (cause_at v.part) o ≡ Some c → is_mark c ≡ true
       by_found None found = cc
@@ -102,45 +98,45 @@ module _ (setup : Setup) (t : ℕ) (v : View) (req : ReqId) (r : OpenRequest) wh
   pub due_is_stop : (c : AbortCause) → abort_due setup t v req r ≡ Some c → IsStop c
   due_is_stop c h = by_cut (is_none r.pieces) refl h
     where
-      by_cut : (b : Bool) → is_none r.pieces ≡ b → cond b (where_holds (may_stop setup t v req (Some r)) (mark_below setup v.part r.dev)) None ≡ Some c → IsStop c
+      by_cut : (b : Bool) → is_none r.pieces ≡ b → cond b (where_holds (may_stop setup t v req (Some r)) (mark_below setup v.part r)) None ≡ Some c → IsStop c
       by_cut true e found = let w = held_where (may_stop setup t v req (Some r)) _ c found in record { mark = mark_is_mark c w.0; uncut = e; may = w.1 }
       by_cut false e found = cc
 
-  -- where a device below is marked and the rules let the request be aborted, an abort is due before the cut
-  marked_stop : (d : DevId) → is_none r.pieces ≡ true → may_abort v req (Some r) ≡ true → is_below setup r.dev d ≡ true → has_mark v.part d ≡ true → is_some (abort_due setup t v req r) ≡ true
-  marked_stop d uncut may stands marked = by_found (find (has_mark v.part) (below setup r.dev)) refl
+  -- where a mark of a device below stops the request and the rules let the request be aborted, an abort is due before the cut
+  marked_stop : (d : DevId) → is_none r.pieces ≡ true → may_abort v req (Some r) ≡ true → is_below setup r.dev d ≡ true → stops_here v.part r.late d ≡ true → is_some (abort_due setup t v req r) ≡ true
+  marked_stop d uncut may stands marked = by_found (find (stops_here v.part r.late) (below setup r.dev)) refl
     where
-      cause_holds : (x : DevId) (b : Bool) → is_removed v.part x ≡ b → IsIn (has_mark v.part) (below setup r.dev) x → is_cause setup t v req r (cond b (Removed x) (Frozen x)) ≡ true
+      cause_holds : (x : DevId) (b : Bool) → is_removed v.part x ≡ b → IsIn (stops_here v.part r.late) (below setup r.dev) x → is_cause setup t v req r (cond b (Removed x) (Frozen x)) ≡ true
       cause_holds x true e i = and_from (is_below setup r.dev x) (is_removed v.part x) i.stands e
       cause_holds x false e i =
-          and_from (is_below setup r.dev x) (is_frozen v.part x) i.stands (sym (or_false (is_frozen v.part x)) ∙ sym (ap (λ (b : Bool). is_frozen v.part x || b) e) ∙ i.passes)
+          and_from (is_below setup r.dev x) (freezes_here v.part r.late x) i.stands (sym (ap (λ (b : Bool). b || freezes_here v.part r.late x) e) ∙ i.passes)
 
-      due : (x : DevId) → find (has_mark v.part) (below setup r.dev) ≡ Some x → abort_due setup t v req r ≡ Some (cause_at v.part x)
+      due : (x : DevId) → find (stops_here v.part r.late) (below setup r.dev) ≡ Some x → abort_due setup t v req r ≡ Some (cause_at v.part x)
       due x e =
           let may_be : may_stop setup t v req (Some r) (cause_at v.part x) ≡ true = and_from (may_abort v req (Some r)) _ may (cause_holds x (is_removed v.part x) refl (found_is_in _ _ x e)) in
-          ap (λ (b : Bool). cond b (where_holds (may_stop setup t v req (Some r)) (mark_below setup v.part r.dev)) None) uncut
+          ap (λ (b : Bool). cond b (where_holds (may_stop setup t v req (Some r)) (mark_below setup v.part r)) None) uncut
           ∙ ap (λ (o : Option DevId). where_holds (may_stop setup t v req (Some r)) (option_map (cause_at v.part) o)) e
           ∙ ap (λ (b : Bool). cond b (Some (cause_at v.part x)) None) may_be
 
-      by_found : (o : Option DevId) → find (has_mark v.part) (below setup r.dev) ≡ o → is_some (abort_due setup t v req r) ≡ true
-      by_found None e = let f : false ≡ true = sym (ap (λ (o : Option DevId). is_some o) e) ∙ is_found (has_mark v.part) (below setup r.dev) d stands marked in cc
+      by_found : (o : Option DevId) → find (stops_here v.part r.late) (below setup r.dev) ≡ o → is_some (abort_due setup t v req r) ≡ true
+      by_found None e = let f : false ≡ true = sym (ap (λ (o : Option DevId). is_some o) e) ∙ is_found (stops_here v.part r.late) (below setup r.dev) d stands marked in cc
       by_found (Some x) e = ap (λ (o : Option AbortCause). is_some o) (due x e)
 
   pub stop_is_due : (c : AbortCause) → IsStop c → is_some (abort_due setup t v req r) ≡ true
   stop_is_due (Frozen d) s =
       let m = and_parts (may_abort v req (Some r)) _ s.may in
-      let w = and_parts (is_below setup r.dev d) (is_frozen v.part d) m.1 in
-      marked_stop d s.uncut m.0 w.0 (ap (λ (b : Bool). b || is_removed v.part d) w.1)
+      let w = and_parts (is_below setup r.dev d) (freezes_here v.part r.late d) m.1 in
+      marked_stop d s.uncut m.0 w.0 (stands_later (is_removed v.part d) (freezes_here v.part r.late d) w.1)
   stop_is_due (Removed d) s =
       let m = and_parts (may_abort v req (Some r)) _ s.may in
       let w = and_parts (is_below setup r.dev d) (is_removed v.part d) m.1 in
-      marked_stop d s.uncut m.0 w.0 (stands_later (is_frozen v.part d) (is_removed v.part d) w.1)
+      marked_stop d s.uncut m.0 w.0 (ap (λ (b : Bool). b || freezes_here v.part r.late d) w.1)
   stop_is_due (Named by) s = let f : false ≡ true = s.mark in cc
 
-  -- where no device below is marked, no abort is due
-  pub unmarked : is_marked setup v.part r.dev ≡ false → abort_due setup t v req r ≡ None
+  -- where no mark of a device below stops it, no abort is due
+  pub unmarked : is_marked setup v.part r ≡ false → abort_due setup t v req r ≡ None
   unmarked h = by_cut (is_none r.pieces)
     where
-      by_cut : (b : Bool) → cond b (where_holds (may_stop setup t v req (Some r)) (mark_below setup v.part r.dev)) None ≡ None
-      by_cut true = ap (λ (o : Option DevId). where_holds (may_stop setup t v req (Some r)) (option_map (cause_at v.part) o)) (none_found (has_mark v.part) (below setup r.dev) h)
+      by_cut : (b : Bool) → cond b (where_holds (may_stop setup t v req (Some r)) (mark_below setup v.part r)) None ≡ None
+      by_cut true = ap (λ (o : Option DevId). where_holds (may_stop setup t v req (Some r)) (option_map (cause_at v.part) o)) (none_found (stops_here v.part r.late) (below setup r.dev) h)
       by_cut false = refl

@@ -15,7 +15,7 @@ use Rattle.bd_machine.specs.Delays.{last_moment, may_hold}
 use Rattle.bd_machine.specs.Injections.{asks_injection, errors_below}
 use Rattle.bd_machine.specs.Kept.{is_own_trip}
 use Rattle.bd_machine.specs.Limits.{next_limited}
-use Rattle.bd_machine.specs.Marks.{has_mark, is_removed}
+use Rattle.bd_machine.specs.Marks.{is_removed, stops_here}
 use Rattle.bd_machine.specs.Messages.{may_request_here_go}
 use Rattle.bd_machine.specs.Requests.{is_status_due, may_complete}
 use Rattle.bd_machine.specs.View.{View}
@@ -31,9 +31,9 @@ where_holds is (Some x) = cond (is x) (Some x) None
 abbrev pub cause_at : Part → DevId → AbortCause
 cause_at part dev = cond (is_removed part dev) (Removed dev) (Frozen dev)
 
--- the cause that the first marked device gives, from the top down
-abbrev pub mark_below : Setup → Part → DevId → Option AbortCause
-mark_below setup part dev = option_map (cause_at part) (find (has_mark part) (below setup dev))
+-- the cause that the first device gives whose mark stops the request, from the top down
+abbrev pub mark_below : Setup → Part → OpenRequest → Option AbortCause
+mark_below setup part r = option_map (cause_at part) (find (stops_here part r.late) (below setup r.dev))
 
 -- the rules let the request be aborted for this cause
 abbrev pub may_stop : Setup → ℕ → View → ReqId → Option OpenRequest → AbortCause → Bool
@@ -41,7 +41,7 @@ may_stop setup t v req here cause = may_abort v req here && is_cause_if_any setu
 
 -- the mark by which a request that isn't cut is aborted
 abbrev pub abort_due : Setup → ℕ → View → ReqId → OpenRequest → Option AbortCause
-abort_due setup t v req r = cond (is_none r.pieces) (where_holds (may_stop setup t v req (Some r)) (mark_below setup v.part r.dev)) None
+abort_due setup t v req r = cond (is_none r.pieces) (where_holds (may_stop setup t v req (Some r)) (mark_below setup v.part r)) None
 
 -- ---- its completion
 

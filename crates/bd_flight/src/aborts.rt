@@ -7,7 +7,7 @@ use bd_base::{AbortCause, DevId, ReqId, Setup};
 use bd_blocks::below;
 use bd_machine::{OpenRequest, Part};
 use bd_rule_faults::refused_abort;
-use bd_rule_requests::{is_frozen, is_removed, request_here};
+use bd_rule_requests::{is_removed, request_here, stops_here};
 use bd_rule_view::Sees;
 
 // The mark of a device as the cause of an abort; that of a removal where both stand.
@@ -21,12 +21,12 @@ fn cause_at(part: &Part, dev: DevId) -> AbortCause
     }
 }
 
-// The cause that the first marked device gives, from the top down.
-fn mark_below(setup: &Setup, part: &Part, dev: DevId) -> Option<AbortCause>
-    ensures { result ≡ mark_below setup.now part.now dev }
+// The cause that the first device gives whose mark stops the request, from the top down.
+fn mark_below(setup: &Setup, part: &Part, r: &OpenRequest) -> Option<AbortCause>
+    ensures { result ≡ mark_below setup.now part.now r.now }
 {
-    for d in below(setup, dev) {
-        if is_frozen(part, d) || is_removed(part, d) {
+    for d in below(setup, r.dev) {
+        if stops_here(part, r.late, d) {
             return Some(cause_at(part, d));
         }
     }
@@ -54,7 +54,7 @@ pub(crate) fn abort_due<S: Sees>(
     if r.pieces.is_some() {
         return None;
     }
-    let cause = mark_below(setup, seen.part(), r.dev)?;
+    let cause = mark_below(setup, seen.part(), &r)?;
     if may_stop(seen, setup, me, req, cause) {
         Some(cause)
     } else {

@@ -13,15 +13,17 @@ use bd_base::{
 };
 use bd_blocks::{part_at_start, references, registry_at_start};
 use bd_machine::guard::{
-    ABORT_CAUSE, DRAINED, FIRST_IN_LINE, HOLD_OVER, INJECTION_TAKEN, MAY_ABORT, MAY_HOLD, MAY_PEND,
-    NEXT_VISIT, TICK_DUE, WITHIN_LIMITS,
+    ABORT_CAUSE, DRAINED, FIRST_IN_LINE, GRACE_DUE, GROW_DUE, HOLD_OVER, INJECTION_TAKEN, MARK_DUE,
+    MAY_ABORT, MAY_HOLD, MAY_PEND, NEXT_VISIT, TICK_DUE, WITHIN_LIMITS,
 };
-use bd_machine::{Handle, Id, Kept, Marking, Open, OpenWalk, Part, Registry, Trip};
+use bd_machine::{
+    FreezeMark, Handle, Id, Kept, Marking, Open, OpenWalk, Owed, Part, Prior, Registry, Trip,
+};
 use bd_rule_faults::{
-    refused_abort, refused_hold, refused_inject, refused_let, refused_pend, refused_release,
-    refused_tick,
+    refused_abort, refused_due, refused_grace, refused_hold, refused_inject, refused_let,
+    refused_pend, refused_release, refused_tick,
 };
-use bd_rule_requests::new_request;
+use bd_rule_requests::{may_grow, new_request};
 use bd_rule_view::{Sees, Submission, look_up, own_handle};
 use bd_rule_walks::refused_visit;
 use std::alloc::Global;
@@ -103,7 +105,8 @@ const RATES: Rates = Rates {
 
 // What the thread has: one read, open there or elsewhere, on its own way or out to the limits of
 // its device, where it may wait with so many requests left; a walk that came here for a drain; and
-// the marks of its device: a freeze mark or none, or no marks at all.
+// the marks of its device: a freeze mark or none, or no marks at all. The read was accepted before
+// that freeze mark, or it is late.
 #[derive(Clone, Copy)]
 struct Case {
     open: bool,
@@ -111,7 +114,12 @@ struct Case {
     waits: bool,
     left: i128,
     walks: bool,
-    marked: Option<bool>,
+    marked: Option<FreezeMark>,
+    late: bool,
+    // what the thread's entry before was
+    prior: Option<Prior>,
+    // the device is to grow to eight blocks
+    grows: bool,
 }
 
 // The read is open, on its own way.
@@ -122,28 +130,64 @@ const OPEN: Case = Case {
     left: 1,
     walks: false,
     marked: None,
+    late: false,
+    prior: None,
+    grows: false,
 };
 
 // It waits for the limits of its device.
 const WAITING: Case = Case {
-    open: true,
     trip: Trip::Out,
     waits: true,
-    left: 1,
-    walks: false,
-    marked: None,
+    ..OPEN
 };
 
 // It is open, and its device is frozen.
 const FROZEN: Case = Case {
-    marked: Some(true),
+    marked: Some(FreezeMark::Hard),
     ..OPEN
 };
 
 // Its device was frozen, and is no more.
 const THAWED: Case = Case {
-    marked: Some(false),
+    marked: Some(FreezeMark::Not),
     ..OPEN
+};
+
+// The mark of a reset with a drain time of a millisecond.
+const SOFT_MARK: FreezeMark = FreezeMark::Soft {
+    walk: WALK,
+    time: 1000,
+    until: None,
+};
+
+// It lasts until the moment 1,000.
+const LASTING: FreezeMark = FreezeMark::Soft {
+    walk: WALK,
+    time: 1000,
+    until: Some(1000),
+};
+
+// Such a mark was set by the thread's entry before.
+const SOFTENED: Case = Case {
+    marked: Some(SOFT_MARK),
+    prior: Some(Prior::Softening {
+        walk: WALK,
+        dev: DEV,
+    }),
+    ..OPEN
+};
+
+// It stands until the moment 1,000.
+const SOFT: Case = Case {
+    marked: Some(LASTING),
+    ..OPEN
+};
+
+// The read waits for the limits, and such a mark stands.
+const SOFT_WAITING: Case = Case {
+    marked: Some(LASTING),
+    ..WAITING
 };
 
 // Puts the read where the case has it.
@@ -180,6 +224,10 @@ fn fill_marks(part: &mut Part, case: Case) -> Result<(), OutOfMemory> {
 
 fn fill(part: &mut Part, case: Case) -> Result<(), OutOfMemory> {
     fill_requests(part, case)?;
+    if case.grows {
+        part.owed.push(Owed::Grow(DEV, 8))?;
+    }
+    part.prior = case.prior;
     fill_marks(part, case)
 }
 
@@ -189,8 +237,9 @@ fn part(alloc: Global, setup: &Setup, case: Case) -> Result<Part, OutOfMemory> {
     Ok(part)
 }
 
-fn request(case: Case) -> Kept {
-    let mut request = new_request(HANDLE, DEV, READ);
+// The read, which the thread accepted when it had this part.
+fn request(setup: &Setup, part: &Part, case: Case) -> Kept {
+    let mut request = new_request(setup, part, HANDLE, DEV, READ);
     request.trip = case.trip;
     Kept::Request(request)
 }
@@ -202,12 +251,14 @@ fn walk() -> Kept {
         left: ThreadSet(1),
         request: None,
         taken: true,
+        time: 0,
     })
 }
 
-fn held(alloc: Global, case: Case) -> Result<Vec<(Id, Kept)>, OutOfMemory> {
+fn held(alloc: Global, setup: &Setup, case: Case) -> Result<Vec<(Id, Kept)>, OutOfMemory> {
+    let accepting = part(alloc, setup, if case.late { case } else { OPEN })?;
     let mut held = Vec::new(alloc);
-    held.push((Id::Request(REQ), request(case)))?;
+    held.push((Id::Request(REQ), request(setup, &accepting, case)))?;
     if case.walks {
         held.push((Id::Walk(WALK), walk()))?;
     }
@@ -215,7 +266,7 @@ fn held(alloc: Global, case: Case) -> Result<Vec<(Id, Kept)>, OutOfMemory> {
 }
 
 fn seen_in(alloc: Global, setup: &Setup, case: Case) -> Result<Holder, OutOfMemory> {
-    let held = held(alloc, case)?;
+    let held = held(alloc, setup, case)?;
     let registry = registry_at_start(alloc, setup)?;
     let part = part(alloc, setup, case)?;
     Ok(Holder {
@@ -237,6 +288,19 @@ enum Deed {
     Release,
     Abort(ReqId, AbortCause),
     Visit,
+    // until this moment
+    Grace(u64),
+    Due(u64),
+    // to this number of blocks
+    Grow(u64),
+}
+
+fn refused_grow(seen: &Holder, setup: &Setup, blocks: u64) -> Option<u32> {
+    if may_grow(seen, setup, 0, DEV, blocks) {
+        None
+    } else {
+        Some(GROW_DUE)
+    }
 }
 
 fn refused(seen: &Holder, setup: &Setup, deed: Deed) -> Result<Option<u32>, OutOfMemory> {
@@ -248,6 +312,9 @@ fn refused(seen: &Holder, setup: &Setup, deed: Deed) -> Result<Option<u32>, OutO
         Deed::Hold => refused_hold(seen, setup, 0, REQ, 9),
         Deed::Release => refused_release(seen, setup, 0, REQ, 9),
         Deed::Abort(req, cause) => Ok(refused_abort(seen, setup, 0, req, cause)),
+        Deed::Grace(until) => Ok(refused_grace(seen, WALK, until)),
+        Deed::Due(now) => Ok(refused_due(seen, WALK, now)),
+        Deed::Grow(blocks) => Ok(refused_grow(seen, setup, blocks)),
         Deed::Visit => { Ok(refused_visit(seen, setup, 0, WALK, DEV, WalkKind::Drain)) }
     }
 }
@@ -263,7 +330,7 @@ fn answer(
     refused(&seen, setup, deed)
 }
 
-const ROWS: [(Case, Deed, Option<u32>); 21] = [
+const ROWS: [(Case, Deed, Option<u32>); 37] = [
     // a read that waits for the limits passes, unless it isn't the first there or nothing is left
     (WAITING, Deed::Let, None),
     (OPEN, Deed::Let, Some(FIRST_IN_LINE)),
@@ -288,7 +355,7 @@ const ROWS: [(Case, Deed, Option<u32>); 21] = [
     // it stops the read too where that waits for the limits, also if it isn't open on this thread
     (
         Case {
-            marked: Some(true),
+            marked: Some(FreezeMark::Hard),
             ..WAITING
         },
         Deed::Abort(REQ, RESET),
@@ -297,12 +364,52 @@ const ROWS: [(Case, Deed, Option<u32>); 21] = [
     (
         Case {
             open: false,
-            marked: Some(true),
+            marked: Some(FreezeMark::Hard),
             ..WAITING
         },
         Deed::Abort(REQ, RESET),
         None,
     ),
+    // a soft mark stops only what is late
+    (SOFT, Deed::Abort(REQ, RESET), Some(ABORT_CAUSE)),
+    (Case { late: true, ..SOFT }, Deed::Abort(REQ, RESET), None),
+    (SOFT_WAITING, Deed::Let, None),
+    (
+        Case {
+            late: true,
+            ..SOFT_WAITING
+        },
+        Deed::Let,
+        Some(FIRST_IN_LINE),
+    ),
+    // it lasts at least its drain time, which the entry after the visit says, and ends then
+    (SOFTENED, Deed::Grace(1000), None),
+    (SOFTENED, Deed::Grace(5000), None),
+    (SOFTENED, Deed::Grace(999), Some(GRACE_DUE)),
+    (SOFT, Deed::Grace(1000), Some(GRACE_DUE)),
+    (SOFT, Deed::Due(1000), None),
+    (SOFT, Deed::Due(999), Some(MARK_DUE)),
+    (SOFTENED, Deed::Due(1000), Some(MARK_DUE)),
+    (FROZEN, Deed::Due(1000), Some(MARK_DUE)),
+    (OPEN, Deed::Due(1000), Some(MARK_DUE)),
+    // a device grows to the blocks that its home was told
+    (
+        Case {
+            grows: true,
+            ..OPEN
+        },
+        Deed::Grow(8),
+        None,
+    ),
+    (
+        Case {
+            grows: true,
+            ..OPEN
+        },
+        Deed::Grow(9),
+        Some(GROW_DUE),
+    ),
+    (OPEN, Deed::Grow(8), Some(GROW_DUE)),
     // no walk is here; a drain waits for the open read, and goes on without one
     (OPEN, Deed::Visit, Some(NEXT_VISIT)),
     (

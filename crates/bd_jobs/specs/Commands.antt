@@ -5,7 +5,7 @@ use Rattle.bd_base.specs.Name.{same_name}
 use Rattle.bd_base.specs.declared.event.ClaimKind.{ClaimKind}
 use Rattle.bd_base.specs.declared.event.ClaimKind.TheVariants.{Exclusive, WriteOne, WriteNone, Shared}
 use Rattle.bd_base.specs.declared.job.Job.{Job}
-use Rattle.bd_base.specs.declared.job.Job.TheVariants.{Open, Close, Claim, Submit, Remove, Wait, Sleep, Post, Await, Gone}
+use Rattle.bd_base.specs.declared.job.Job.TheVariants.{Open, Close, Claim, Submit, Remove, Wait, Sleep, Post, Await, Gone, Resize, Sized}
 use Rattle.bd_base.specs.declared.job.Line.{Line}
 use Rattle.bd_base.specs.declared.request.Op.{Op}
 use Rattle.bd_base.specs.declared.request.Op.TheVariants.{Read, Write, Zeroes, Unmap, Flush, Reset, Abort}
@@ -33,6 +33,15 @@ close_job _ = None
 abbrev pub gone_job : List (List ℕ) → Option Job
 gone_job (handle ∷ []) = if is_handle handle then Some (Gone handle) else None
 gone_job _ = None
+
+abbrev pub sized_as : List ℕ → Option ℕ → Option Job
+sized_as handle None = None
+sized_as handle (Some blocks) = if is_handle handle then Some (Sized handle blocks) else None
+
+-- sized HANDLE BLOCKS
+abbrev pub sized_job : List (List ℕ) → Option Job
+sized_job (handle ∷ blocks ∷ []) = sized_as handle (number_of blocks)
+sized_job _ = None
 
 -- the kind of a claim: exclusive, one, none, or shared KEY
 abbrev pub shared_kind : Option ℕ → Option ClaimKind
@@ -80,9 +89,14 @@ abbrev pub write_job : List (List ℕ) → Option Job
 write_job (handle ∷ lba ∷ count ∷ seed ∷ []) = write_at handle (number_of lba) (number_of count) (number_of seed)
 write_job _ = None
 
--- reset HANDLE; it has no range
+abbrev pub reset_for : List ℕ → Option ℕ → Option Job
+reset_for handle None = None
+reset_for handle (Some time) = submit_at handle (Reset time) (Some 0) (Some 0)
+
+-- reset HANDLE, with no drain time, or reset HANDLE MICROS; it has no range
 abbrev pub reset_job : List (List ℕ) → Option Job
-reset_job (handle ∷ []) = submit_at handle Reset (Some 0) (Some 0)
+reset_job (handle ∷ []) = reset_for handle (Some 0)
+reset_job (handle ∷ micros ∷ []) = reset_for handle (number_of micros)
 reset_job _ = None
 
 -- the command submits a request
@@ -109,6 +123,15 @@ abort_job earlier _ = None
 abbrev pub remove_job : List (List ℕ) → Option Job
 remove_job (dev ∷ []) = if is_device dev then Some (Remove dev) else None
 remove_job _ = None
+
+abbrev pub resize_as : List ℕ → Option ℕ → Option Job
+resize_as dev None = None
+resize_as dev (Some blocks) = if is_device dev then Some (Resize dev blocks) else None
+
+-- resize DEVICE BLOCKS
+abbrev pub resize_job : List (List ℕ) → Option Job
+resize_job (dev ∷ blocks ∷ []) = resize_as dev (number_of blocks)
+resize_job _ = None
 
 -- wait
 abbrev pub wait_job : List (List ℕ) → Option Job
@@ -152,6 +175,7 @@ submission_job earlier word args =
 abbrev pub other_job : List ℕ → List (List ℕ) → Option Job
 other_job word args =
     if same_name word (codes "remove") then remove_job args
+    else if same_name word (codes "resize") then resize_job args
     else if same_name word (codes "wait") then wait_job args
     else if same_name word (codes "sleep") then sleep_job args
     else if same_name word (codes "post") then post_job args
@@ -169,4 +193,5 @@ command_job earlier word args =
     else if same_name word (codes "close") then close_job args
     else if same_name word (codes "claim") then claim_job args
     else if same_name word (codes "gone") then gone_job args
+    else if same_name word (codes "sized") then sized_job args
     else or_else (submission_job earlier word args) (other_job word args)

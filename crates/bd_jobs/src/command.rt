@@ -1,7 +1,7 @@
 //! The commands of a script, by their first word and the words after it.
 ghost use Rattle.std.specs.Prelude.{◌≡◌, map, Some, None, IfOk};
 ghost use Rattle.std.specs.List.{list_any};
-ghost use Rattle.bd_jobs.specs.Commands.{open_as, open_job, close_job, gone_job, plain_kind, claim_kind, claim_as, claim_job, submit_at, range_job, write_job, reset_job, submits, submits_at, abort_job, remove_job, wait_job, sleep_job, post_job, await_job, submission_job, other_job, command_job};
+ghost use Rattle.bd_jobs.specs.Commands.{open_as, open_job, close_job, gone_job, sized_as, sized_job, plain_kind, claim_kind, claim_as, claim_job, submit_at, range_job, write_job, reset_for, reset_job, submits, submits_at, abort_job, remove_job, resize_as, resize_job, wait_job, sleep_job, post_job, await_job, submission_job, other_job, command_job};
 
 use crate::word::{is_device, is_handle, number};
 use bd_base::{ClaimKind, Fill, Job, Line, Name, Op, OutOfMemory};
@@ -63,6 +63,28 @@ fn gone_job(alloc: Global, args: &[&[u8]]) -> Result<Option<Job>, OutOfMemory>
         [handle] if is_handle(handle) => Ok(Some(Job::Gone {
             handle: Name::from_slice(alloc, handle)?,
         })),
+        _ => Ok(None),
+    }
+}
+
+fn sized_as(alloc: Global, handle: &[u8], blocks: Option<u64>) -> Result<Option<Job>, OutOfMemory>
+    ensures { IfOk result (λ job. job ≡ sized_as handle.now blocks) }
+{
+    match blocks {
+        Some(blocks) if is_handle(handle) => Ok(Some(Job::Sized {
+            handle: Name::from_slice(alloc, handle)?,
+            blocks,
+        })),
+        _ => Ok(None),
+    }
+}
+
+// sized HANDLE BLOCKS
+fn sized_job(alloc: Global, args: &[&[u8]]) -> Result<Option<Job>, OutOfMemory>
+    ensures { IfOk result (λ job. job ≡ sized_job (map (λ w. w.now) args.now)) }
+{
+    match args {
+        [handle, blocks] => sized_as(alloc, handle, number(blocks)),
         _ => Ok(None),
     }
 }
@@ -166,12 +188,22 @@ fn write_job(alloc: Global, args: &[&[u8]]) -> Result<Option<Job>, OutOfMemory>
     submit_at(alloc, handle, op, number(lba), number(count))
 }
 
-// reset HANDLE
+fn reset_for(alloc: Global, handle: &[u8], time: Option<u64>) -> Result<Option<Job>, OutOfMemory>
+    ensures { IfOk result (λ job. job ≡ reset_for handle.now time) }
+{
+    match time {
+        Some(time) => submit_at(alloc, handle, Op::Reset(time), Some(0), Some(0)),
+        None => Ok(None),
+    }
+}
+
+// reset HANDLE, or reset HANDLE MICROS
 fn reset_job(alloc: Global, args: &[&[u8]]) -> Result<Option<Job>, OutOfMemory>
     ensures { IfOk result (λ job. job ≡ reset_job (map (λ w. w.now) args.now)) }
 {
     match args {
-        [handle] => submit_at(alloc, handle, Op::Reset, Some(0), Some(0)),
+        [handle] => reset_for(alloc, handle, Some(0)),
+        [handle, micros] => reset_for(alloc, handle, number(micros)),
         _ => Ok(None),
     }
 }
@@ -213,6 +245,28 @@ fn remove_job(alloc: Global, args: &[&[u8]]) -> Result<Option<Job>, OutOfMemory>
         [dev] if is_device(dev) => Ok(Some(Job::Remove {
             dev: Name::from_slice(alloc, dev)?,
         })),
+        _ => Ok(None),
+    }
+}
+
+fn resize_as(alloc: Global, dev: &[u8], blocks: Option<u64>) -> Result<Option<Job>, OutOfMemory>
+    ensures { IfOk result (λ job. job ≡ resize_as dev.now blocks) }
+{
+    match blocks {
+        Some(blocks) if is_device(dev) => Ok(Some(Job::Resize {
+            dev: Name::from_slice(alloc, dev)?,
+            blocks,
+        })),
+        _ => Ok(None),
+    }
+}
+
+// resize DEVICE BLOCKS
+fn resize_job(alloc: Global, args: &[&[u8]]) -> Result<Option<Job>, OutOfMemory>
+    ensures { IfOk result (λ job. job ≡ resize_job (map (λ w. w.now) args.now)) }
+{
+    match args {
+        [dev, blocks] => resize_as(alloc, dev, number(blocks)),
         _ => Ok(None),
     }
 }
@@ -292,6 +346,8 @@ fn other_job(alloc: Global, word: &[u8], args: &[&[u8]]) -> Result<Option<Job>, 
 {
     if word == b"remove".as_slice() {
         remove_job(alloc, args)
+    } else if word == b"resize".as_slice() {
+        resize_job(alloc, args)
     } else if word == b"wait".as_slice() {
         Ok(wait_job(args))
     } else if word == b"sleep".as_slice() {
@@ -326,6 +382,9 @@ pub(crate) fn command_job(
     }
     if word == b"gone".as_slice() {
         return gone_job(alloc, args);
+    }
+    if word == b"sized".as_slice() {
+        return sized_job(alloc, args);
     }
     match submission_job(alloc, earlier, word, args)? {
         Some(job) => Ok(Some(job)),

@@ -20,16 +20,18 @@ use Rattle.bd_machine.specs.declared.state.Part.{Part}
 use Rattle.bd_machine.specs.declared.state.Progress.{Progress}
 use Rattle.bd_machine.specs.declared.state.Progress.TheVariants.{Held, Out, Served}
 use Rattle.bd_machine.specs.BlockMap.{home, is_aio, is_malloc, size_of, depth_of}
-use Rattle.bd_machine.specs.Guards.{guards, change, change_by, noted, taken_injection}
-use Rattle.bd_machine.specs.Homes.{base_here, is_first_at, is_on_base, is_done_or, holds_at_most, is_too_many, is_digest_at, may_destruct, change_applied, applied, without_last}
+use Rattle.bd_machine.specs.Guards.{guards, change, change_by, noted, prior_by}
+use Rattle.bd_machine.specs.Grace.{softened}
+use Rattle.bd_machine.specs.Marks.{with_until}
+use Rattle.bd_machine.specs.Homes.{base_grown, bases_grown, change_grow, is_base, base_here, is_first_at, is_on_base, is_done_or, holds_at_most, is_too_many, is_digest_at, may_destruct, change_applied, applied, without_last}
 use Rattle.bd_machine.specs.Kept.{request_here, piece_here, walk_here}
 use Rattle.bd_machine.specs.Messages.{bases_took, queued, taken_by, arrived_walk, closed_notice, here_with, progress_took}
-use Rattle.bd_machine.specs.Table.{write}
+use Rattle.bd_machine.specs.Table.{change_first, write}
 use Rattle.bd_machine.specs.View.{View, Came, id_of}
 use Rattle.bd_law_disks.specs.Laws.{GuardsAreSame, OwnChangeIsSame}
 use Rattle.bd_law_disks.specs.Told.{is_on_disk}
-use Rattle.bd_law_disks.proofs.Fields.{with_moves, with_bases, filled_base, filled, filled_view, filled_change, stopped_filled, came_filled, walked_filled, visit_filled, notice_filled, reg_filled}
-use Rattle.bd_law_disks.proofs.Bases.{find_filled, change_filled, find_stays, applied_stays}
+use Rattle.bd_law_disks.proofs.Fields.{with_moves, with_bases, filled_base, filled, filled_view, filled_change, stopped_filled, came_filled, walked_filled, visit_filled, notice_filled, reg_filled, remarked_filled, ended_filled}
+use Rattle.bd_law_disks.proofs.Bases.{find_filled, change_filled, find_stays, applied_stays, grown_stays}
 
 module _ (fill : DevId → Content → Content) where
   -- ---- guards
@@ -112,25 +114,41 @@ module _ (fill : DevId → Content → Content) where
   taken_change setup t what p (Some (keeps.Notice told)) id = notice_filled fill setup t told p (closed_notice id told)
   taken_change setup t _ p _ id = refl
 
+  grown_bases : (setup : Setup) (dev : DevId) (blocks : ℕ) → (is_aio setup dev ≡ false → (x : Content) → fill dev x ≡ x) → (bs : List Base)
+      → bases_grown setup dev blocks (map (filled_base fill) bs) ≡ map (filled_base fill) (bases_grown setup dev blocks bs)
+  grown_bases setup dev blocks stays bs = go (is_aio setup dev) stays
+    where
+      go : (c : Bool) → (c ≡ false → (x : Content) → fill dev x ≡ x)
+          → cond c (map (filled_base fill) bs) (change_first (is_base dev) (base_grown blocks) (map (filled_base fill) bs))
+          ≡ map (filled_base fill) (cond c bs (change_first (is_base dev) (base_grown blocks) bs))
+      go true s = refl
+      go false s = change_filled fill dev (base_grown blocks) (base_grown blocks) (grown_stays fill dev (s refl) blocks) bs
+
   changed_by : (setup : Setup) (t : ℕ) (v : View) (act : Act) (came : Came)
       → ((req : ReqId) (k : ℕ) (dev : DevId) (end : ApplyEnd) → act ≡ acts.Apply req k dev end → (x : Content) → fill dev x ≡ x)
+      → ((dev : DevId) → is_aio setup dev ≡ false → (x : Content) → fill dev x ≡ x)
       → change_by setup t (filled_view fill v) act came ≡ filled_change fill (change_by setup t v act came)
-  changed_by setup t v (acts.Took source number what) came h =
+  changed_by setup t v (acts.Took source number what) came h g =
       taken_change setup t what (record v.part { taken = write ◌==◌ v.part.taken source (number + 1) }) came.message (id_of source t number what)
-  changed_by setup t v (acts.Reg event a) came h = reg_filled fill setup t v came event a
-  changed_by setup t v (acts.Apply req k dev end) came h = apply_change setup v req k dev end (h req k dev end refl)
-  changed_by setup t v (acts.NoMem req k dev) came h =
+  changed_by setup t v (acts.Reg event a) came h g = reg_filled fill setup t v came event a
+  changed_by setup t v (acts.Apply req k dev end) came h g = apply_change setup v req k dev end (h req k dev end refl)
+  changed_by setup t v (acts.NoMem req k dev) came h g =
       ap (with_bases (change_by setup t v (acts.NoMem req k dev) came).moves v.part)
       (change_filled fill dev without_last without_last (λ b e. refl) v.part.bases)
-  changed_by setup t v (acts.Abort req cause) came h =
+  changed_by setup t v (acts.Abort req cause) came h g =
       ap (with_moves (change_by setup t v (acts.Abort req cause) came).moves) (stopped_filled fill setup v.part req (request_here v req))
-  changed_by setup t v (acts.Visit walk dev kind) came h = visit_filled fill setup t v walk dev kind (walk_here v walk)
-  changed_by setup t v _ came h = refl
+  changed_by setup t v (acts.Visit walk dev kind) came h g = visit_filled fill setup t v walk dev kind (walk_here v walk)
+  changed_by setup t v (acts.Grow dev blocks) came h g =
+      ap (with_bases [] (change_grow setup v dev blocks).part) (grown_bases setup dev blocks (g dev) v.part.bases)
+  changed_by setup t v (acts.Grace walk until) came h g = ap (with_moves []) (remarked_filled fill (softened walk v.part.prior) (with_until until) v.part)
+  changed_by setup t v (acts.Due walk now) came h g = ap (with_moves []) (ended_filled fill walk now v.part)
+  changed_by setup t v _ came h g = refl
 
   pub change_filled_in : (setup : Setup) (t : ℕ) (v : View) (act : Act) (came : Came)
       → ((req : ReqId) (k : ℕ) (dev : DevId) (end : ApplyEnd) → act ≡ acts.Apply req k dev end → (x : Content) → fill dev x ≡ x)
+      → ((dev : DevId) → is_aio setup dev ≡ false → (x : Content) → fill dev x ≡ x)
       → change setup t (filled_view fill v) act came ≡ filled_change fill (change setup t v act came)
-  change_filled_in setup t v act came h = ap (noted (taken_injection act)) (changed_by setup t v act came h)
+  change_filled_in setup t v act came h g = ap (noted (prior_by v act)) (changed_by setup t v act came h g)
 
 -- ---- content that is told
 
@@ -147,4 +165,4 @@ guards_are_same setup contents t v act came apart =
 
 pub own_change_is_same : OwnChangeIsSame
 own_change_is_same setup contents t v act came own =
-    change_filled_in (told_fill setup contents) setup t v act came (λ req k dev end e. fill_stays setup contents dev (sym (ap (is_on_disk setup) e) ∙ own))
+    change_filled_in (told_fill setup contents) setup t v act came (λ req k dev end e. fill_stays setup contents dev (sym (ap (is_on_disk setup) e) ∙ own)) (fill_stays setup contents)

@@ -1,5 +1,5 @@
 -- Content that is filled in: the bases that are found, and those that change.
-use Rattle.std.proofs.Common.{◌≡◌, Bool, true, false, cond, List, [], ◌∷◌, map, Some, refl, sym, ◌∙◌, ap, subst}
+use Rattle.std.proofs.Common.{◌≡◌, ℕ, Bool, true, false, cond, List, [], ◌∷◌, map, Some, refl, sym, ◌∙◌, ap, subst}
 use Rattle.std.specs.Prelude.{find}
 use Rattle.std.specs.Option.{option_map}
 use Rattle.bd_base.specs.declared.act.ApplyEnd.{ApplyEnd}
@@ -9,7 +9,7 @@ use Rattle.bd_machine.specs.declared.state.Base.{Base}
 use Rattle.bd_machine.specs.declared.state.Content.{Content}
 use Rattle.bd_machine.specs.declared.state.OpenPiece.{OpenPiece}
 use Rattle.bd_machine.specs.Effect.{content_after}
-use Rattle.bd_machine.specs.Homes.{is_base, applied}
+use Rattle.bd_machine.specs.Homes.{is_base, applied, base_grown, content_grown}
 use Rattle.bd_machine.specs.Table.{change_first}
 use Rattle.bd_machine.proofs.Tables.{dev_exact}
 use Rattle.bd_law_disks.proofs.Fields.{filled_base}
@@ -58,3 +58,7 @@ module _ (fill : DevId → Content → Content) where
     applied_stays ends.Done p b e = ap (λ (x : Content). applied ends.Done p (record b { content = x })) (content_stays b e b.content)
         ∙ ap (λ (x : Content). record (applied ends.Done p b) { content = x }) (sym (content_stays b e (content_after b.content p)))
     applied_stays ends.Fault p b e = refl
+
+    pub grown_stays : (blocks : ℕ) (b : Base) → is_base dev b ≡ true → base_grown blocks (filled_base fill b) ≡ filled_base fill (base_grown blocks b)
+    grown_stays blocks b e = ap (λ (x : Content). base_grown blocks (record b { content = x })) (content_stays b e b.content)
+        ∙ ap (λ (x : Content). record b { content = x }) (sym (content_stays b e (content_grown blocks b.content)))

@@ -101,7 +101,7 @@ disk_change_is_told setup contents t v came req k dev end p aio once some piece 
     let old = some_base (base_here v dev) some in
     let new = found setup contents dev aio v.part.bases some in
     ap₂ (λ (x : Option OpenPiece) (y : Option Base). noted None (change_applied (told_view setup contents v) req k dev end size x y)) piece new.is
-    ∙ ap₂ (λ (bs : List Base) (x : Content). with_bases (ended_moves req k dev end size p (λ d. x)) (record v.part { injection = None }) bs)
+    ∙ ap₂ (λ (bs : List Base) (x : Content). with_bases (ended_moves req k dev end size p (λ d. x)) (record v.part { prior = None }) bs)
     (disk_bases setup contents dev aio end p v.part.bases once) new.content
     ∙ sym (ap₂ (λ (x : Option OpenPiece) (y : Option Base). by (noted None (change_applied v req k dev end size x y))) piece old.1)
   where

@@ -52,7 +52,7 @@ first told d = content_told (slice_index_or told d.0 None)
 
 abbrev entries : List Entry
 entries =
-    at 1 0 (acts.Reg (events.Open (codes "Aio0") true) (answers.Opened (handle 0) (dev 0))) ∷
+    at 1 0 (acts.Reg (events.Open (codes "Aio0") true) (answers.Opened (handle 0) (dev 0) 2)) ∷
     at 2 0 (acts.Reg (events.GetChannel (dev 0)) (answers.Got true [])) ∷
     at 3 0 (acts.Script 1 outcomes.Done) ∷
     at 4 0 (acts.Accept (dev 0) 0 (handle 0) (req 0 0) ops.Zeroes 1) ∷

@@ -32,15 +32,19 @@ use Rattle.bd_machine.specs.Admission.{is_gone}
 use Rattle.bd_machine.specs.Asked.{owes_removal}
 use Rattle.bd_machine.specs.BlockMap.{below, home}
 use Rattle.bd_machine.specs.Changes.{is_dropped}
-use Rattle.bd_machine.specs.Events.{decided_by, paid, owing, with_due, alone, closed_by, born, all_born, got_by, put_down_by, put_paid, dropped_by, removal_paid, with_reset, advanced, reset_finishes, freed_by, channel_due, gone_due, removing, reset_begun, reset_thaws, injection_taken, change_reg, first_req, device_due, destruct_of}
-use Rattle.bd_machine.specs.Limits.{arrived, departed, is_limited, next_limited, waits_at}
-use Rattle.bd_machine.specs.Marks.{remarked, frozen_as, freeze_set, removal_set}
+use Rattle.bd_machine.specs.Events.{decided_by, paid, owing, with_due, alone, closed_by, born, all_born, got_by, put_down_by, put_paid, dropped_by, removal_paid, with_reset, advanced, reset_finishes, freed_by, channel_due, gone_due, removing, reset_begun, reset_thaws, injection_taken, change_reg, first_req, device_due, destruct_of, drain_time, resizing, resized}
+use Rattle.bd_machine.specs.Limits.{arrived, departed, is_limited, next_limited, seen, waits_at}
+use Rattle.bd_machine.specs.declared.state.FreezeMark.TheVariants.{Not}
+use Rattle.bd_machine.specs.declared.state.Marking.{Marking}
+use Rattle.bd_machine.specs.Grace.{dev_if_any, ended, ending_mark, remarked_if_any}
+use Rattle.bd_machine.specs.Marks.{remarked, with_frozen, hardened, freeze_set, removal_set}
+use Rattle.bd_machine.specs.Kept.{walk_here}
 use Rattle.bd_machine.specs.Messages.{request_took, told_part, freezes, went, told_walk}
 use Rattle.bd_machine.specs.Registry.{made, device_named}
 use Rattle.bd_machine.specs.Threads.{is_nobody}
 use Rattle.bd_machine.specs.Users.{is_base_handle}
 use Rattle.bd_machine.specs.View.{View, Came, Change, Move, Going, Here, Closed}
-use Rattle.bd_machine.specs.Walks.{staged, numbered, over_nobody, begin_walk, after_walk, is_at_end, walked, drain_threads, marked_by, visited, walked_if_any, reset_of, begun}
+use Rattle.bd_machine.specs.Walks.{staged, numbered, over_nobody, begin_walk_with, begin_walk, time_of_walk, after_walk, is_at_end, walked, drain_threads, marked_by, visited, walked_if_any, reset_of, begun}
 
 -- a change of a part, with these moves
 abbrev pub with_moves : List Move → Part → Change
@@ -94,8 +98,8 @@ module _ (fill : DevId → Content → Content) where
   dropped_filled : (t : ℕ) (dev : DevId) (a : Answer) (p : Part) → dropped_by t dev a (filled p) ≡ filled (dropped_by t dev a p)
   dropped_filled t dev (answers.Dropped what zero destruct) p = go (is_dropped what)
     where
-      go : (b : Bool) → with_due (channel_due t zero) (cond b (remarked dev (frozen_as false) (filled p)) (filled p))
-          ≡ filled (with_due (channel_due t zero) (cond b (remarked dev (frozen_as false) p) p))
+      go : (b : Bool) → with_due (channel_due t zero) (cond b (remarked dev (with_frozen Not) (filled p)) (filled p))
+          ≡ filled (with_due (channel_due t zero) (cond b (remarked dev (with_frozen Not) p) p))
       go true = refl
       go false = refl
   dropped_filled t dev _ p = refl
@@ -122,16 +126,19 @@ module _ (fill : DevId → Content → Content) where
   staged_filled None stage p = refl
   staged_filled (Some req) stage p = refl
 
-  marked_filled : (setup : Setup) (t : ℕ) (v : View) (dev : DevId) (kind : WalkKind)
-      → marked_by setup t (filled_view v) dev kind ≡ filled (marked_by setup t v dev kind)
-  marked_filled setup t v dev Freeze = go (is_some (v.channels dev))
+  marked_filled : (setup : Setup) (t : ℕ) (v : View) (walk : WalkId) (dev : DevId) (kind : WalkKind)
+      → marked_by setup t (filled_view v) walk dev kind ≡ filled (marked_by setup t v walk dev kind)
+  marked_filled setup t v walk dev Freeze = go (is_some (v.channels dev))
     where
-      go : (b : Bool) → cond b (remarked dev freeze_set (filled v.part)) (filled v.part) ≡ filled (cond b (remarked dev freeze_set v.part) v.part)
+      set : Marking → Marking
+      set = freeze_set walk (time_of_walk (walk_here v walk))
+
+      go : (b : Bool) → cond b (remarked dev set (filled v.part)) (filled v.part) ≡ filled (cond b (remarked dev set v.part) v.part)
       go true = refl
       go false = refl
-  marked_filled setup t v dev Drain = refl
-  marked_filled setup t v dev Thaw = refl
-  marked_filled setup t v dev Removal = go (is_limited setup dev && (home setup dev == t))
+  marked_filled setup t v walk dev Drain = refl
+  marked_filled setup t v walk dev Thaw = refl
+  marked_filled setup t v walk dev Removal = go (is_limited setup dev && (home setup dev == t))
     where
       go : (b : Bool) → cond b (owing (owes.Put dev) (remarked dev removal_set (filled v.part))) (remarked dev removal_set (filled v.part))
           ≡ filled (cond b (owing (owes.Put dev) (remarked dev removal_set v.part)) (remarked dev removal_set v.part))
@@ -144,6 +151,15 @@ module _ (fill : DevId → Content → Content) where
   told_filled setup (news.Channel dev) p = refl
   told_filled setup (news.Device dev) p = refl
   told_filled setup (news.Go req threads) p = refl
+  told_filled setup (news.Grow dev blocks) p = refl
+  told_filled setup (news.Sized handle blocks) p = refl
+
+  pub remarked_filled : (o : Option DevId) (f : Marking → Marking) (p : Part) → remarked_if_any o f (filled p) ≡ filled (remarked_if_any o f p)
+  remarked_filled None f p = refl
+  remarked_filled (Some dev) f p = refl
+
+  pub ended_filled : (walk : WalkId) (now : ℕ) (p : Part) → ended walk now (filled p) ≡ filled (ended walk now p)
+  ended_filled walk now p = ap (λ (q : Part). record q { moments = seen now p.moments }) (remarked_filled (dev_if_any (ending_mark p walk)) hardened p)
 
   departed_filled : (p : Part) (req : ReqId) (o : Option DevId) → departed (filled p) req o ≡ filled (departed p req o)
   departed_filled p req None = refl
@@ -171,21 +187,21 @@ module _ (fill : DevId → Content → Content) where
   nobody_filled Thaw req p = staged_filled req stages.Thawed (numbered 1 p)
   nobody_filled Removal req p = refl
 
-  begin_filled : (t : ℕ) (kind : WalkKind) (dev : DevId) (threads : ThreadSet) (req : Option ReqId) (c : Change)
-      → begin_walk t kind dev threads req (filled_change c) ≡ filled_change (begin_walk t kind dev threads req c)
-  begin_filled t kind dev threads req c = go (is_nobody threads)
+  begin_filled : (t : ℕ) (kind : WalkKind) (dev : DevId) (threads : ThreadSet) (req : Option ReqId) (time : ℕ) (c : Change)
+      → begin_walk_with t kind dev threads req time (filled_change c) ≡ filled_change (begin_walk_with t kind dev threads req time c)
+  begin_filled t kind dev threads req time c = go (is_nobody threads)
     where
       go : (b : Bool) → cond b (with_moves c.moves (over_nobody kind req (filled c.part)))
-          (with_moves (c.moves ++ begun t c.part kind dev threads req ∷ []) (numbered 1 (filled c.part)))
+          (with_moves (c.moves ++ begun t c.part kind dev threads req time ∷ []) (numbered 1 (filled c.part)))
           ≡ filled_change (cond b (with_moves c.moves (over_nobody kind req c.part))
-          (with_moves (c.moves ++ begun t c.part kind dev threads req ∷ []) (numbered 1 c.part)))
+          (with_moves (c.moves ++ begun t c.part kind dev threads req time ∷ []) (numbered 1 c.part)))
       go true = ap (with_moves c.moves) (nobody_filled kind req c.part)
       go false = refl
 
   after_filled : (t : ℕ) (w : OpenWalk) (kind : WalkKind) (c : Change) → after_walk t w kind (filled_change c) ≡ filled_change (after_walk t w kind c)
   after_filled t w Freeze c =
       ap (λ p. begin_walk t Drain w.dev (drain_threads c.part w.request) w.request (with_moves c.moves p)) (staged_filled w.request stages.Draining c.part)
-      ∙ begin_filled t Drain w.dev (drain_threads c.part w.request) w.request (with_moves c.moves (staged w.request stages.Draining c.part))
+      ∙ begin_filled t Drain w.dev (drain_threads c.part w.request) w.request 0 (with_moves c.moves (staged w.request stages.Draining c.part))
   after_filled t w Drain c = ap (with_moves c.moves) (staged_filled w.request stages.Drained c.part)
   after_filled t w Thaw c = ap (with_moves c.moves) (staged_filled w.request stages.Thawed c.part)
   after_filled t w Removal c = refl
@@ -202,15 +218,15 @@ module _ (fill : DevId → Content → Content) where
       go false = refl
 
   pub visit_filled : (setup : Setup) (t : ℕ) (v : View) (walk : WalkId) (dev : DevId) (kind : WalkKind) (x : Option OpenWalk)
-      → walked_if_any t walk (marked_by setup t (filled_view v) dev kind) x ≡ filled_change (walked_if_any t walk (marked_by setup t v dev kind) x)
-  visit_filled setup t v walk dev kind None = ap (with_moves []) (marked_filled setup t v dev kind)
-  visit_filled setup t v walk dev kind (Some w) = ap (walked t walk (visited t w)) (marked_filled setup t v dev kind)
-      ∙ walked_filled t walk (visited t w) (marked_by setup t v dev kind)
+      → walked_if_any t walk (marked_by setup t (filled_view v) walk dev kind) x ≡ filled_change (walked_if_any t walk (marked_by setup t v walk dev kind) x)
+  visit_filled setup t v walk dev kind None = ap (with_moves []) (marked_filled setup t v walk dev kind)
+  visit_filled setup t v walk dev kind (Some w) = ap (walked t walk (visited t w)) (marked_filled setup t v walk dev kind)
+      ∙ walked_filled t walk (visited t w) (marked_by setup t v walk dev kind)
 
   went_filled : (t : ℕ) (req : ReqId) (threads : ThreadSet) (x : Option Resetting) (c : Change)
       → went t req threads x (filled_change c) ≡ filled_change (went t req threads x c)
   went_filled t req threads None c = refl
-  went_filled t req threads (Some r) c = begin_filled t Freeze r.dev threads (Some req) (with_moves c.moves (freezes req threads c.part))
+  went_filled t req threads (Some r) c = begin_filled t Freeze r.dev threads (Some req) r.time (with_moves c.moves (freezes req threads c.part))
 
   told_walk_filled : (t : ℕ) (told : News) (c : Change) → told_walk t told (filled_change c) ≡ filled_change (told_walk t told c)
   told_walk_filled t (news.Go req threads) c = went_filled t req threads (reset_of c.part req) c
@@ -218,6 +234,8 @@ module _ (fill : DevId → Content → Content) where
   told_walk_filled t (news.Gone handle) c = refl
   told_walk_filled t (news.Channel dev) c = refl
   told_walk_filled t (news.Device dev) c = refl
+  told_walk_filled t (news.Grow dev blocks) c = refl
+  told_walk_filled t (news.Sized handle blocks) c = refl
 
   pub notice_filled : (setup : Setup) (t : ℕ) (told : News) (p : Part) (moves : List Move)
       → told_walk t told (with_moves moves (told_part setup told (filled p)))
@@ -229,21 +247,29 @@ module _ (fill : DevId → Content → Content) where
 
   removing_filled : (setup : Setup) (t : ℕ) (a : Answer) (p : Part) → removing setup t a (filled p) ≡ filled_change (removing setup t a p)
   removing_filled setup t (answers.Removing dev threads handles destruct) p =
-      begin_filled t Removal dev threads None (alone (with_due (map gone_due handles ++ device_due setup destruct) p))
+      begin_filled t Removal dev threads None 0 (alone (with_due (map gone_due handles ++ device_due setup destruct) p))
   removing_filled setup t _ p = refl
 
   begun_filled : (t : ℕ) (dev : DevId) (req : ReqId) (a : Answer) (p : Part) → reset_begun t dev req a (filled p) ≡ filled_change (reset_begun t dev req a p)
-  begun_filled t dev req (answers.ResetStarted threads) p = begin_filled t Freeze dev threads (Some req) (alone (with_reset req dev stages.Freezing threads p))
+  begun_filled t dev req (answers.ResetStarted threads) p = begin_filled t Freeze dev threads (Some req) (drain_time p req) (alone (with_reset req dev stages.Freezing threads p))
   begun_filled t dev req _ p = refl
 
   thaws_filled : (t : ℕ) (dev : DevId) (a : Answer) (p : Part) → reset_thaws t dev a (filled p) ≡ filled_change (reset_thaws t dev a p)
   thaws_filled t dev (answers.ResetEnded threads) p =
-      begin_filled t Thaw dev threads (first_req p.resets dev stages.Drained) (alone (advanced dev stages.Drained stages.Thawing p))
+      begin_filled t Thaw dev threads (first_req p.resets dev stages.Drained) 0 (alone (advanced dev stages.Drained stages.Thawing p))
   thaws_filled t dev _ p = refl
 
   injection_filled : (v : View) (req : ReqId) (a : Answer) → injection_taken (filled_view v) req a ≡ filled_change (injection_taken v req a)
   injection_filled v req (answers.Injected decision) = refl
   injection_filled v req _ = refl
+
+  resizing_filled : (blocks : ℕ) (a : Answer) (p : Part) → resizing blocks a (filled p) ≡ filled (resizing blocks a p)
+  resizing_filled blocks (answers.Resizing dev at) p = refl
+  resizing_filled blocks _ p = refl
+
+  resized_filled : (a : Answer) (p : Part) → resized a (filled p) ≡ filled (resized a p)
+  resized_filled (answers.Resized handles blocks destruct) p = refl
+  resized_filled _ p = refl
 
   pub reg_filled : (setup : Setup) (t : ℕ) (v : View) (came : Came) (event : RegEvent) (a : Answer)
       → change_reg setup t (filled_view v) came event a ≡ filled_change (change_reg setup t v came event a)
@@ -262,3 +288,6 @@ module _ (fill : DevId → Content → Content) where
   reg_filled setup t v came (events.FinishReset dev) a = ap alone (finishes_filled dev a v.part)
   reg_filled setup t v came (events.TakeInjection dev req op) a = injection_filled v req a
   reg_filled setup t v came (events.Destructed dev) a = ap alone (freed_filled a (paid (owes.Report dev) v.part))
+  reg_filled setup t v came (events.BeginResize name blocks) a = ap alone (resizing_filled blocks a (decided_by came a v.part))
+  reg_filled setup t v came (events.EndResize dev) a =
+      ap (λ p. alone (with_due (device_due setup (destruct_of a)) p)) (resized_filled a (paid (owes.EndResize dev) v.part))

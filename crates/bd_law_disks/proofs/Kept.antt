@@ -11,10 +11,10 @@ use Rattle.bd_base.specs.declared.id.ReqId.{ReqId}
 use Rattle.bd_base.specs.declared.setup.Setup.{Setup}
 use Rattle.bd_machine.specs.declared.state.Base.{Base}
 use Rattle.bd_machine.specs.declared.state.OpenPiece.{OpenPiece}
-use Rattle.bd_machine.specs.BlockMap.{home, is_base_kind, row_of, size_of}
+use Rattle.bd_machine.specs.BlockMap.{home, is_aio, is_base_kind, row_of, size_of}
 use Rattle.bd_machine.specs.Content.{Told}
 use Rattle.bd_machine.specs.Guards.{change}
-use Rattle.bd_machine.specs.Homes.{applied, base_here, change_applied, is_base}
+use Rattle.bd_machine.specs.Homes.{applied, base_grown, bases_grown, base_here, change_applied, is_base}
 use Rattle.bd_machine.specs.Kept.{piece_here}
 use Rattle.bd_machine.specs.Laws.{Stored, stored, stored_of}
 use Rattle.bd_machine.specs.Same.{same_dev}
@@ -41,16 +41,29 @@ module _ (dev : DevId) where
   same_stored : (bs cs : List Base) → stored bs ≡ stored cs → count_by (is_base dev) bs ≡ count_by (is_base dev) cs
   same_stored bs cs h = count_stored bs ∙ ap (count_by is_stored) h ∙ sym (count_stored cs)
 
-  -- an Apply leaves each base its device
+  -- a change that leaves each base its device
+  changed_count : (d : DevId) (f : Base → Base) → ((b : Base) → (f b).dev ≡ b.dev) → (bs : List Base)
+      → count_by (is_base dev) (change_first (is_base d) f bs) ≡ count_by (is_base dev) bs
+  changed_count d f keeps [] = refl
+  changed_count d f keeps (b ∷ bs) = go (is_base d b) (changed_count d f keeps bs)
+    where
+      go : (c : Bool) → count_by (is_base dev) (change_first (is_base d) f bs) ≡ count_by (is_base dev) bs
+          → count_by (is_base dev) (cond c (f b ∷ bs) (b ∷ change_first (is_base d) f bs)) ≡ count_by (is_base dev) (b ∷ bs)
+      go true h = counted (f b) bs ∙ ap (λ (x : DevId). cond (same_dev x dev) 1 0 + count_by (is_base dev) bs) (keeps b) ∙ sym (counted b bs)
+      go false h = counted b (change_first (is_base d) f bs) ∙ ap (λ (n : ℕ). cond (is_base dev b) 1 0 + n) h ∙ sym (counted b bs)
+
+  -- an Apply
   applied_count : (d : DevId) (end : ApplyEnd) (p : OpenPiece) (bs : List Base)
       → count_by (is_base dev) (change_first (is_base d) (applied end p) bs) ≡ count_by (is_base dev) bs
-  applied_count d end p [] = refl
-  applied_count d end p (b ∷ bs) = go (is_base d b) (applied_count d end p bs)
+  applied_count d end p bs = changed_count d (applied end p) (λ b. refl) bs
+
+  -- a Grow
+  grown_count : (setup : Setup) (d : DevId) (blocks : ℕ) (bs : List Base) → count_by (is_base dev) (bases_grown setup d blocks bs) ≡ count_by (is_base dev) bs
+  grown_count setup d blocks bs = go (is_aio setup d)
     where
-      go : (c : Bool) → count_by (is_base dev) (change_first (is_base d) (applied end p) bs) ≡ count_by (is_base dev) bs
-          → count_by (is_base dev) (cond c (applied end p b ∷ bs) (b ∷ change_first (is_base d) (applied end p) bs)) ≡ count_by (is_base dev) (b ∷ bs)
-      go true h = counted (applied end p b) bs ∙ sym (counted b bs)
-      go false h = counted b (change_first (is_base d) (applied end p) bs) ∙ ap (λ (n : ℕ). cond (is_base dev b) 1 0 + n) h ∙ sym (counted b bs)
+      go : (c : Bool) → count_by (is_base dev) (cond c bs (change_first (is_base d) (base_grown blocks) bs)) ≡ count_by (is_base dev) bs
+      go true = refl
+      go false = changed_count d (base_grown blocks) (λ b. refl) bs
 
   apply_count : (v : View) (req : ReqId) (k : ℕ) (d : DevId) (end : ApplyEnd) (size : ℕ) (x : Option OpenPiece) (y : Option Base)
       → count_by (is_base dev) (change_applied v req k d end size x y).part.bases ≡ count_by (is_base dev) v.part.bases
@@ -70,6 +83,7 @@ bases_stay setup t v (acts.Accept d lba handle req op count) came dev = refl
 bases_stay setup t v (acts.Destruct d digest) came dev = refl
 bases_stay setup t v (acts.Tick d now slices) came dev = refl
 bases_stay setup t v (acts.Apply req k d end) came dev = apply_count dev v req k d end (size_of setup d) (piece_here v req k) (base_here v d)
+bases_stay setup t v (acts.Grow d blocks) came dev = grown_count dev setup d blocks v.part.bases
 bases_stay setup t v act came dev = plain_stay setup t v act came dev refl
 
 -- ---- at the start

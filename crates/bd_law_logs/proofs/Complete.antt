@@ -222,7 +222,7 @@ module _ (setup : Setup) (s : State) (views : ℕ → View) (shared : Shared) (e
     owed_idle = λ t lt. ap (λ (v : View). is_nothing_owed shared.registry v.part) (views_are t lt) ∙ quiet.owed_idle t lt;
     closed = λ t lt. ap (λ (v : View). list_any (is_left_open_in setup v) v.handles) (views_are t lt) ∙ quiet.closed t lt;
     resting = λ t lt id. ap (λ (v : View). is_resting_here setup t v id (v.here id)) (views_are t lt) ∙ quiet.resting t lt id;
-    untaken = ap (λ (v : View). v.part.injection) (views_are 0 some) ∙ quiet.untaken;
+    untaken = ap (λ (v : View). v.part.prior) (views_are 0 some) ∙ quiet.untaken;
   }
 
   pub done : AreSpent setup.threads ends → AreDone setup views shared

@@ -83,9 +83,10 @@ errno_exact NotSup NotSup h = refl
 errno_exact _ _ h = never h
 
 pub answer_exact : (a b : Answer) → same_answer a b ≡ true → a ≡ b
-answer_exact (answers.Opened h d) (answers.Opened h' d') e =
-    let p = and_parts (same_handle h h') (same_dev d d') e in
-    ap₂ answers.Opened (handle_exact h h' p.0) (dev_exact d d' p.1)
+answer_exact (answers.Opened h d n) (answers.Opened h' d' n') e =
+    let p = and_parts (same_handle h h' && same_dev d d') (n == n') e in
+    let q = and_parts (same_handle h h') (same_dev d d') p.0 in
+    ap₂ (λ (x : HandleId) (y : DevId). answers.Opened x y n) (handle_exact h h' q.0) (dev_exact d d' q.1) ∙ ap (answers.Opened h' d') (eqb-true n n' p.1)
 answer_exact (answers.Closed d) (answers.Closed d') e = ap answers.Closed (if_any_exact same_dev dev_exact d d' e)
 answer_exact answers.Claimed answers.Claimed e = refl
 answer_exact (answers.Got f ds) (answers.Got f' ds') e =
@@ -109,5 +110,13 @@ answer_exact (answers.ResetEnded ts) (answers.ResetEnded ts') e = ap answers.Res
 answer_exact (answers.ResetFinished n) (answers.ResetFinished n') e = ap answers.ResetFinished (if_any_exact same_next_reset next_exact n n' e)
 answer_exact (answers.Injected d) (answers.Injected d') e = ap answers.Injected (decision_exact d d' e)
 answer_exact (answers.Freed h) (answers.Freed h') e = ap answers.Freed (if_any_exact same_handle handle_exact h h' e)
+answer_exact (answers.Resizing d t) (answers.Resizing d' t') e =
+    let p = and_parts (same_dev d d') (t.0 == t'.0) e in
+    ap₂ (λ (x : DevId) (n : ℕ). let y : ThreadId = record { 0 = n } in answers.Resizing x y) (dev_exact d d' p.0) (eqb-true t.0 t'.0 p.1)
+answer_exact (answers.Resized hs n d) (answers.Resized hs' n' d') e =
+    let p = and_parts (pointwise same_holder hs hs' && (n == n')) (same_if_any same_dev d d') e in
+    let q = and_parts (pointwise same_holder hs hs') (n == n') p.0 in
+    ap₂ (λ (x : List (HandleId × ThreadId)) (y : ℕ). answers.Resized x y d) (pointwise_exact same_holder holder_exact hs hs' q.0) (eqb-true n n' q.1)
+    ∙ ap (answers.Resized hs' n') (if_any_exact same_dev dev_exact d d' p.1)
 answer_exact (answers.Refused a) (answers.Refused b) e = ap answers.Refused (errno_exact a b e)
 answer_exact _ _ e = never e

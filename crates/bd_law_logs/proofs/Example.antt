@@ -1,4 +1,4 @@
--- The rules of rows let whole logs through, entry by entry, with no machine at hand, whether their acts are built yet or not: each thread's rows of a stack that is removed over two threads, and of resets in turn, with walks, notices of each kind and destructions.
+-- The rules of rows let whole logs through, entry by entry, with no machine at hand, whether their acts are built yet or not: each thread's rows of a stack that is removed over two threads, of resets in turn, of a resize and of a reset with a drain time, with walks, notices of each kind and destructions.
 use Rattle.std.proofs.Common.{◌≡◌, ℕ, Bool, false, cond, ◌==◌, nat_lt, List, [], ◌∷◌, Option, Some, None, option_and_then, refl}
 use Rattle.bd_base.specs.declared.act.Act.{Act}
 use Rattle.bd_base.specs.declared.act.Act.TheVariants as acts
@@ -14,6 +14,8 @@ use Rattle.bd_machine.specs.Start.{start}
 use Rattle.bd_machine.specs.Step.{first_failing, is_shutdown, change_in, after}
 use Rattle.bd_machine.specs.View.{View, Move, message_for, asked}
 use Rattle.bd_machine.proofs.RemovalTraces.{stack_removed_setup, stack_removed}
+use Rattle.bd_machine.proofs.DrainTimeTraces.{drain_timed_setup, drain_timed}
+use Rattle.bd_machine.proofs.ResizeTraces.{device_grown_setup, device_grown}
 use Rattle.bd_machine.proofs.ResetTraces.{resets_in_turn_setup, resets_in_turn}
 use Rattle.bd_turns.specs.Laws.{view_at_start}
 use Rattle.bd_turns.specs.declared.queue.Post.{Post}
@@ -68,3 +70,11 @@ resets_0 = refl
 resets_1 : broken_of resets_in_turn_setup resets_in_turn 1 ≡ None
 unfolding after view_after
 resets_1 = refl
+
+resize_0 : broken_of device_grown_setup device_grown 0 ≡ None
+unfolding after view_after
+resize_0 = refl
+
+drain_time_0 : broken_of drain_timed_setup drain_timed 0 ≡ None
+unfolding after view_after
+drain_time_0 = refl

@@ -40,13 +40,13 @@ abbrev pub AreAllTaken : ℕ → (ℕ → View) → Type 0
 AreAllTaken threads views = (t u : ℕ) → t < threads → u < threads → count_at (views t).part.put u ≡ count_at (views u).part.taken t
 
 -- before the Shutdown: every message was taken, and none is still to be put; no thread has more to do than to remove a device that is being removed already in this registry; none has a handle that it closes by itself
--- no walk is on a thread, and a request only pended, on its own thread; thread 0's last entry took no injection
+-- no walk is on a thread, and a request only pended, on its own thread; thread 0's last entry took no injection, set no soft mark and let no device grow
 pub record AreQuiet (setup : Setup) (registry : Registry) (views : ℕ → View) : Type 0 where
   pub none_due : (t : ℕ) → t < setup.threads → (views t).part.due ≡ []
   pub owed_idle : (t : ℕ) → t < setup.threads → is_nothing_owed registry (views t).part ≡ true
   pub closed : (t : ℕ) → t < setup.threads → list_any (is_left_open_in setup (views t)) (views t).handles ≡ false
   pub resting : (t : ℕ) → t < setup.threads → (id : Id) → is_resting_here setup t (views t) id ((views t).here id) ≡ true
-  pub untaken : (views 0).part.injection ≡ None
+  pub untaken : (views 0).part.prior ≡ None
   pub all_taken : AreAllTaken setup.threads views
 
 -- at the end: no token is on a thread, no thread has a message still to put or anything else still to do, and every message was taken

@@ -45,7 +45,8 @@ use Rattle.bd_machine.specs.declared.state.Place.TheVariants.{At, Ring, Nowhere}
 use Rattle.bd_machine.specs.declared.state.Resetting.{Resetting}
 use Rattle.bd_machine.specs.declared.state.Stage.TheVariants as stages
 use Rattle.bd_machine.specs.declared.state.State.{State}
-use Rattle.bd_machine.specs.declared.state.TakenInjection.{TakenInjection}
+use Rattle.bd_machine.specs.declared.state.Prior.{Prior}
+use Rattle.bd_machine.specs.declared.state.Prior.TheVariants.{Injection, Softening, Growth}
 use Rattle.bd_machine.specs.declared.state.Tracked.{Tracked}
 use Rattle.bd_machine.specs.Aborts.{aborted, is_stoppable, may_abort}
 use Rattle.bd_machine.specs.Admission.{has_range}
@@ -53,8 +54,8 @@ use Rattle.bd_machine.specs.Asked.{asks_between}
 use Rattle.bd_machine.specs.BlockMap.{size_of}
 use Rattle.bd_machine.specs.Completion.{pieces_of, is_faulted}
 use Rattle.bd_machine.specs.Delays.{held, released}
-use Rattle.bd_machine.specs.Events.{alone, with_due, removal_paid, removing, reset_begun, reset_thaws, injection_taken, with_reset, advanced, first_req, change_reg}
-use Rattle.bd_machine.specs.Guards.{guards, change, taken_injection}
+use Rattle.bd_machine.specs.Events.{alone, with_due, removal_paid, removing, reset_begun, reset_thaws, injection_taken, with_reset, advanced, first_req, drain_time, change_reg}
+use Rattle.bd_machine.specs.Guards.{guards, change, prior_by, softens}
 use Rattle.bd_machine.specs.Homes.{base_here, change_applied, piece_edited, refused}
 use Rattle.bd_machine.specs.Injections.{injected, pended, asked_once_more, is_fail, is_taken, is_under_way, goes_on, has_every_decision, asks_injection, errors_below}
 use Rattle.bd_machine.specs.Kept.{pieces_here, request_here, piece_here, walk_here, edited, is_at_own}
@@ -69,7 +70,7 @@ use Rattle.bd_machine.specs.Step.{guards_in, change_in, refusal, moved, after}
 use Rattle.bd_machine.specs.Table.{look_up}
 use Rattle.bd_machine.specs.Threads.{is_nobody}
 use Rattle.bd_machine.specs.View.{View, Came, Move, Change, view, here_of, kept_on, part_of, message_of, kept_in, came_for, id_of}
-use Rattle.bd_machine.specs.Walks.{is_reset, begin_walk, after_walk, walked, walked_if_any, is_at_end, staged, drain_threads, marked_by, visited, reset_of}
+use Rattle.bd_machine.specs.Walks.{is_reset, begin_walk_with, after_walk, walked, walked_if_any, is_at_end, staged, drain_threads, marked_by, visited, reset_of}
 use Rattle.bd_machine.proofs.Acts.{Passes, passed, IsFresh}
 use Rattle.bd_machine.proofs.Laws.{tracked, found-moved}
 use Rattle.bd_machine.proofs.Steps.{allowed_passes, part_is, part_stays}
@@ -87,7 +88,7 @@ KeptBare (keeps.Request r) = IsBare r
 KeptBare _ = Unit {0}
 
 no_range : (op : Op) → is_reset op ≡ true → has_range op ≡ true → ⊥
-no_range ops.Reset h k = cc
+no_range (ops.Reset time) h k = cc
 no_range ops.Read h k = cc
 no_range (ops.Write fill) h k = cc
 no_range ops.Zeroes h k = cc
@@ -138,11 +139,11 @@ module _ (reset : ReqId) where
   news_bare t to number None = tt
   news_bare t to number (Some n) = (tt, tt)
 
-  begin_bare : (t : ℕ) (kind : WalkKind) (dev : DevId) (threads : ThreadSet) (req : Option ReqId) (c : Change) → BareMoves c.moves → BareMoves (begin_walk t kind dev threads req c).moves
-  begin_bare t kind dev threads req c h = bare_cond (is_nobody threads) _ _ h (both_bare c.moves _ h (tt, tt))
+  begin_bare : (t : ℕ) (kind : WalkKind) (dev : DevId) (threads : ThreadSet) (req : Option ReqId) (time : ℕ) (c : Change) → BareMoves c.moves → BareMoves (begin_walk_with t kind dev threads req time c).moves
+  begin_bare t kind dev threads req time c h = bare_cond (is_nobody threads) _ _ h (both_bare c.moves _ h (tt, tt))
 
   after_bare : (t : ℕ) (w : OpenWalk) (kind : WalkKind) (c : Change) → BareMoves c.moves → BareMoves (after_walk t w kind c).moves
-  after_bare t w Freeze c h = begin_bare t Drain w.dev (drain_threads c.part w.request) w.request (record { part = staged w.request stages.Draining c.part; moves = c.moves }) h
+  after_bare t w Freeze c h = begin_bare t Drain w.dev (drain_threads c.part w.request) w.request 0 (record { part = staged w.request stages.Draining c.part; moves = c.moves }) h
   after_bare t w Drain c h = h
   after_bare t w Thaw c h = h
   after_bare t w Removal c h = h
@@ -156,7 +157,7 @@ module _ (reset : ReqId) where
 
   went_bare : (t : ℕ) (req : ReqId) (threads : ThreadSet) (x : Option Resetting) (c : Change) → BareMoves c.moves → BareMoves (went t req threads x c).moves
   went_bare t req threads None c h = h
-  went_bare t req threads (Some r) c h = begin_bare t Freeze r.dev threads (Some req) (record { part = freezes req threads c.part; moves = c.moves }) h
+  went_bare t req threads (Some r) c h = begin_bare t Freeze r.dev threads (Some req) r.time (record { part = freezes req threads c.part; moves = c.moves }) h
 
   told_bare : (t : ℕ) (told : News) (c : Change) → BareMoves c.moves → BareMoves (told_walk t told c).moves
   told_bare t (news.Go req threads) c h = went_bare t req threads (reset_of c.part req) c h
@@ -164,6 +165,8 @@ module _ (reset : ReqId) where
   told_bare t (news.Gone handle) c h = h
   told_bare t (news.Channel dev) c h = h
   told_bare t (news.Device dev) c h = h
+  told_bare t (news.Grow dev blocks) c h = h
+  told_bare t (news.Sized handle blocks) c h = h
 
   abbrev Brings : Token → Option Kept → Type 0
   Brings (tokens.Request req) x = (kept : Kept) → x ≡ Some kept → req ≡ reset → KeptBare kept
@@ -188,15 +191,15 @@ module _ (reset : ReqId) where
   taken_bare setup t source number _ p _ h = tt
 
   removing_bare : (setup : Setup) (t : ℕ) (a : Answer) (p : Part) → BareMoves (removing setup t a p).moves
-  removing_bare setup t (answers.Removing dev threads handles destruct) p = begin_bare t Removal dev threads None (alone (with_due _ p)) tt
+  removing_bare setup t (answers.Removing dev threads handles destruct) p = begin_bare t Removal dev threads None 0 (alone (with_due _ p)) tt
   removing_bare setup t _ p = tt
 
   begun_bare : (t : ℕ) (dev : DevId) (req : ReqId) (a : Answer) (p : Part) → BareMoves (reset_begun t dev req a p).moves
-  begun_bare t dev req (answers.ResetStarted threads) p = begin_bare t Freeze dev threads (Some req) (alone (with_reset req dev stages.Freezing threads p)) tt
+  begun_bare t dev req (answers.ResetStarted threads) p = begin_bare t Freeze dev threads (Some req) (drain_time p req) (alone (with_reset req dev stages.Freezing threads p)) tt
   begun_bare t dev req _ p = tt
 
   thaws_bare : (t : ℕ) (dev : DevId) (a : Answer) (p : Part) → BareMoves (reset_thaws t dev a p).moves
-  thaws_bare t dev (answers.ResetEnded threads) p = begin_bare t Thaw dev threads (first_req p.resets dev stages.Drained) (alone (advanced dev stages.Drained stages.Thawing p)) tt
+  thaws_bare t dev (answers.ResetEnded threads) p = begin_bare t Thaw dev threads (first_req p.resets dev stages.Drained) 0 (alone (advanced dev stages.Drained stages.Thawing p)) tt
   thaws_bare t dev _ p = tt
 
   injection_bare : (v : View) (req : ReqId) (a : Answer) → ((r : OpenRequest) → request_here v req ≡ Some r → req ≡ reset → IsBare r) → BareMoves (injection_taken v req a).moves
@@ -234,9 +237,9 @@ module _ (reset : ReqId) where
   -- ---- one act
 
   -- no decision was taken for the reset
-  abbrev pub NotTaken : Option TakenInjection → Type 0
-  NotTaken None = Unit {0}
-  NotTaken (Some taken) = taken.req ≡ reset → ⊥
+  abbrev pub NotTaken : Option Prior → Type 0
+  NotTaken (Some (Injection taken)) = taken.req ≡ reset → ⊥
+  NotTaken _ = Unit {0}
 
   -- what is accepted under the reset's id is a reset
   abbrev pub AcceptsReset : Act → Type 0
@@ -249,9 +252,9 @@ module _ (reset : ReqId) where
         (and_parts (is_at_own t req r) (has_range r.op)
         (and_parts (is_at_own t req r && has_range r.op) (is_none r.pieces)
         (and_parts (is_at_own t req r && has_range r.op && is_none r.pieces) (is_none r.aborted)
-        (and_parts (is_at_own t req r && has_range r.op && is_none r.pieces && is_none r.aborted) (not (is_marked setup v.part r.dev))
-        (and_parts (is_at_own t req r && has_range r.op && is_none r.pieces && is_none r.aborted && not (is_marked setup v.part r.dev)) (is_none (next_limited setup r))
-        (and_parts (is_at_own t req r && has_range r.op && is_none r.pieces && is_none r.aborted && not (is_marked setup v.part r.dev) && is_none (next_limited setup r)) (goes_on r.injected.last) h).0).0).0).0).0).1
+        (and_parts (is_at_own t req r && has_range r.op && is_none r.pieces && is_none r.aborted) (not (is_marked setup v.part r))
+        (and_parts (is_at_own t req r && has_range r.op && is_none r.pieces && is_none r.aborted && not (is_marked setup v.part r)) (is_none (next_limited setup r))
+        (and_parts (is_at_own t req r && has_range r.op && is_none r.pieces && is_none r.aborted && not (is_marked setup v.part r) && is_none (next_limited setup r)) (goes_on r.injected.last) h).0).0).0).0).0).1
 
     cut_ranged : (req : ReqId) (x : Option OpenRequest) → may_cut setup t v req x ≡ true → (r : OpenRequest) → x ≡ Some r → has_range r.op ≡ true
     cut_ranged req None h r e = cc
@@ -281,7 +284,7 @@ module _ (reset : ReqId) where
     record Bares (act : Act) : Type 0 where
       here : (kept : Kept) → v.here (Request reset) ≡ Some kept → KeptBare kept
       brought : (source number : ℕ) (kept : Kept) → act ≡ acts.Took source number (tokens.Request reset) → came.message ≡ Some kept → KeptBare kept
-      taken : NotTaken v.part.injection
+      taken : NotTaken v.part.prior
       accepts : AcceptsReset act
       passes : Passes (guards setup t v act came)
 
@@ -294,9 +297,11 @@ module _ (reset : ReqId) where
         here : (req : ReqId) (r : OpenRequest) → request_here v req ≡ Some r → req ≡ reset → IsBare r
         here req r e o = kept_here req (keeps.Request r) (request_is (v.here (Request req)) r e) o
 
-        not_taken : (req : ReqId) (dev : DevId) (decision : Decision) (x : Option TakenInjection) → NotTaken x → is_taken req dev decision x ≡ true → req ≡ reset → ⊥
+        not_taken : (req : ReqId) (dev : DevId) (decision : Decision) (x : Option Prior) → NotTaken x → is_taken req dev decision x ≡ true → req ≡ reset → ⊥
         not_taken req dev decision None n h o = cc
-        not_taken req dev decision (Some x) n h o =
+        not_taken req dev decision (Some (Softening walk d)) n h o = cc
+        not_taken req dev decision (Some (Growth d)) n h o = cc
+        not_taken req dev decision (Some (Injection x)) n h o =
             let p = and_parts (same_request x.req req) (same_dev x.dev dev) (and_parts (same_request x.req req && same_dev x.dev dev) (same_decision x.decision decision) h).0 in
             n (request_same.exact x.req req p.0 ∙ o)
 
@@ -317,7 +322,7 @@ module _ (reset : ReqId) where
         go (acts.Took source number (tokens.Walk walk)) m a h = taken_bare setup t source number (tokens.Walk walk) (taken_before v.part source number) came.message tt
         go (acts.Took source number what) m a h = taken_bare setup t source number what (taken_before v.part source number) came.message tt
         go (acts.Reg event x) m a h = reg_bare setup t v came event x here
-        go (acts.Inject req dev decision) m a h = edited_bare req (injected decision) (request_here v req) (λ r e o. absurd (not_taken req dev decision v.part.injection b.taken (passed (guards setup t v (acts.Inject req dev decision) came) h).0 o))
+        go (acts.Inject req dev decision) m a h = edited_bare req (injected decision) (request_here v req) (λ r e o. absurd (not_taken req dev decision v.part.prior b.taken (passed (guards setup t v (acts.Inject req dev decision) came) h).0 o))
         go (acts.Pend req) m a h = edited_bare req pended (request_here v req) (here req)
         go (acts.Let req dev now) m a h = edited_bare req let_pass (request_here v req) (here req)
         go (acts.Hold req until) m a h = edited_bare req (held setup v.part until) (request_here v req) (here req)
@@ -328,11 +333,11 @@ module _ (reset : ReqId) where
         go (acts.Apply req k dev end) m a h = applied_bare v req k dev end (size_of setup dev) (piece_here v req k) (base_here v dev)
         go (acts.NoMem req k dev) m a h = refused_bare req k (piece_here v req k)
         go (acts.Complete req status shown) m a h = closed_bare v req (request_here v req) (here req)
-        go (acts.Visit walk dev kind) m a h = walked_if_bare t walk (marked_by setup t v dev kind) (walk_here v walk)
+        go (acts.Visit walk dev kind) m a h = walked_if_bare t walk (marked_by setup t v walk dev kind) (walk_here v walk)
         go _ m a h = tt
 
     -- a decision isn't taken for a reset
-    taken_bare_on : (act : Act) → Bares act → NotTaken (change setup t v act came).part.injection
+    taken_bare_on : (act : Act) → Bares act → NotTaken (change setup t v act came).part.prior
     taken_bare_on act b = go act b.passes
       where
         no_and : (b : Bool) → (b && false) ≡ true → ⊥
@@ -347,9 +352,14 @@ module _ (reset : ReqId) where
         clash : (req : ReqId) → (r : OpenRequest) × ((request_here v req ≡ Some r) × (has_range r.op ≡ true)) → req ≡ reset → ⊥
         clash req (r, (e, ranged)) o = no_range r.op (b.here (keeps.Request r) (subst (λ (q : ReqId). v.here (Request q) ≡ Some (keeps.Request r)) o (request_is (v.here (Request req)) r e))).0 ranged
 
-        go : (act : Act) → Passes (guards setup t v act came) → NotTaken (taken_injection act)
+        go : (act : Act) → Passes (guards setup t v act came) → NotTaken (prior_by v act)
         go (acts.Reg (events.TakeInjection dev req op) (answers.Injected decision)) h =
             λ o. clash req (asked_ranged dev req op (request_here v req) (asked dev req op came.between (passed (guards setup t v (acts.Reg (events.TakeInjection dev req op) (answers.Injected decision)) came) h).1.0)) o
+        go (acts.Visit walk dev kind) h = softened (softens v walk dev kind) walk dev
+          where
+            softened : (b : Bool) (walk : WalkId) (dev : DevId) → NotTaken (cond b (Some (Softening walk dev)) None)
+            softened true walk dev = tt
+            softened false walk dev = tt
         go _ h = tt
 
     -- a reset completes once it is finished
@@ -363,7 +373,7 @@ module _ (reset : ReqId) where
         not_failed r h = ap (λ a. a || list_any is_faulted (pieces_of v reset r)) h.3 ∙ no_pieces r h.2
 
         by_op : (r : OpenRequest) (op : Op) → is_reset op ≡ true → is_success_due v reset r op ≡ true → is_finished (reset_of v.part reset) ≡ true
-        by_op r ops.Reset h k = k
+        by_op r (ops.Reset time) h k = k
         by_op r ops.Read h k = cc
         by_op r (ops.Write fill) h k = cc
         by_op r ops.Zeroes h k = cc
@@ -398,7 +408,7 @@ module _ (reset : ReqId) where
   -- the reset is bare wherever it is, and nobody took a decision for it
   pub record IsBareIn (s : State) : Type 0 where
     pub token : TokenBare (look_up same_id s.tokens (Request reset))
-    pub taken : (u : ℕ) → NotTaken (part_of s u).injection
+    pub taken : (u : ℕ) → NotTaken (part_of s u).prior
 
   here_bare : (t : ℕ) (o : Option Tracked) (kept : Kept) → here_of t o ≡ Some kept → TokenBare o → KeptBare kept
   here_bare t None kept e h = cc
@@ -450,11 +460,11 @@ module _ (reset : ReqId) where
     taken = λ u. go u (cases_eq e.thread u);
   }
     where
-      go : (u : ℕ) → (e.thread ≡ u) ⊎ (e.thread ≡ u → ⊥) → NotTaken (part_of (after setup s e) u).injection
+      go : (u : ℕ) → (e.thread ≡ u) ⊎ (e.thread ≡ u → ⊥) → NotTaken (part_of (after setup s e) u).prior
       go u (inl same) =
-          subst (λ (w : ℕ). NotTaken (part_of (after setup s e) w).injection) same
-          (subst (λ (p : Part). NotTaken p.injection) (sym (part_is setup s e fresh allowed)) (taken_bare_on setup e.thread (view s e.thread) (came_for setup s e.thread e.act) e.act (bares_in setup s e allowed accepts h)))
-      go u (inr ne) = subst (λ (p : Part). NotTaken p.injection) (sym (part_stays setup s e fresh allowed u ne)) (h.taken u)
+          subst (λ (w : ℕ). NotTaken (part_of (after setup s e) w).prior) same
+          (subst (λ (p : Part). NotTaken p.prior) (sym (part_is setup s e fresh allowed)) (taken_bare_on setup e.thread (view s e.thread) (came_for setup s e.thread e.act) e.act (bares_in setup s e allowed accepts h)))
+      go u (inr ne) = subst (λ (p : Part). NotTaken p.prior) (sym (part_stays setup s e fresh allowed u ne)) (h.taken u)
 
   -- at its Complete the reset is finished
   pub finished_at : (setup : Setup) (s : State) (e : Entry) (status : Status) (shown : Option Shown) → refusal setup s e ≡ None → e.act ≡ acts.Complete reset status shown → IsBareIn s → is_finished (reset_of (part_of s e.thread) reset) ≡ true

@@ -12,7 +12,6 @@ use Rattle.bd_machine.specs.declared.state.Device.{Device}
 use Rattle.bd_machine.specs.declared.state.Handle.{Handle}
 use Rattle.bd_machine.specs.declared.state.Registry.{Registry}
 use Rattle.bd_machine.specs.Alone.{counts_by}
-use Rattle.bd_base.specs.declared.event.ClaimKind.TheVariants.{Exclusive}
 use Rattle.bd_machine.specs.declared.state.Between.{Between}
 use Rattle.bd_machine.specs.BlockMap.{below, home, stands_on, StandsOnEarlier}
 use Rattle.bd_machine.specs.Changes.{counts_got}
@@ -21,7 +20,7 @@ use Rattle.bd_machine.specs.Laws.{one_if}
 use Rattle.bd_machine.specs.Limits.{is_limited}
 use Rattle.bd_machine.specs.Registry.{references, is_live, is_live_standing, standing_if_any}
 use Rattle.bd_machine.specs.Same.{same_dev}
-use Rattle.bd_machine.specs.Start.{start, part_at_start, device_at_start, registry_at_start, bare_registry, with_channel, with_channels, handles_from}
+use Rattle.bd_machine.specs.Start.{start, part_at_start, device_at_start, registry_at_start, bare_registry, with_channel, with_channels, base_handle_at_start, handles_from}
 use Rattle.bd_machine.specs.Users.{all_devices, dev_of, firsts}
 use Rattle.bd_machine.specs.View.{blank_part, is_of, part_of}
 use Rattle.bd_machine.proofs.Laws.{counts-own, channels-other}
@@ -63,7 +62,7 @@ first_order setup n m (d ∷ ds) e = (le_refl n, subst (λ (k : ℕ). InOrder k 
 
 -- a base handle at first
 abbrev base_handle_of : Setup → ℕ → DevId → Handle
-base_handle_of setup n x = record { id = record { 0 = n }; dev = unwrap_or (stands_on setup x) x; thread = record { 0 = home setup x }; write = true; claim = Some Exclusive }
+base_handle_of setup n x = base_handle_at_start setup n x (unwrap_or (stands_on setup x) x)
 
 -- they are base handles, which no reference is for
 no_users : (setup : Setup) (t n : ℕ) (ds : List DevId) (d : DevId) → n + length ds ≡ length (firsts setup) → users_on setup (filter (is_of t) (handles_from setup n ds)) d ≡ 0

@@ -34,7 +34,7 @@ use Rattle.bd_machine.specs.Aborts.{aborted}
 use Rattle.bd_machine.specs.BlockMap.{size_of}
 use Rattle.bd_machine.specs.Completion.{pieces_of}
 use Rattle.bd_machine.specs.Delays.{held, released}
-use Rattle.bd_machine.specs.Events.{alone, removal_paid, removing, reset_begun, reset_thaws, injection_taken, with_reset, advanced, first_req, change_reg}
+use Rattle.bd_machine.specs.Events.{alone, removal_paid, removing, reset_begun, reset_thaws, injection_taken, with_reset, advanced, first_req, drain_time, change_reg}
 use Rattle.bd_machine.specs.Guards.{change}
 use Rattle.bd_machine.specs.Homes.{base_here, change_applied, piece_edited, refused}
 use Rattle.bd_machine.specs.Injections.{injected, pended, asked_once_more}
@@ -44,7 +44,7 @@ use Rattle.bd_machine.specs.Registry.{device_named}
 use Rattle.bd_machine.specs.Requests.{extents_of, pieces_made, cut_into, closed_with, pieces_closed}
 use Rattle.bd_machine.specs.Threads.{is_nobody}
 use Rattle.bd_machine.specs.View.{View, Came, Move, Change, id_of}
-use Rattle.bd_machine.specs.Walks.{begin_walk, after_walk, walked, walked_if_any, is_at_end, staged, drain_threads, marked_by, visited, reset_of}
+use Rattle.bd_machine.specs.Walks.{begin_walk_with, after_walk, walked, walked_if_any, is_at_end, staged, drain_threads, marked_by, visited, reset_of}
 use Rattle.std.proofs.Common.{◌≡◌, ℕ, ◌+◌, Bool, true, false, cond, ◌&&◌, ◌==◌, List, [], ◌∷◌, ◌++◌, Option, Some, None, refl, sym, ◌∙◌, ap, subst}
 use Rattle.std.proofs.lemmas.Bool.{and_parts, and_from}
 use Rattle.bd_machine.specs.declared.state.Place.{Place}
@@ -151,12 +151,12 @@ module _ (setup : Setup) (t : ℕ) (d : DevId) where
         let q = and_parts b (is_removal kind && c) p.1 in
         differ (and_parts (is_removal kind) c q.1).0 h
 
-    begin_old : (kind : WalkKind) (dev : DevId) (threads : ThreadSet) (req : Option ReqId) (c : Change) → is_removal kind ≡ false → AreOld c.moves → AreOld (begin_walk u kind dev threads req c).moves
-    begin_old kind dev threads req c k h =
+    begin_old : (kind : WalkKind) (dev : DevId) (threads : ThreadSet) (req : Option ReqId) (time : ℕ) (c : Change) → is_removal kind ≡ false → AreOld c.moves → AreOld (begin_walk_with u kind dev threads req time c).moves
+    begin_old kind dev threads req time c k h =
         old_cond (is_nobody threads) _ _ h (both_old c.moves _ h ((λ e. absurd (not_removal kind (is_putter setup t d) (same_dev dev d) (has threads t) k e)), tt))
 
     after_old : (w : OpenWalk) (kind : WalkKind) (c : Change) → AreOld c.moves → AreOld (after_walk u w kind c).moves
-    after_old w Freeze c h = begin_old Drain w.dev (drain_threads c.part w.request) w.request (record { part = staged w.request stages.Draining c.part; moves = c.moves }) refl h
+    after_old w Freeze c h = begin_old Drain w.dev (drain_threads c.part w.request) w.request 0 (record { part = staged w.request stages.Draining c.part; moves = c.moves }) refl h
     after_old w Drain c h = h
     after_old w Thaw c h = h
     after_old w Removal c h = h
@@ -170,7 +170,7 @@ module _ (setup : Setup) (t : ℕ) (d : DevId) where
 
     went_old : (req : ReqId) (threads : ThreadSet) (x : Option Resetting) (c : Change) → AreOld c.moves → AreOld (went u req threads x c).moves
     went_old req threads None c h = h
-    went_old req threads (Some r) c h = begin_old Freeze r.dev threads (Some req) (record { part = freezes req threads c.part; moves = c.moves }) refl h
+    went_old req threads (Some r) c h = begin_old Freeze r.dev threads (Some req) r.time (record { part = freezes req threads c.part; moves = c.moves }) refl h
 
     told_old : (told : News) (c : Change) → AreOld c.moves → AreOld (told_walk u told c).moves
     told_old (news.Go req threads) c h = went_old req threads (reset_of c.part req) c h
@@ -178,6 +178,8 @@ module _ (setup : Setup) (t : ℕ) (d : DevId) where
     told_old (news.Gone handle) c h = h
     told_old (news.Channel dev) c h = h
     told_old (news.Device dev) c h = h
+    told_old (news.Grow dev blocks) c h = h
+    told_old (news.Sized handle blocks) c h = h
 
     notice_old : (id : Id) (told : News) (p : Part) → AreOld (told_walk u told (record { part = told_part setup told p; moves = closed_notice id told })).moves
     notice_old id told p = told_old told (record { part = told_part setup told p; moves = closed_notice id told }) (tt, tt)
@@ -196,11 +198,11 @@ module _ (setup : Setup) (t : ℕ) (d : DevId) where
     taken_old source number _ p _ h = tt
 
     begun_old : (dev : DevId) (req : ReqId) (a : Answer) (p : Part) → AreOld (reset_begun u dev req a p).moves
-    begun_old dev req (answers.ResetStarted threads) p = begin_old Freeze dev threads (Some req) (alone (with_reset req dev stages.Freezing threads p)) refl tt
+    begun_old dev req (answers.ResetStarted threads) p = begin_old Freeze dev threads (Some req) (drain_time p req) (alone (with_reset req dev stages.Freezing threads p)) refl tt
     begun_old dev req _ p = tt
 
     thaws_old : (dev : DevId) (a : Answer) (p : Part) → AreOld (reset_thaws u dev a p).moves
-    thaws_old dev (answers.ResetEnded threads) p = begin_old Thaw dev threads (first_req p.resets dev stages.Drained) (alone (advanced dev stages.Drained stages.Thawing p)) refl tt
+    thaws_old dev (answers.ResetEnded threads) p = begin_old Thaw dev threads (first_req p.resets dev stages.Drained) 0 (alone (advanced dev stages.Drained stages.Thawing p)) refl tt
     thaws_old dev _ p = tt
 
     -- a removal that begins
@@ -289,7 +291,7 @@ module _ (setup : Setup) (t : ℕ) (d : DevId) where
         go (acts.NoMem req k dev) b x = refused_old req k (piece_here v req k)
         go (acts.Complete req status shown) b x = closed_old v req (request_here v req)
         go (acts.Visit walk dev kind) b x =
-            walked_if_old walk (marked_by setup u v dev kind) (walk_here v walk) (λ w e c. h.here (Walk walk) (keeps.Walk w) (walk_is (v.here (Walk walk)) w e) (visited_less u w c))
+            walked_if_old walk (marked_by setup u v walk dev kind) (walk_here v walk) (λ w e c. h.here (Walk walk) (keeps.Walk w) (walk_is (v.here (Walk walk)) w e) (visited_less u w c))
         go _ b x = tt
 
     -- a token that carries after the moves is an old one

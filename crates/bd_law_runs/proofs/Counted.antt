@@ -225,11 +225,11 @@ module _ (setup : Setup) (ordered : StandsOnEarlier setup) (s : State) (t : ℕ)
   stays l c = weaker setup need (λ d. users_on setup hs d + less d) refs (pending None t) (pending None t) (λ d. sum_less (less d) (more d) (users_on setup hs d) (l d)) (λ d. le_refl 0) c
 
   -- a handle is opened
-  opened : (id : HandleId) (dev : DevId) (write : Bool) → ((d : DevId) → less d ≤ more d) → Before None → After (hs ++ record { id = id; dev = dev; thread = record { 0 = t }; write = write; claim = None } ∷ []) refs (Some (Opening t dev))
-  opened id dev write l c d = go (is_user setup d new) (same_dev dev d) (λ e. (and_parts (same_dev dev d) (not (is_base_handle setup id)) e).0) (count_in (is_user setup d) (hs ++ new ∷ [])) (in_push (is_user setup d) hs new) (t == t) (eq-eqb t t refl)
+  opened : (id : HandleId) (dev : DevId) (write : Bool) (blocks : ℕ) → ((d : DevId) → less d ≤ more d) → Before None → After (hs ++ record { id = id; dev = dev; thread = record { 0 = t }; write = write; claim = None; blocks = blocks } ∷ []) refs (Some (Opening t dev))
+  opened id dev write blocks l c d = go (is_user setup d new) (same_dev dev d) (λ e. (and_parts (same_dev dev d) (not (is_base_handle setup id)) e).0) (count_in (is_user setup d) (hs ++ new ∷ [])) (in_push (is_user setup d) hs new) (t == t) (eq-eqb t t refl)
     where
       new : Handle
-      new = record { id = id; dev = dev; thread = record { 0 = t }; write = write; claim = None }
+      new = record { id = id; dev = dev; thread = record { 0 = t }; write = write; claim = None; blocks = blocks }
 
       one : (a b x i n v y j : ℕ) → y ≡ x + i → i ≤ j → a ≤ b → x + b + n ≤ v + 0 → y + a + n ≤ v + j
       one a b x i n v y j e h k c = omega arith
@@ -463,7 +463,7 @@ module _ (setup : Setup) (ordered : StandsOnEarlier setup) (s : State) (t : ℕ)
       plain o event n q l c = stays l (none o event n q c)
 
       go : (o : Option Between) → s.registry.between ≡ o → (event : RegEvent) (a : Answer) → Answers event a → Asks event o → Spends event more less → Before o → Then event a
-      go o e (events.Open name write) (answers.Opened id dev) h q sp c = opened id dev write sp (none o (events.Open name write) refl q c)
+      go o e (events.Open name write) (answers.Opened id dev blocks) h q sp c = opened id dev write blocks sp (none o (events.Open name write) refl q c)
       go o e (events.Open name write) _ h q sp c = plain o (events.Open name write) refl q sp c
       go None e (events.GetChannel dev) a h q sp c = cc
       go (Some (Opening u d)) e (events.GetChannel dev) a h q sp c =
@@ -490,3 +490,5 @@ module _ (setup : Setup) (ordered : StandsOnEarlier setup) (s : State) (t : ℕ)
       go o e (events.FinishReset dev) a h q sp c = plain o (events.FinishReset dev) refl q sp c
       go o e (events.TakeInjection dev req op) a h q sp c = plain o (events.TakeInjection dev req op) refl q sp c
       go o e (events.Destructed dev) a h q sp c = plain o (events.Destructed dev) refl q sp c
+      go o e (events.BeginResize name blocks) a h q sp c = plain o (events.BeginResize name blocks) refl q sp c
+      go o e (events.EndResize dev) a h q sp c = plain o (events.EndResize dev) refl q sp c

@@ -43,16 +43,18 @@ use Rattle.bd_machine.specs.Asked.{is_reset_at}
 use Rattle.bd_machine.specs.BlockMap.{size_of}
 use Rattle.bd_machine.specs.Changes.{is_dropped}
 use Rattle.bd_machine.specs.Completion.{pieces_of}
-use Rattle.bd_machine.specs.Events.{paid, with_due, device_due, channel_due, gone_due, go_due, alone, closed_by, got_by, put_paid, put_down_by, dropped_by, destruct_of, removal_paid, with_reset, advanced, freed_by, removing, reset_begun, reset_thaws, reset_finishes, injection_taken, change_reg, first_req}
+use Rattle.bd_machine.specs.Events.{paid, with_due, device_due, channel_due, gone_due, go_due, alone, closed_by, got_by, put_paid, put_down_by, dropped_by, destruct_of, removal_paid, with_reset, advanced, freed_by, removing, reset_begun, reset_thaws, reset_finishes, injection_taken, drain_time, decided_by, due_to, resizing, resized, sized_due, change_reg, first_req}
 use Rattle.bd_machine.specs.Aborts.{aborted}
 use Rattle.bd_machine.specs.Delays.{held, released}
-use Rattle.bd_machine.specs.Guards.{guards, change, change_by, taken_injection, noted}
-use Rattle.bd_machine.specs.declared.state.TakenInjection.{TakenInjection}
+use Rattle.bd_machine.specs.Guards.{guards, change, change_by, prior_by, noted}
+use Rattle.bd_machine.specs.declared.state.Prior.{Prior}
 use Rattle.bd_machine.specs.Homes.{base_here, change_applied, piece_edited, refused}
 use Rattle.bd_machine.specs.Injections.{injected, pended, asked_once_more}
 use Rattle.bd_machine.specs.Limits.{passed as let_pass}
 use Rattle.bd_machine.specs.Kept.{request_here, piece_here, walk_here, edited, as_walk}
-use Rattle.bd_machine.specs.Marks.{remarked, frozen_as}
+use Rattle.bd_machine.specs.declared.state.FreezeMark.TheVariants.{Not}
+use Rattle.bd_machine.specs.Grace.{softened}
+use Rattle.bd_machine.specs.Marks.{remarked, with_frozen, with_until}
 use Rattle.bd_machine.specs.Messages.{change_put, may_go, sent, token_put, news_put, news_of, is_due, is_due_to, due_after, request_took, told_part, freezing, freezes, went, told_walk, taken_by, arrived_walk, closed_notice}
 use Rattle.bd_machine.specs.Registry.{device_named}
 use Rattle.bd_machine.specs.Requests.{extents_of, pieces_made, cut_into, closed_with, pieces_closed}
@@ -61,12 +63,12 @@ use Rattle.bd_machine.specs.Scripts.{posted, mark_to}
 use Rattle.bd_machine.specs.Table.{without_first}
 use Rattle.bd_machine.specs.Threads.{first_of, has, is_nobody, without}
 use Rattle.bd_machine.specs.View.{View, Came, Move, Here, Closed, Change, id_of}
-use Rattle.bd_machine.specs.Walks.{is_reset_of, at_stage, staged, numbered, over_nobody, begin_walk, after_walk, walked, threads_if_any, drain_threads, is_drained, is_next_visit, marked_by, visited, walked_if_any, reset_of}
+use Rattle.bd_machine.specs.Walks.{is_reset_of, at_stage, staged, numbered, over_nobody, begin_walk_with, after_walk, walked, threads_if_any, drain_threads, is_drained, is_next_visit, marked_by, visited, walked_if_any, reset_of}
 use Rattle.bd_machine.proofs.Acts.{Passes, passed}
 use Rattle.bd_machine.proofs.Laws.{filter_twice}
 use Rattle.bd_machine.proofs.Tables.{request_same, dev_exact}
 use Rattle.bd_law_runs.proofs.Fields.{taken_before}
-use Rattle.bd_law_runs.proofs.Rows.{mine, mine_is, first_row, found_first, is_queued, Begun, BegunIn, mine_staged, mine_freezes, mine_advanced, mine_appended, moved_on, Leaves, closed_leaves, got_leaves, put_leaves, dropped_leaves, removal_leaves, freed_leaves, marked_leaves, told_leaves, came_leaves, stopped_leaves, applied_leaves, begin_begun, begun_leaves}
+use Rattle.bd_law_runs.proofs.Rows.{mine, mine_is, first_row, found_first, is_queued, Begun, BegunIn, mine_staged, mine_freezes, mine_advanced, mine_appended, moved_on, Leaves, closed_leaves, got_leaves, put_leaves, dropped_leaves, removal_leaves, freed_leaves, marked_leaves, told_leaves, came_leaves, stopped_leaves, remarked_leaves, ended_leaves, applied_leaves, begin_begun, begun_leaves}
 use Rattle.bd_law_runs.proofs.Threads.{nobody_has, without_has}
 
 -- ---- what is said of a reset, whose device D names
@@ -192,14 +194,14 @@ module _ (reset : ReqId) (D : DevId → Type 0) (busy : ℕ → Bool) where
         some Thaw = d
         some Removal = d
 
-    begin_fine : (kind : WalkKind) (d : DevId) (threads : ThreadSet) (r : Option ReqId) (c : Change) → Fine c
+    begin_fine : (kind : WalkKind) (d : DevId) (threads : ThreadSet) (r : Option ReqId) (time : ℕ) (c : Change) → Fine c
         → (IsOurs r → is_nobody threads ≡ false → N × D d × ByKind kind threads)
         → (IsOurs r → is_nobody threads ≡ true → (x : Resetting) → mine reset c.part.resets ≡ x ∷ [] → Quiet)
-        → Fine (begin_walk t kind d threads r c)
-    begin_fine kind d threads r c fine some quiet = go (is_nobody threads) refl
+        → Fine (begin_walk_with t kind d threads r time c)
+    begin_fine kind d threads r time c fine some quiet = go (is_nobody threads) refl
       where
         go : (b : Bool) → is_nobody threads ≡ b → Fine (cond b (record { part = over_nobody kind r c.part; moves = c.moves })
-            (record { part = numbered 1 c.part; moves = c.moves ++ record { id = Walk (record { thread = t; seq = c.part.next_walk }); kept = keeps.Walk (record { dev = d; kind = kind; left = threads; request = r; taken = false }); going = Here } ∷ [] }))
+            (record { part = numbered 1 c.part; moves = c.moves ++ record { id = Walk (record { thread = t; seq = c.part.next_walk }); kept = keeps.Walk (record { dev = d; kind = kind; left = threads; request = r; taken = false; time = time }); going = Here } ∷ [] }))
         go true e = record { rows = nobody_fine kind r c.part fine.rows (λ o. quiet o e); due = nobody_due kind r c.part fine.due; moves = fine.moves }
         go false e = record { rows = fine.rows; due = fine.due; moves = both_moves N c.moves _ fine.moves ((λ o. some o e), tt) }
 
@@ -217,7 +219,7 @@ module _ (reset : ReqId) (D : DevId → Type 0) (busy : ℕ → Bool) where
         covers_of x.stage x.threads (subst Begun e (at r.0 b)) r.2
 
     froze_fine : (w : OpenWalk) (c : Change) → Fine c → (t ≡ reset.thread → B → BegunIn reset c.part) → Walking w Freeze → Fine (after_walk t w Freeze c)
-    froze_fine w c fine at k = begin_fine Drain w.dev (drain_threads c.part w.request) w.request (record { part = staged w.request stages.Draining c.part; moves = c.moves })
+    froze_fine w c fine at k = begin_fine Drain w.dev (drain_threads c.part w.request) w.request 0 (record { part = staged w.request stages.Draining c.part; moves = c.moves })
         (record {
           rows = staged_fine w.request stages.Draining c.part fine.rows (λ o x e. row_covers c.part x fine.rows at (k o).0.0 e);
           due = staged_due w.request stages.Draining c.part fine.due;
@@ -301,7 +303,7 @@ module _ (reset : ReqId) (D : DevId → Type 0) (busy : ℕ → Bool) where
     went_fine : (r : ReqId) (threads : ThreadSet) (o : Option Resetting) (c : Change) → reset_of c.part r ≡ o → Fine c → (r ≡ reset → Covers threads) → Owns (went t r threads o c) → Fine (went t r threads o c)
     went_fine r threads None c f fine told own = fine
     went_fine r threads (Some row) c f fine told own =
-        begin_fine Freeze row.dev threads (Some r) (record { part = freezes r threads c.part; moves = c.moves })
+        begin_fine Freeze row.dev threads (Some r) row.time (record { part = freezes r threads c.part; moves = c.moves })
         (record { rows = freezes_fine r threads c.part fine.rows told; due = fine.due; moves = fine.moves })
         (λ o e. by_row (mine reset c.part.resets) refl o (first o))
         (λ o e x f. nobody_quiet threads e (told o))
@@ -315,7 +317,7 @@ module _ (reset : ReqId) (D : DevId → Type 0) (busy : ℕ → Bool) where
             let fine_row : RowsFine t (x ∷ []) = subst (RowsFine t) e fine.rows in
             let same : x ≡ row = cc in
             let begun : BegunIn reset (freezes r threads c.part) = subst (λ (q : ReqId). BegunIn reset (freezes q threads c.part)) (sym o) (freezes_begin threads c.part x e) in
-            (own fine_row.0 (begin_begun reset t Freeze row.dev threads (Some r) (record { part = freezes r threads c.part; moves = c.moves }) begun), subst (λ (y : Resetting). D y.dev) same fine_row.1, tt)
+            (own fine_row.0 (begin_begun reset t Freeze row.dev threads (Some r) row.time (record { part = freezes r threads c.part; moves = c.moves }) begun), subst (λ (y : Resetting). D y.dev) same fine_row.1, tt)
         by_row (x ∷ y ∷ xs) e o g = absurd (subst (RowsFine t) e fine.rows)
 
     told_fine : (told : News) (c : Change) → Fine c → NewsFine told → Owns (told_walk t told c) → Fine (told_walk t told c)
@@ -324,6 +326,8 @@ module _ (reset : ReqId) (D : DevId → Type 0) (busy : ℕ → Bool) where
     told_fine (news.Gone handle) c fine n own = fine
     told_fine (news.Channel d) c fine n own = fine
     told_fine (news.Device d) c fine n own = fine
+    told_fine (news.Grow d blocks) c fine n own = fine
+    told_fine (news.Sized handle blocks) c fine n own = fine
 
     notice_fine : (setup : Setup) (told : News) (p : Part) (id : Id) → RowsFine t (mine reset p.resets) → DueFine p.due → NewsFine told → Owns (told_walk t told (record { part = told_part setup told p; moves = closed_notice id told })) → Fine (told_walk t told (record { part = told_part setup told p; moves = closed_notice id told }))
     notice_fine setup told p id rows due n own =
@@ -366,10 +370,14 @@ module _ (reset : ReqId) (D : DevId → Type 0) (busy : ℕ → Bool) where
     same_go (news.Gone m) (news.Go r u) h k = cc
     same_go (news.Channel m) (news.Go r u) h k = cc
     same_go (news.Device m) (news.Go r u) h k = cc
+    same_go (news.Grow m n) (news.Go r u) h k = cc
+    same_go (news.Sized m n) (news.Go r u) h k = cc
     same_go a (news.Mark m) h k = tt
     same_go a (news.Gone m) h k = tt
     same_go a (news.Channel m) h k = tt
     same_go a (news.Device m) h k = tt
+    same_go a (news.Grow m n) h k = tt
+    same_go a (news.Sized m n) h k = tt
 
     due_fine : (to : ℕ) (told : News) (due : List Due) → list_any (is_due_to to told) due ≡ true → DueFine due → NewsFine told
     due_fine to told [] h d = cc
@@ -431,40 +439,40 @@ module _ (reset : ReqId) (D : DevId → Type 0) (busy : ℕ → Bool) where
         go (answers.Dropped what zero destruct) =
             let l = dropped_leaves d (is_dropped what) p in
             record {
-              rows = rows_leave p (cond (is_dropped what) (remarked d (frozen_as false) p) p) l rows;
-              due = both_due _ (device_due setup destruct) (both_due _ (channel_due t zero) (due_leaves p (cond (is_dropped what) (remarked d (frozen_as false) p) p) l due) (channel_fine zero)) (device_fine setup destruct);
+              rows = rows_leave p (cond (is_dropped what) (remarked d (with_frozen Not) p) p) l rows;
+              due = both_due _ (device_due setup destruct) (both_due _ (channel_due t zero) (due_leaves p (cond (is_dropped what) (remarked d (with_frozen Not) p) p) l due) (channel_fine zero)) (device_fine setup destruct);
               moves = tt;
             }
         go a = record { rows = rows; due = both_due p.due (device_due setup (destruct_of a)) due (device_fine setup (destruct_of a)); moves = tt }
 
     removing_fine : (setup : Setup) (a : Answer) (p : Part) → RowsFine t (mine reset p.resets) → DueFine p.due → Fine (removing setup t a p)
     removing_fine setup (answers.Removing d threads handles destruct) p rows due =
-        begin_fine Removal d threads None (alone (with_due (map gone_due handles ++ device_due setup destruct) p))
+        begin_fine Removal d threads None 0 (alone (with_due (map gone_due handles ++ device_due setup destruct) p))
         (record { rows = rows; due = both_due p.due (map gone_due handles ++ device_due setup destruct) due (both_due (map gone_due handles) (device_due setup destruct) (gone_fine handles) (device_fine setup destruct)); moves = tt })
         (λ o e. absurd o) (λ o e x f. absurd o)
     removing_fine setup _ p rows due = record { rows = rows; due = due; moves = tt }
 
     appended_fine : (r : ReqId) (d : DevId) (stage : Stage) (threads : ThreadSet) (p : Part) → RowsFine t (mine reset p.resets) → (r ≡ reset → (t ≡ reset.thread) × D d × (mine reset p.resets ≡ [])) → (r ≡ reset → AtStage stage threads) → RowsFine t (mine reset (with_reset r d stage threads p).resets)
-    appended_fine r d stage threads p rows new at = subst (RowsFine t) (sym (mine_appended reset r d stage threads p)) (go (is_reset_of reset (record { req = r; dev = d; stage = stage; threads = threads })) refl)
+    appended_fine r d stage threads p rows new at = subst (RowsFine t) (sym (mine_appended reset r d stage threads p)) (go (is_reset_of reset (record { req = r; dev = d; stage = stage; threads = threads; time = drain_time p r })) refl)
       where
-        go : (b : Bool) → is_reset_of reset (record { req = r; dev = d; stage = stage; threads = threads }) ≡ b → RowsFine t (mine reset p.resets ++ cond b (record { req = r; dev = d; stage = stage; threads = threads } ∷ []) [])
+        go : (b : Bool) → is_reset_of reset (record { req = r; dev = d; stage = stage; threads = threads; time = drain_time p r }) ≡ b → RowsFine t (mine reset p.resets ++ cond b (record { req = r; dev = d; stage = stage; threads = threads; time = drain_time p r } ∷ []) [])
         go true e =
             let o : r ≡ reset = request_same.exact r reset e in
-            let row : Resetting = record { req = r; dev = d; stage = stage; threads = threads } in
+            let row : Resetting = record { req = r; dev = d; stage = stage; threads = threads; time = drain_time p r } in
             subst (λ (xs : List Resetting). RowsFine t (xs ++ row ∷ [])) (sym (new o).2) ((new o).0, (new o).1, at o)
         go false e = subst (RowsFine t) (sym (append-nil (mine reset p.resets))) rows
 
     begun_fine : (d : DevId) (r : ReqId) (a : Answer) (p : Part) → RowsFine t (mine reset p.resets) → DueFine p.due → (r ≡ reset → (t ≡ reset.thread) × D d × (mine reset p.resets ≡ [])) → ((threads : ThreadSet) → a ≡ answers.ResetStarted threads → r ≡ reset → Covers threads)
         → Owns (reset_begun t d r a p) → Fine (reset_begun t d r a p)
     begun_fine d r (answers.ResetStarted threads) p rows due new named own =
-        begin_fine Freeze d threads (Some r) (alone (with_reset r d stages.Freezing threads p))
+        begin_fine Freeze d threads (Some r) (drain_time p r) (alone (with_reset r d stages.Freezing threads p))
         (record { rows = appended_fine r d stages.Freezing threads p rows new (named threads refl); due = due; moves = tt })
-        (λ o e. (own (new o).0 (begin_begun reset t Freeze d threads (Some r) (alone (with_reset r d stages.Freezing threads p)) (begun o)), (new o).1, tt))
+        (λ o e. (own (new o).0 (begin_begun reset t Freeze d threads (Some r) (drain_time p r) (alone (with_reset r d stages.Freezing threads p)) (begun o)), (new o).1, tt))
         (λ o e x f. nobody_quiet threads e (named threads refl o))
       where
         begun : r ≡ reset → BegunIn reset (with_reset r d stages.Freezing threads p)
         begun o =
-            let row : Resetting = record { req = r; dev = d; stage = stages.Freezing; threads = threads } in
+            let row : Resetting = record { req = r; dev = d; stage = stages.Freezing; threads = threads; time = drain_time p r } in
             let is : is_reset_of reset row ≡ true = subst (λ (q : ReqId). same_request q reset ≡ true) (sym o) (request_same.same_self reset) in
             subst Begun (sym (mine_appended reset r d stages.Freezing threads p ∙ ap (λ (xs : List Resetting). xs ++ cond (is_reset_of reset row) (row ∷ []) []) (new o).2 ∙ ap (λ b. cond b (row ∷ []) []) is)) refl
     begun_fine d r a p rows due new named own = other a
@@ -528,7 +536,7 @@ module _ (reset : ReqId) (D : DevId → Type 0) (busy : ℕ → Bool) where
 
     thaws_fine : (d : DevId) (a : Answer) (p : Part) → RowsFine t (mine reset p.resets) → DueFine p.due → Owns (reset_thaws t d a p) → Fine (reset_thaws t d a p)
     thaws_fine d (answers.ResetEnded threads) p rows due own =
-        begin_fine Thaw d threads (first_req p.resets d stages.Drained) (alone (advanced d stages.Drained stages.Thawing p))
+        begin_fine Thaw d threads (first_req p.resets d stages.Drained) 0 (alone (advanced d stages.Drained stages.Thawing p))
         (record { rows = advanced_fine d stages.Drained stages.Thawing p is_drained_stage rows; due = due; moves = tt })
         (λ o e. by_row (mine reset p.resets) refl (first_is d stages.Drained p.resets o))
         (λ o e x f. (by_row (mine reset p.resets) refl (first_is d stages.Drained p.resets o)).2)
@@ -557,7 +565,7 @@ module _ (reset : ReqId) (D : DevId → Type 0) (busy : ℕ → Bool) where
             let q = and_parts (same_dev x.dev d) (same_stage x.stage stages.Drained) (or_false (is_reset_at d stages.Drained x) h) in
             let later : BegunIn reset (advanced d stages.Drained stages.Thawing p) =
             subst Begun (sym (mine_advanced reset d stages.Drained stages.Thawing p ∙ ap (map (moved_on d stages.Drained stages.Thawing)) e)) (begun x (is_reset_at d stages.Drained x) (not_queued x.stage q.1)) in
-            (own r.0 (begin_begun reset t Thaw d threads (first_req p.resets d stages.Drained) (alone (advanced d stages.Drained stages.Thawing p)) later), subst D (dev_exact x.dev d q.0) r.1, is_drained_stage x.stage x.threads q.1 r.2)
+            (own r.0 (begin_begun reset t Thaw d threads (first_req p.resets d stages.Drained) 0 (alone (advanced d stages.Drained stages.Thawing p)) later), subst D (dev_exact x.dev d q.0) r.1, is_drained_stage x.stage x.threads q.1 r.2)
         by_row (x ∷ y ∷ xs) e h = absurd (subst (RowsFine t) e rows)
     thaws_fine d _ p rows due own = record { rows = rows; due = due; moves = tt }
 
@@ -568,6 +576,18 @@ module _ (reset : ReqId) (D : DevId → Type 0) (busy : ℕ → Bool) where
         go None told = tt
         go (Some (r, threads)) told = ((λ o. told threads (ap (λ (q : ReqId). answers.ResetFinished (Some (q, threads))) o)), tt)
     finishes_fine d _ p rows due told = record { rows = rows; due = due; moves = tt }
+
+    resizing_fine : (blocks : ℕ) (a : Answer) (p : Part) → RowsFine t (mine reset p.resets) → DueFine p.due → Fine (alone (resizing blocks a p))
+    resizing_fine blocks (answers.Resizing d home) p rows due = record { rows = rows; due = both_due p.due (due_to home.0 (news.Grow d blocks)) due (tt, tt); moves = tt }
+    resizing_fine blocks _ p rows due = record { rows = rows; due = due; moves = tt }
+
+    sized_fine : (blocks : ℕ) (hs : List (HandleId × ThreadId)) → DueFine (map (sized_due blocks) hs)
+    sized_fine blocks [] = tt
+    sized_fine blocks (h ∷ hs) = (tt, sized_fine blocks hs)
+
+    resized_fine : (a : Answer) (p : Part) → RowsFine t (mine reset p.resets) → DueFine p.due → Fine (alone (resized a p))
+    resized_fine (answers.Resized handles blocks destruct) p rows due = record { rows = rows; due = both_due p.due (map (sized_due blocks) handles) due (sized_fine blocks handles); moves = tt }
+    resized_fine _ p rows due = record { rows = rows; due = due; moves = tt }
 
     -- ---- acts
 
@@ -626,7 +646,7 @@ module _ (reset : ReqId) (D : DevId → Type 0) (busy : ℕ → Bool) where
     Asks (acts.Reg (events.FinishReset d) a) p = (threads : ThreadSet) → a ≡ answers.ResetFinished (Some (reset, threads)) → Covers threads
     Asks _ p = Unit {0}
 
-    noted_fine : (o : Option TakenInjection) (c : Change) → Fine c → Fine (noted o c)
+    noted_fine : (o : Option Prior) (c : Change) → Fine c → Fine (noted o c)
     noted_fine o c f = record { rows = f.rows; due = f.due; moves = f.moves }
 
     -- what is known before an act
@@ -669,8 +689,12 @@ module _ (reset : ReqId) (D : DevId → Type 0) (busy : ℕ → Bool) where
       reg_fine (events.FinishReset d) a k = finishes_fine d a v.part k.rows k.due k.asks
       reg_fine (events.TakeInjection d r op) a k = injection_fine v r a k.rows k.due
       reg_fine (events.Destructed d) a k = alone_leaves (paid (owes.Report d) v.part) (freed_by a (paid (owes.Report d) v.part)) (freed_leaves a (paid (owes.Report d) v.part)) k.rows k.due
+      reg_fine (events.BeginResize name blocks) a k = resizing_fine blocks a (decided_by came a v.part) k.rows k.due
+      reg_fine (events.EndResize d) a k =
+          let f = resized_fine a (paid (owes.EndResize d) v.part) k.rows k.due in
+          record { rows = f.rows; due = both_due _ (device_due setup (destruct_of a)) f.due (device_fine setup (destruct_of a)); moves = tt }
 
-      visit_fine : (walk : WalkId) (d : DevId) (kind : WalkKind) → Known setup v (acts.Visit walk d kind) came → Fine (walked_if_any t walk (marked_by setup t v d kind) (walk_here v walk))
+      visit_fine : (walk : WalkId) (d : DevId) (kind : WalkKind) → Known setup v (acts.Visit walk d kind) came → Fine (walked_if_any t walk (marked_by setup t v walk d kind) (walk_here v walk))
       visit_fine walk d kind k = go (walk_here v walk) refl (ok.0)
         where
           ok : AllByRecursion (λ (g : ℕ × Bool). g.1 ≡ true) (guards setup t v (acts.Visit walk d kind) came)
@@ -692,13 +716,13 @@ module _ (reset : ReqId) (D : DevId → Type 0) (busy : ℕ → Bool) where
           left_kind w Thaw e ours is c = c
           left_kind w Removal e ours is c = tt
 
-          go : (x : Option OpenWalk) → walk_here v walk ≡ x → is_next_visit t d kind x ≡ true → Fine (walked_if_any t walk (marked_by setup t v d kind) x)
+          go : (x : Option OpenWalk) → walk_here v walk ≡ x → is_next_visit t d kind x ≡ true → Fine (walked_if_any t walk (marked_by setup t v walk d kind) x)
           go None e h = cc
           go (Some w) e h =
               let p = and_parts (w.taken && is_the ◌==◌ t (first_of w.left) && same_dev w.dev d) (same_walk_kind w.kind kind) h in
               let q = and_parts (w.taken && is_the ◌==◌ t (first_of w.left)) (same_dev w.dev d) p.0 in
-              let l = marked_leaves setup t v d kind in
-              let part : Part = marked_by setup t v d kind in
+              let l = marked_leaves setup t v walk d kind in
+              let part : Part = marked_by setup t v walk d kind in
               let ours : KeptFine (B × N) (keeps.Walk w) = k.here (Walk walk) (keeps.Walk w) (walk_is (v.here (Walk walk)) w e) in
               walked_fine walk (visited t w) part (rows_leave v.part part l k.rows) (due_leaves v.part part l k.due)
               (λ same b. begun_leaves reset v.part part l (k.begun same b))
@@ -738,7 +762,10 @@ module _ (reset : ReqId) (D : DevId → Type 0) (busy : ℕ → Bool) where
       act_fine (acts.Tick d now slices) k = record { rows = k.rows; due = k.due; moves = tt }
       act_fine (acts.Destruct d digest) k = record { rows = k.rows; due = k.due; moves = tt }
       act_fine (acts.Script line outcome) k = record { rows = k.rows; due = both_due v.part.due _ k.due (posted_fine setup _); moves = tt }
+      act_fine (acts.Grow d blocks) k = record { rows = k.rows; due = k.due; moves = tt }
+      act_fine (acts.Grace walk until) k = alone_leaves v.part _ (remarked_leaves (softened walk v.part.prior) (with_until until) v.part) k.rows k.due
+      act_fine (acts.Due walk now) k = alone_leaves v.part _ (ended_leaves walk now v.part) k.rows k.due
       act_fine acts.Shutdown k = record { rows = k.rows; due = k.due; moves = tt }
 
       pub change_fine : (act : Act) → Known setup v act came → Fine (change setup t v act came)
-      change_fine act k = noted_fine (taken_injection act) (change_by setup t v act came) (act_fine act k)
+      change_fine act k = noted_fine (prior_by v act) (change_by setup t v act came) (act_fine act k)

@@ -291,8 +291,8 @@ module _ (setup : Setup) (t : ℕ) (d : DevId) (s : State) (e : Entry) (fresh : 
 
           moves : (g : Going) × ((change_in setup s e.thread (acts.Visit walk dev Removal)).moves ≡ record { id = Walk walk; kept = keeps.Walk (visited e.thread w); going = g } ∷ [])
           moves =
-              let m = removal_moves e.thread walk (visited e.thread w) (marked_by setup e.thread (view s e.thread) dev Removal) kind in
-              (m.0, ap (λ (x : Option OpenWalk). (walked_if_any e.thread walk (marked_by setup e.thread (view s e.thread) dev Removal) x).moves) f ∙ m.1)
+              let m = removal_moves e.thread walk (visited e.thread w) (marked_by setup e.thread (view s e.thread) walk dev Removal) kind in
+              (m.0, ap (λ (x : Option OpenWalk). (walked_if_any e.thread walk (marked_by setup e.thread (view s e.thread) walk dev Removal) x).moves) f ∙ m.1)
 
           tokens : (after setup s e).tokens ≡ moved e.thread (record { id = Walk walk; kept = keeps.Walk (visited e.thread w); going = moves.0 } ∷ []) s.tokens
           tokens = tokens_after_is setup s e ∙ ap (λ (x : Act). moved e.thread (change_in setup s e.thread x).moves s.tokens) is ∙ ap (λ (ms : List Move). moved e.thread ms s.tokens) moves.1

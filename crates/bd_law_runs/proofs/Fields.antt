@@ -41,12 +41,15 @@ use Rattle.bd_machine.specs.Admission.{is_gone}
 use Rattle.bd_machine.specs.Asked.{owes_removal}
 use Rattle.bd_machine.specs.BlockMap.{below, home, size_of}
 use Rattle.bd_machine.specs.Changes.{is_dropped}
-use Rattle.bd_machine.specs.Events.{decided_by, paid, owing, with_due, alone, closed_by, born, all_born, got_by, put_down_by, put_paid, dropped_by, removal_paid, with_reset, advanced, reset_finishes, freed_by, channel_due, removing, reset_begun, reset_thaws, injection_taken, change_reg, first_req}
+use Rattle.bd_machine.specs.Events.{decided_by, paid, owing, with_due, alone, closed_by, born, all_born, got_by, put_down_by, put_paid, dropped_by, removal_paid, with_reset, advanced, reset_finishes, freed_by, channel_due, removing, reset_begun, reset_thaws, injection_taken, drain_time, resizing, resized, change_reg, first_req}
 use Rattle.bd_machine.specs.Guards.{change}
 use Rattle.bd_machine.specs.Homes.{base_here, change_applied}
 use Rattle.bd_machine.specs.Kept.{request_here, piece_here, walk_here}
 use Rattle.bd_machine.specs.Limits.{arrived, departed, is_limited, next_limited, waits_at}
-use Rattle.bd_machine.specs.Marks.{remarked, frozen_as, freeze_set, removal_set}
+use Rattle.bd_machine.specs.declared.state.Marking.{Marking}
+use Rattle.bd_machine.specs.declared.state.FreezeMark.TheVariants.{Not}
+use Rattle.bd_machine.specs.Grace.{dev_if_any, ended, ending_mark, remarked_if_any, softened}
+use Rattle.bd_machine.specs.Marks.{remarked, with_frozen, with_until, hardened, freeze_set, removal_set}
 use Rattle.bd_machine.specs.Messages.{request_took, told_part, freezes, went, told_walk, taken_by, arrived_walk, closed_notice}
 use Rattle.bd_machine.specs.Registry.{made, device_named}
 use Rattle.bd_machine.specs.Same.{same_request}
@@ -54,7 +57,7 @@ use Rattle.bd_machine.specs.Table.{write}
 use Rattle.bd_machine.specs.Threads.{is_nobody}
 use Rattle.bd_machine.specs.Users.{is_base_handle}
 use Rattle.bd_machine.specs.View.{View, Came, Change, id_of}
-use Rattle.bd_machine.specs.Walks.{staged, numbered, over_nobody, begin_walk, after_walk, is_at_end, walked, drain_threads, put_owed, marked_by, visited, walked_if_any, reset_of}
+use Rattle.bd_machine.specs.Walks.{staged, numbered, over_nobody, begin_walk_with, begin_walk, time_of_walk, after_walk, is_at_end, walked, drain_threads, put_owed, marked_by, visited, walked_if_any, reset_of}
 
 -- the second part has the open requests and the limited devices of the first
 pub record Holds (p q : Part) : Type 0 where
@@ -98,8 +101,8 @@ put_holds t dev false _ p = unchanged _ _ refl refl
 
 dropped_holds : (t : ℕ) (dev : DevId) (a : Answer) (p : Part) → Holds p (dropped_by t dev a p)
 dropped_holds t dev (answers.Dropped what zero destruct) p =
-    let q : Part = cond (is_dropped what) (remarked dev (frozen_as false) p) p in
-    holds_then p q (with_due (channel_due t zero) q) (holds_cond (is_dropped what) p (remarked dev (frozen_as false) p) p (unchanged _ _ refl refl) (unchanged _ _ refl refl)) (unchanged _ _ refl refl)
+    let q : Part = cond (is_dropped what) (remarked dev (with_frozen Not) p) p in
+    holds_then p q (with_due (channel_due t zero) q) (holds_cond (is_dropped what) p (remarked dev (with_frozen Not) p) p (unchanged _ _ refl refl) (unchanged _ _ refl refl)) (unchanged _ _ refl refl)
 dropped_holds t dev _ p = unchanged _ _ refl refl
 
 removal_holds : (came : Came) (a : Answer) (o : Option ℕ) (p : Part) → Holds p (removal_paid came a o p)
@@ -120,11 +123,11 @@ staged_holds : (req : Option ReqId) (stage : Stage) (p : Part) → Holds p (stag
 staged_holds None stage p = unchanged _ _ refl refl
 staged_holds (Some req) stage p = unchanged _ _ refl refl
 
-marked_holds : (setup : Setup) (t : ℕ) (v : View) (dev : DevId) (kind : WalkKind) → Holds v.part (marked_by setup t v dev kind)
-marked_holds setup t v dev Freeze = holds_cond _ v.part (remarked dev freeze_set v.part) v.part (unchanged _ _ refl refl) (unchanged _ _ refl refl)
-marked_holds setup t v dev Drain = unchanged _ _ refl refl
-marked_holds setup t v dev Thaw = unchanged _ _ refl refl
-marked_holds setup t v dev Removal =
+marked_holds : (setup : Setup) (t : ℕ) (v : View) (walk : WalkId) (dev : DevId) (kind : WalkKind) → Holds v.part (marked_by setup t v walk dev kind)
+marked_holds setup t v walk dev Freeze = holds_cond _ v.part (remarked dev (freeze_set walk (time_of_walk (walk_here v walk))) v.part) v.part (unchanged _ _ refl refl) (unchanged _ _ refl refl)
+marked_holds setup t v walk dev Drain = unchanged _ _ refl refl
+marked_holds setup t v walk dev Thaw = unchanged _ _ refl refl
+marked_holds setup t v walk dev Removal =
     let p : Part = remarked dev removal_set v.part in
     holds_then v.part p (put_owed setup t dev p) (unchanged _ _ refl refl) (holds_cond (is_limited setup dev && (home setup dev == t)) p (owing (owes.Put dev) p) p (unchanged _ _ refl refl) (unchanged _ _ refl refl))
 
@@ -134,6 +137,17 @@ told_holds setup (news.Gone handle) p = unchanged _ _ refl refl
 told_holds setup (news.Channel dev) p = unchanged _ _ refl refl
 told_holds setup (news.Device dev) p = unchanged _ _ refl refl
 told_holds setup (news.Go req threads) p = unchanged _ _ refl refl
+told_holds setup (news.Grow dev blocks) p = unchanged _ _ refl refl
+told_holds setup (news.Sized handle blocks) p = unchanged _ _ refl refl
+
+remarked_holds : (o : Option DevId) (f : Marking → Marking) (p : Part) → Holds p (remarked_if_any o f p)
+remarked_holds None f p = unchanged _ _ refl refl
+remarked_holds (Some dev) f p = unchanged _ _ refl refl
+
+ended_holds : (walk : WalkId) (now : ℕ) (p : Part) → Holds p (ended walk now p)
+ended_holds walk now p =
+    let q : Part = remarked_if_any (dev_if_any (ending_mark p walk)) hardened p in
+    holds_then p q (ended walk now p) (remarked_holds (dev_if_any (ending_mark p walk)) hardened p) (unchanged _ _ refl refl)
 
 -- ---- walks
 
@@ -143,13 +157,13 @@ nobody_holds Drain req p = holds_then p (numbered 1 p) (staged req stages.Draine
 nobody_holds Thaw req p = holds_then p (numbered 1 p) (staged req stages.Thawed (numbered 1 p)) (unchanged _ _ refl refl) (staged_holds req stages.Thawed (numbered 1 p))
 nobody_holds Removal req p = unchanged _ _ refl refl
 
-begin_holds : (t : ℕ) (kind : WalkKind) (dev : DevId) (threads : ThreadSet) (req : Option ReqId) (c : Change) → Holds c.part (begin_walk t kind dev threads req c).part
-begin_holds t kind dev threads req c = change_cond (is_nobody threads) c.part _ _ (nobody_holds kind req c.part) (unchanged _ _ refl refl)
+begin_holds : (t : ℕ) (kind : WalkKind) (dev : DevId) (threads : ThreadSet) (req : Option ReqId) (time : ℕ) (c : Change) → Holds c.part (begin_walk_with t kind dev threads req time c).part
+begin_holds t kind dev threads req time c = change_cond (is_nobody threads) c.part _ _ (nobody_holds kind req c.part) (unchanged _ _ refl refl)
 
 after_holds : (t : ℕ) (w : OpenWalk) (kind : WalkKind) (c : Change) → Holds c.part (after_walk t w kind c).part
 after_holds t w Freeze c =
     let d : Change = record { part = staged w.request stages.Draining c.part; moves = c.moves } in
-    holds_then c.part d.part (begin_walk t Drain w.dev (drain_threads c.part w.request) w.request d).part (staged_holds w.request stages.Draining c.part) (begin_holds t Drain w.dev (drain_threads c.part w.request) w.request d)
+    holds_then c.part d.part (begin_walk t Drain w.dev (drain_threads c.part w.request) w.request d).part (staged_holds w.request stages.Draining c.part) (begin_holds t Drain w.dev (drain_threads c.part w.request) w.request 0 d)
 after_holds t w Drain c = staged_holds w.request stages.Drained c.part
 after_holds t w Thaw c = staged_holds w.request stages.Thawed c.part
 after_holds t w Removal c = unchanged _ _ refl refl
@@ -165,7 +179,7 @@ went_holds : (t : ℕ) (req : ReqId) (threads : ThreadSet) (x : Option Resetting
 went_holds t req threads None c = unchanged _ _ refl refl
 went_holds t req threads (Some r) c =
     let d : Change = record { part = freezes req threads c.part; moves = c.moves } in
-    holds_then c.part d.part (begin_walk t Freeze r.dev threads (Some req) d).part (unchanged _ _ refl refl) (begin_holds t Freeze r.dev threads (Some req) d)
+    holds_then c.part d.part (begin_walk_with t Freeze r.dev threads (Some req) r.time d).part (unchanged _ _ refl refl) (begin_holds t Freeze r.dev threads (Some req) r.time d)
 
 told_walk_holds : (t : ℕ) (told : News) (c : Change) → Holds c.part (told_walk t told c).part
 told_walk_holds t (news.Go req threads) c = went_holds t req threads (reset_of c.part req) c
@@ -173,6 +187,8 @@ told_walk_holds t (news.Mark mark) c = unchanged _ _ refl refl
 told_walk_holds t (news.Gone handle) c = unchanged _ _ refl refl
 told_walk_holds t (news.Channel dev) c = unchanged _ _ refl refl
 told_walk_holds t (news.Device dev) c = unchanged _ _ refl refl
+told_walk_holds t (news.Grow dev blocks) c = unchanged _ _ refl refl
+told_walk_holds t (news.Sized handle blocks) c = unchanged _ _ refl refl
 
 -- ---- messages taken
 
@@ -227,24 +243,33 @@ taken_holds setup t _ p _ id = record { requests = refl; limited = refl }
 removing_holds : (setup : Setup) (t : ℕ) (a : Answer) (p : Part) → Holds p (removing setup t a p).part
 removing_holds setup t (answers.Removing dev threads handles destruct) p =
     let c : Change = alone (with_due _ p) in
-    holds_then p c.part (begin_walk t Removal dev threads None c).part (unchanged _ _ refl refl) (begin_holds t Removal dev threads None c)
+    holds_then p c.part (begin_walk t Removal dev threads None c).part (unchanged _ _ refl refl) (begin_holds t Removal dev threads None 0 c)
 removing_holds setup t _ p = unchanged _ _ refl refl
 
 begun_holds : (t : ℕ) (dev : DevId) (req : ReqId) (a : Answer) (p : Part) → Holds p (reset_begun t dev req a p).part
 begun_holds t dev req (answers.ResetStarted threads) p =
     let c : Change = alone (with_reset req dev stages.Freezing threads p) in
-    holds_then p c.part (begin_walk t Freeze dev threads (Some req) c).part (unchanged _ _ refl refl) (begin_holds t Freeze dev threads (Some req) c)
+    let time : ℕ = drain_time p req in
+    holds_then p c.part (begin_walk_with t Freeze dev threads (Some req) time c).part (unchanged _ _ refl refl) (begin_holds t Freeze dev threads (Some req) time c)
 begun_holds t dev req _ p = unchanged _ _ refl refl
 
 thaws_holds : (t : ℕ) (dev : DevId) (a : Answer) (p : Part) → Holds p (reset_thaws t dev a p).part
 thaws_holds t dev (answers.ResetEnded threads) p =
     let c : Change = alone (advanced dev stages.Drained stages.Thawing p) in
-    holds_then p c.part (begin_walk t Thaw dev threads (first_req p.resets dev stages.Drained) c).part (unchanged _ _ refl refl) (begin_holds t Thaw dev threads (first_req p.resets dev stages.Drained) c)
+    holds_then p c.part (begin_walk t Thaw dev threads (first_req p.resets dev stages.Drained) c).part (unchanged _ _ refl refl) (begin_holds t Thaw dev threads (first_req p.resets dev stages.Drained) 0 c)
 thaws_holds t dev _ p = unchanged _ _ refl refl
 
 injection_holds : (v : View) (req : ReqId) (a : Answer) → Holds v.part (injection_taken v req a).part
 injection_holds v req (answers.Injected decision) = unchanged _ _ refl refl
 injection_holds v req _ = unchanged _ _ refl refl
+
+resizing_holds : (blocks : ℕ) (a : Answer) (p : Part) → Holds p (resizing blocks a p)
+resizing_holds blocks (answers.Resizing dev home) p = unchanged _ _ refl refl
+resizing_holds blocks _ p = unchanged _ _ refl refl
+
+resized_holds : (a : Answer) (p : Part) → Holds p (resized a p)
+resized_holds (answers.Resized handles blocks destruct) p = unchanged _ _ refl refl
+resized_holds _ p = unchanged _ _ refl refl
 
 reg_holds : (setup : Setup) (t : ℕ) (v : View) (came : Came) (event : RegEvent) (a : Answer) → Holds v.part (change_reg setup t v came event a).part
 reg_holds setup t v came (events.Open name write) a = unchanged _ _ refl refl
@@ -265,6 +290,12 @@ reg_holds setup t v came (events.FinishReset dev) a = finishes_holds dev a v.par
 reg_holds setup t v came (events.TakeInjection dev req op) a = injection_holds v req a
 reg_holds setup t v came (events.Destructed dev) a =
     holds_then v.part (paid (owes.Report dev) v.part) _ (unchanged _ _ refl refl) (freed_holds a (paid (owes.Report dev) v.part))
+reg_holds setup t v came (events.BeginResize name blocks) a =
+    holds_then v.part (decided_by came a v.part) _ (unchanged _ _ refl refl) (resizing_holds blocks a (decided_by came a v.part))
+reg_holds setup t v came (events.EndResize dev) a =
+    holds_then v.part (resized a (paid (owes.EndResize dev) v.part)) _
+    (holds_then v.part (paid (owes.EndResize dev) v.part) _ (unchanged _ _ refl refl) (resized_holds a (paid (owes.EndResize dev) v.part)))
+    (unchanged _ _ refl refl)
 
 -- ---- acts
 
@@ -286,10 +317,10 @@ applied_holds : (v : View) (req : ReqId) (k : ℕ) (dev : DevId) (end : ApplyEnd
 applied_holds v req k dev end size (Some p) (Some b) = unchanged _ _ refl refl
 applied_holds v req k dev end size _ _ = unchanged _ _ refl refl
 
-visit_holds : (setup : Setup) (t : ℕ) (v : View) (walk : WalkId) (dev : DevId) (kind : WalkKind) → Holds v.part (walked_if_any t walk (marked_by setup t v dev kind) (walk_here v walk)).part
+visit_holds : (setup : Setup) (t : ℕ) (v : View) (walk : WalkId) (dev : DevId) (kind : WalkKind) → Holds v.part (walked_if_any t walk (marked_by setup t v walk dev kind) (walk_here v walk)).part
 visit_holds setup t v walk dev kind =
-    let p : Part = marked_by setup t v dev kind in
-    holds_then v.part p (walked_if_any t walk p (walk_here v walk)).part (marked_holds setup t v dev kind) (walked_if_holds t walk p (walk_here v walk))
+    let p : Part = marked_by setup t v walk dev kind in
+    holds_then v.part p (walked_if_any t walk p (walk_here v walk)).part (marked_holds setup t v walk dev kind) (walked_if_holds t walk p (walk_here v walk))
 
 -- what the part of the taker is before its message does something
 abbrev pub taken_before : Part → ℕ → ℕ → Part
@@ -310,6 +341,8 @@ requests_are setup t v (acts.Reg event a) came = (reg_holds setup t v came event
 requests_are setup t v (acts.Apply req k dev end) came = (applied_holds v req k dev end (size_of setup dev) (piece_here v req k) (base_here v dev)).requests
 requests_are setup t v (acts.Visit walk dev kind) came = (visit_holds setup t v walk dev kind).requests
 requests_are setup t v (acts.Abort req cause) came = stopped_requests setup v.part req (request_here v req)
+requests_are setup t v (acts.Grace walk until) came = (remarked_holds (softened walk v.part.prior) (with_until until) v.part).requests
+requests_are setup t v (acts.Due walk now) came = (ended_holds walk now v.part).requests
 requests_are setup t v _ came = refl
 
 pub limited_stays : (setup : Setup) (t : ℕ) (v : View) (act : Act) (came : Came) → leaves_limited act ≡ true → (change setup t v act came).part.limited ≡ v.part.limited
@@ -320,6 +353,8 @@ limited_stays setup t v (acts.Abort req cause) came h = cc
 limited_stays setup t v (acts.Reg event a) came h = (reg_holds setup t v came event a).limited
 limited_stays setup t v (acts.Apply req k dev end) came h = (applied_holds v req k dev end (size_of setup dev) (piece_here v req k) (base_here v dev)).limited
 limited_stays setup t v (acts.Visit walk dev kind) came h = (visit_holds setup t v walk dev kind).limited
+limited_stays setup t v (acts.Grace walk until) came h = (remarked_holds (softened walk v.part.prior) (with_until until) v.part).limited
+limited_stays setup t v (acts.Due walk now) came h = (ended_holds walk now v.part).limited
 limited_stays setup t v _ came h = refl
 
 pub limited_taken : (setup : Setup) (t : ℕ) (v : View) (source number : ℕ) (what : Token) (came : Came) → (change setup t v (acts.Took source number what) came).part.limited ≡ limited_took setup what (taken_before v.part source number) came.message

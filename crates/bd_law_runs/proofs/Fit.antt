@@ -166,6 +166,8 @@ module _ (setup : Setup) (ordered : StandsOnEarlier setup) (s : State) (e : Entr
       go (events.FinishReset dev) is = plain
       go (events.TakeInjection dev req op) is = plain
       go (events.Destructed dev) is = plain
+      go (events.BeginResize name blocks) is = plain
+      go (events.EndResize dev) is = plain
 
   between_is : (act : Act) → e.act ≡ act → (after setup s e).registry.between ≡ (registry_after setup s.registry e.thread (asked act)).between
   between_is act is = ap (λ (r : Registry). r.between) (registry_is setup s e ∙ ap (λ (x : Act). registry_after setup s.registry e.thread (asked x)) is)

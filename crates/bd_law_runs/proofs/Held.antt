@@ -37,7 +37,7 @@ use Rattle.bd_machine.specs.declared.state.State.{State}
 use Rattle.bd_machine.specs.declared.state.Tracked.{Tracked}
 use Rattle.bd_machine.specs.Asked.{asks_event, asks_between, is_new_reset}
 use Rattle.bd_base.specs.declared.request.Errno.TheVariants.{NoDev, Inval}
-use Rattle.bd_machine.specs.Changes.{devices_after, with_standing, with_reset, with_waiting, without_next, less_injection}
+use Rattle.bd_machine.specs.Changes.{devices_after, with_standing, with_reset, with_waiting, without_next, less_injection, begun_growing, grown_to}
 use Rattle.bd_machine.specs.Registry.{threads_of, begin_reset_answer, finish_reset_answer, next_reset, is_destructed_standing, is_idle_reset, is_thawing_reset}
 use Rattle.bd_machine.specs.Same.{same_id, same_dev, same_request, same_threads, same_answer}
 use Rattle.bd_machine.specs.Step.{guards_in, moved, after}
@@ -73,6 +73,8 @@ module _ (reset : ReqId) (D E : DevId → Type 0) (busy less : ℕ → Bool) (mo
   news_fewer (news.Gone m) k = tt
   news_fewer (news.Channel m) k = tt
   news_fewer (news.Device m) k = tt
+  news_fewer (news.Grow m n) k = tt
+  news_fewer (news.Sized m n) k = tt
 
   kind_fewer : (kind : WalkKind) (left : ThreadSet) → ByKind reset D busy kind left → ByKind reset E less kind left
   kind_fewer Freeze left k = tt
@@ -218,6 +220,8 @@ module _ (reset : ReqId) (D : DevId → Type 0) where
   waits_after ds (events.FinishReset d) (answers.ResetFinished (Some next)) b k h = waits_at d.0 k k without_next (λ x e w. waits_drop k x.waiting w) ds h
   waits_after ds (events.FinishReset d) (answers.ResetFinished None) b k h = waits_at d.0 k k (with_reset resets.Idle) (λ d e w. w) ds h
   waits_after ds (events.TakeInjection d req op) (answers.Injected decision) b k h = waits_at d.0 k k (less_injection op) (λ d e w. w) ds h
+  waits_after ds (events.BeginResize name blocks) (answers.Resizing d home) b k h = waits_at d.0 k k (begun_growing blocks) (λ d e w. w) ds h
+  waits_after ds (events.EndResize d) (answers.Resized handles blocks destruct) b k h = waits_at d.0 k k (grown_to blocks) (λ d e w. w) ds h
   waits_after ds _ _ b k h = h
 
 -- ---- what the registry names

@@ -60,11 +60,11 @@ tokens_after_is setup s e = refl
 -- ---- what was accepted
 
 -- a token of a request is as the request was accepted
-abbrev AsTold : Option Tracked → Option Accepted → Type 0
+abbrev pub AsTold : Option Tracked → Option Accepted → Type 0
 AsTold None o = Unit {0}
 AsTold (Some token) o = asked_of token.kept ≡ o
 
-abbrev AreTold : List (Id × Tracked) → (ReqId → Option Accepted) → Type 0
+abbrev pub AreTold : List (Id × Tracked) → (ReqId → Option Accepted) → Type 0
 AreTold tokens f = (r : ReqId) → AsTold (look_up same_id tokens (Request r)) (f r)
 
 here_told : (t : ℕ) (o : Option Tracked) (kept : Kept) (x : Option Accepted) → here_of t o ≡ Some kept → AsTold o x → asked_of kept ≡ x
@@ -104,7 +104,7 @@ moved_told t f (m ∷ ms) tokens h a = moved_told t f ms (moved t (m ∷ []) tok
     one : AreTold (moved t (m ∷ []) tokens) f
     one r = subst (λ (o : Option Tracked). AsTold o (f r)) (sym (found-moved t m tokens (Request r))) (go r (same_id m.id (Request r)) refl)
 
-asked_in : (setup : Setup) (s : State) (t : ℕ) (act : Act) (f : ReqId → Option Accepted) → AreTold s.tokens f → AreAsked f (view s t) act (came_for setup s t act)
+pub asked_in : (setup : Setup) (s : State) (t : ℕ) (act : Act) (f : ReqId → Option Accepted) → AreTold s.tokens f → AreAsked f (view s t) act (came_for setup s t act)
 asked_in setup s t act f h = record {
   here = λ req kept e. here_told t (look_up same_id s.tokens (Request req)) kept (f req) e (h req);
   brought = λ source number req kept is e. message_told source t number (look_up same_id s.tokens (Request req)) kept (f req) (subst (λ (a : Act). (came_for setup s t a).message ≡ Some kept) is e) (h req);
@@ -125,6 +125,13 @@ told_before setup s t (acts.Accept dev lba handle req op count) f fresh h told =
         subst (λ (o : Option Tracked). AsTold o new) (sym (subst (λ (q : ReqId). look_up same_id s.tokens (Request q) ≡ None) (request_same.exact req r e) none)) tt
     go r false e = told r
 told_before setup s t _ f fresh h told = told
+
+-- **after an entry** the tokens are as their requests were accepted, that one with them
+pub told_after : (setup : Setup) (s : State) (e : Entry) (f : ReqId → Option Accepted) → IsFresh s → refusal setup s e ≡ None → AreTold s.tokens f → AreTold (after setup s e).tokens (requests_by e.act f)
+told_after setup s e f fresh allowed told =
+    subst (λ (ts : List (Id × Tracked)). AreTold ts (requests_by e.act f)) (sym (tokens_after_is setup s e))
+    (moved_told e.thread (requests_by e.act f) (change_in setup s e.thread e.act).moves s.tokens (told_before setup s e.thread e.act f fresh (allowed_passes setup s e allowed) told)
+    (moves_alike f setup e.thread (view s e.thread) e.act (came_for setup s e.thread e.act) (asked_in setup s e.thread e.act f told)))
 
 -- ---- a device's row
 
@@ -336,7 +343,7 @@ module _ (setup : Setup) (dev : DevId) where
       go _ h asked = tt
 
   agrees_after : (s : State) (e : Entry) (l : Ledger) → IsFresh s → refusal setup s e ≡ None → Agrees s l → Agrees (after setup s e) (ledger_by setup dev e.act l)
-  agrees_after s e l fresh allowed agrees = record { told = told_all; left = place (cases_eq e.thread (home setup dev)) }
+  agrees_after s e l fresh allowed agrees = record { told = told_after setup s e l.requests fresh allowed agrees.told; left = place (cases_eq e.thread (home setup dev)) }
     where
       h : Passes (guards_in setup s e.thread e.act)
       h = allowed_passes setup s e allowed
@@ -346,11 +353,6 @@ module _ (setup : Setup) (dev : DevId) where
 
       asked : AreAsked l.requests (view s e.thread) e.act (came_for setup s e.thread e.act)
       asked = asked_in setup s e.thread e.act l.requests agrees.told
-
-      told_all : AreTold (after setup s e).tokens (requests_by e.act l.requests)
-      told_all = subst (λ (ts : List (Id × Tracked)). AreTold ts (requests_by e.act l.requests)) (sym (tokens_after_is setup s e))
-          (moved_told e.thread (requests_by e.act l.requests) (change_in setup s e.thread e.act).moves s.tokens (told_before setup s e.thread e.act l.requests fresh (allowed_passes setup s e allowed) agrees.told)
-          (moves_alike l.requests setup e.thread (view s e.thread) e.act (came_for setup s e.thread e.act) (asked_in setup s e.thread e.act l.requests agrees.told)))
 
       place : (e.thread ≡ home setup dev) ⊎ (e.thread ≡ home setup dev → ⊥) → IsLeft dev (part_of (after setup s e) (home setup dev)).limited (left_of e.act l)
       place (inl same) =

@@ -35,7 +35,7 @@ use Rattle.bd_machine.specs.Aborts.{aborted}
 use Rattle.bd_machine.specs.BlockMap.{size_of}
 use Rattle.bd_machine.specs.Completion.{pieces_of}
 use Rattle.bd_machine.specs.Delays.{held, released}
-use Rattle.bd_machine.specs.Events.{alone, with_due, removal_paid, removing, reset_begun, reset_thaws, injection_taken, with_reset, advanced, first_req, change_reg}
+use Rattle.bd_machine.specs.Events.{alone, with_due, removal_paid, removing, reset_begun, reset_thaws, injection_taken, with_reset, advanced, first_req, drain_time, change_reg}
 use Rattle.bd_machine.specs.Guards.{change}
 use Rattle.bd_machine.specs.Homes.{base_here, change_applied, piece_edited, refused}
 use Rattle.bd_machine.specs.Injections.{injected, pended, asked_once_more}
@@ -46,7 +46,7 @@ use Rattle.bd_machine.specs.Registry.{device_named}
 use Rattle.bd_machine.specs.Requests.{extents_of, pieces_made, cut_into, closed_with, pieces_closed}
 use Rattle.bd_machine.specs.Threads.{is_nobody}
 use Rattle.bd_machine.specs.View.{View, Came, Move, Change, id_of}
-use Rattle.bd_machine.specs.Walks.{begin_walk, after_walk, walked, walked_if_any, is_at_end, staged, drain_threads, marked_by, visited, reset_of}
+use Rattle.bd_machine.specs.Walks.{begin_walk_with, after_walk, walked, walked_if_any, is_at_end, staged, drain_threads, marked_by, visited, reset_of}
 use Rattle.bd_machine.proofs.Tables.{request_same}
 use Rattle.bd_law_runs.specs.Ledger.{Accepted, requests_by}
 use Rattle.bd_law_runs.proofs.Fields.{taken_before}
@@ -106,11 +106,11 @@ module _ (f : ReqId → Option Accepted) where
   news_alike t to number None = tt
   news_alike t to number (Some n) = (tt, tt)
 
-  begin_alike : (t : ℕ) (kind : WalkKind) (dev : DevId) (threads : ThreadSet) (req : Option ReqId) (c : Change) → AreAlike f c.moves → AreAlike f (begin_walk t kind dev threads req c).moves
-  begin_alike t kind dev threads req c h = alike_cond (is_nobody threads) _ _ h (both_alike c.moves _ h (tt, tt))
+  begin_alike : (t : ℕ) (kind : WalkKind) (dev : DevId) (threads : ThreadSet) (req : Option ReqId) (time : ℕ) (c : Change) → AreAlike f c.moves → AreAlike f (begin_walk_with t kind dev threads req time c).moves
+  begin_alike t kind dev threads req time c h = alike_cond (is_nobody threads) _ _ h (both_alike c.moves _ h (tt, tt))
 
   after_alike : (t : ℕ) (w : OpenWalk) (kind : WalkKind) (c : Change) → AreAlike f c.moves → AreAlike f (after_walk t w kind c).moves
-  after_alike t w Freeze c h = begin_alike t Drain w.dev (drain_threads c.part w.request) w.request (record { part = staged w.request stages.Draining c.part; moves = c.moves }) h
+  after_alike t w Freeze c h = begin_alike t Drain w.dev (drain_threads c.part w.request) w.request 0 (record { part = staged w.request stages.Draining c.part; moves = c.moves }) h
   after_alike t w Drain c h = h
   after_alike t w Thaw c h = h
   after_alike t w Removal c h = h
@@ -124,7 +124,7 @@ module _ (f : ReqId → Option Accepted) where
 
   went_alike : (t : ℕ) (req : ReqId) (threads : ThreadSet) (x : Option Resetting) (c : Change) → AreAlike f c.moves → AreAlike f (went t req threads x c).moves
   went_alike t req threads None c h = h
-  went_alike t req threads (Some r) c h = begin_alike t Freeze r.dev threads (Some req) (record { part = freezes req threads c.part; moves = c.moves }) h
+  went_alike t req threads (Some r) c h = begin_alike t Freeze r.dev threads (Some req) r.time (record { part = freezes req threads c.part; moves = c.moves }) h
 
   told_alike : (t : ℕ) (told : News) (c : Change) → AreAlike f c.moves → AreAlike f (told_walk t told c).moves
   told_alike t (news.Go req threads) c h = went_alike t req threads (reset_of c.part req) c h
@@ -132,6 +132,8 @@ module _ (f : ReqId → Option Accepted) where
   told_alike t (news.Gone handle) c h = h
   told_alike t (news.Channel dev) c h = h
   told_alike t (news.Device dev) c h = h
+  told_alike t (news.Grow dev blocks) c h = h
+  told_alike t (news.Sized handle blocks) c h = h
 
   -- what a message brings is what was accepted
   abbrev Brings : Token → Option Kept → Type 0
@@ -159,15 +161,15 @@ module _ (f : ReqId → Option Accepted) where
   taken_alike setup t source number _ p _ h = tt
 
   removing_alike : (setup : Setup) (t : ℕ) (a : Answer) (p : Part) → AreAlike f (removing setup t a p).moves
-  removing_alike setup t (answers.Removing dev threads handles destruct) p = begin_alike t Removal dev threads None (alone (with_due _ p)) tt
+  removing_alike setup t (answers.Removing dev threads handles destruct) p = begin_alike t Removal dev threads None 0 (alone (with_due _ p)) tt
   removing_alike setup t _ p = tt
 
   begun_alike : (t : ℕ) (dev : DevId) (req : ReqId) (a : Answer) (p : Part) → AreAlike f (reset_begun t dev req a p).moves
-  begun_alike t dev req (answers.ResetStarted threads) p = begin_alike t Freeze dev threads (Some req) (alone (with_reset req dev stages.Freezing threads p)) tt
+  begun_alike t dev req (answers.ResetStarted threads) p = begin_alike t Freeze dev threads (Some req) (drain_time p req) (alone (with_reset req dev stages.Freezing threads p)) tt
   begun_alike t dev req _ p = tt
 
   thaws_alike : (t : ℕ) (dev : DevId) (a : Answer) (p : Part) → AreAlike f (reset_thaws t dev a p).moves
-  thaws_alike t dev (answers.ResetEnded threads) p = begin_alike t Thaw dev threads (first_req p.resets dev stages.Drained) (alone (advanced dev stages.Drained stages.Thawing p)) tt
+  thaws_alike t dev (answers.ResetEnded threads) p = begin_alike t Thaw dev threads (first_req p.resets dev stages.Drained) 0 (alone (advanced dev stages.Drained stages.Thawing p)) tt
   thaws_alike t dev _ p = tt
 
   injection_alike : (v : View) (req : ReqId) (a : Answer) → ((r : OpenRequest) → request_here v req ≡ Some r → asked_of (keeps.Request r) ≡ f req) → AreAlike f (injection_taken v req a).moves
@@ -240,5 +242,5 @@ moves_alike f setup t v act came h = go act h.brought
     go (acts.Apply req k dev end) b = applied_alike f v req k dev end (size_of setup dev) (piece_here v req k) (base_here v dev)
     go (acts.NoMem req k dev) b = refused_alike f req k (piece_here v req k)
     go (acts.Complete req status shown) b = closed_alike f v req (request_here v req) (asked req)
-    go (acts.Visit walk dev kind) b = walked_if_alike f t walk (marked_by setup t v dev kind) (walk_here v walk)
+    go (acts.Visit walk dev kind) b = walked_if_alike f t walk (marked_by setup t v walk dev kind) (walk_here v walk)
     go _ b = tt

@@ -46,13 +46,16 @@ use Rattle.bd_machine.specs.Admission.{is_gone}
 use Rattle.bd_machine.specs.Asked.{owes_removal}
 use Rattle.bd_machine.specs.BlockMap.{below, home, size_of}
 use Rattle.bd_machine.specs.Changes.{is_dropped}
-use Rattle.bd_machine.specs.Events.{decision_of, decided_by, paid, owing, with_due, alone, closed_by, born, all_born, got_by, put_down_by, put_paid, dropped_by, removal_paid, with_reset, advanced, reset_finishes, freed_by, channel_due, removing, reset_begun, reset_thaws, injection_taken, change_reg, first_req}
+use Rattle.bd_machine.specs.Events.{decision_of, decided_by, paid, owing, with_due, alone, closed_by, born, all_born, got_by, put_down_by, put_paid, dropped_by, removal_paid, with_reset, advanced, reset_finishes, freed_by, channel_due, removing, reset_begun, reset_thaws, injection_taken, drain_time, resizing, resized, change_reg, first_req}
 use Rattle.bd_machine.specs.Guards.{change}
-use Rattle.bd_machine.specs.Homes.{base_here, change_applied, is_told}
+use Rattle.bd_machine.specs.Homes.{base_here, change_applied, change_grow, is_told}
 use Rattle.bd_machine.specs.Kept.{request_here, piece_here, walk_here}
 use Rattle.bd_machine.specs.Laws.{one_if}
 use Rattle.bd_machine.specs.Limits.{arrived, departed, is_limited, next_limited, waits_at}
-use Rattle.bd_machine.specs.Marks.{remarked, frozen_as, freeze_set, removal_set}
+use Rattle.bd_machine.specs.declared.state.Marking.{Marking}
+use Rattle.bd_machine.specs.declared.state.FreezeMark.TheVariants.{Not}
+use Rattle.bd_machine.specs.Grace.{dev_if_any, ended, ending_mark, remarked_if_any, softened}
+use Rattle.bd_machine.specs.Marks.{remarked, with_frozen, with_until, hardened, freeze_set, removal_set}
 use Rattle.bd_machine.specs.Messages.{request_took, told_part, removals_owed, freezes, went, told_walk, taken_by, arrived_walk, closed_notice}
 use Rattle.bd_machine.specs.Registry.{made, device_named}
 use Rattle.bd_machine.specs.Same.{same_dev, same_owed}
@@ -61,7 +64,7 @@ use Rattle.bd_machine.specs.Table.{without_first}
 use Rattle.bd_machine.specs.Threads.{is_nobody}
 use Rattle.bd_machine.specs.Users.{is_base_handle, users}
 use Rattle.bd_machine.specs.View.{View, Came, Change, id_of}
-use Rattle.bd_machine.specs.Walks.{staged, numbered, over_nobody, begin_walk, after_walk, is_at_end, walked, drain_threads, put_owed, marked_by, visited, walked_if_any, reset_of}
+use Rattle.bd_machine.specs.Walks.{staged, numbered, over_nobody, begin_walk_with, begin_walk, time_of_walk, after_walk, is_at_end, walked, drain_threads, put_owed, marked_by, visited, walked_if_any, reset_of}
 use Rattle.bd_law_runs.proofs.Fields.{taken_before}
 use Rattle.bd_law_runs.proofs.Sums.{count_in, in_push}
 
@@ -177,17 +180,18 @@ module _ (setup : Setup) (t : ℕ) where
 
   -- an answer opens no base handle
   abbrev pub AnswerFine : Answer → Type 0
-  AnswerFine (answers.Opened id d) = is_base_handle setup id ≡ false
+  AnswerFine (answers.Opened id d blocks) = is_base_handle setup id ≡ false
   AnswerFine _ = Unit {0}
 
   decided_tame : (came : Came) (a : Answer) (p : Part) → AnswerFine a → Tame p (decided_by came a p)
   decided_tame came a p h = record { fine = λ f. (f.0, by came.shut f.1, f.2); puts_less = λ d. le_refl (puts p d) }
     where
       answered : (a : Answer) → AnswerFine a → DecidedFine (decision_of a)
-      answered (answers.Opened id d) h = h
+      answered (answers.Opened id d blocks) h = h
       answered (answers.Closed d) h = tt
       answered answers.Claimed h = tt
       answered (answers.Removing d ts hs x) h = tt
+      answered (answers.Resizing d home) h = tt
       answered (answers.Refused e) h = tt
       answered _ h = tt
 
@@ -218,8 +222,8 @@ module _ (setup : Setup) (t : ℕ) where
 
   dropped_tame : (dev : DevId) (a : Answer) (p : Part) → Tame p (dropped_by t dev a p)
   dropped_tame dev (answers.Dropped what zero destruct) p =
-      let q : Part = cond (is_dropped what) (remarked dev (frozen_as false) p) p in
-      tame_then p q (with_due (channel_due t zero) q) (tame_cond (is_dropped what) p (remarked dev (frozen_as false) p) p (tame_same _ _ refl refl refl) (tame_same p p refl refl refl)) (tame_same _ _ refl refl refl)
+      let q : Part = cond (is_dropped what) (remarked dev (with_frozen Not) p) p in
+      tame_then p q (with_due (channel_due t zero) q) (tame_cond (is_dropped what) p (remarked dev (with_frozen Not) p) p (tame_same _ _ refl refl refl) (tame_same p p refl refl refl)) (tame_same _ _ refl refl refl)
   dropped_tame dev _ p = tame_same p p refl refl refl
 
   removal_tame : (came : Came) (a : Answer) (o : Option ℕ) (p : Part) → AnswerFine a → Tame p (removal_paid came a o p)
@@ -258,6 +262,17 @@ module _ (setup : Setup) (t : ℕ) where
   told_tame (news.Channel dev) p = owing_tame (owes.Drop dev ∷ []) p (tt, tt) (λ d. refl)
   told_tame (news.Device dev) p = owing_tame (owes.Destruct dev ∷ []) p (tt, tt) (λ d. refl)
   told_tame (news.Go req threads) p = tame_same p p refl refl refl
+  told_tame (news.Grow dev blocks) p = owing_tame (owes.Grow dev blocks ∷ []) p (tt, tt) (λ d. refl)
+  told_tame (news.Sized handle blocks) p = tame_same _ _ refl refl refl
+
+  remarked_tame : (o : Option DevId) (f : Marking → Marking) (p : Part) → Tame p (remarked_if_any o f p)
+  remarked_tame None f p = tame_same p p refl refl refl
+  remarked_tame (Some dev) f p = tame_same _ _ refl refl refl
+
+  ended_tame : (walk : WalkId) (now : ℕ) (p : Part) → Tame p (ended walk now p)
+  ended_tame walk now p =
+      let q : Part = remarked_if_any (dev_if_any (ending_mark p walk)) hardened p in
+      tame_then p q (ended walk now p) (remarked_tame (dev_if_any (ending_mark p walk)) hardened p) (tame_same _ _ refl refl refl)
 
   -- ---- walks
 
@@ -267,13 +282,13 @@ module _ (setup : Setup) (t : ℕ) where
   nobody_tame Thaw req p = tame_then p (numbered 1 p) (staged req stages.Thawed (numbered 1 p)) (tame_same _ _ refl refl refl) (staged_tame req stages.Thawed (numbered 1 p))
   nobody_tame Removal req p = tame_same _ _ refl refl refl
 
-  begin_tame : (u : ℕ) (kind : WalkKind) (dev : DevId) (threads : ThreadSet) (req : Option ReqId) (c : Change) → Tame c.part (begin_walk u kind dev threads req c).part
-  begin_tame u kind dev threads req c = tame_change (is_nobody threads) c.part _ _ (nobody_tame kind req c.part) (tame_same _ _ refl refl refl)
+  begin_tame : (u : ℕ) (kind : WalkKind) (dev : DevId) (threads : ThreadSet) (req : Option ReqId) (time : ℕ) (c : Change) → Tame c.part (begin_walk_with u kind dev threads req time c).part
+  begin_tame u kind dev threads req time c = tame_change (is_nobody threads) c.part _ _ (nobody_tame kind req c.part) (tame_same _ _ refl refl refl)
 
   after_tame : (u : ℕ) (w : OpenWalk) (kind : WalkKind) (c : Change) → Tame c.part (after_walk u w kind c).part
   after_tame u w Freeze c =
       let d : Change = record { part = staged w.request stages.Draining c.part; moves = c.moves } in
-      tame_then c.part d.part (begin_walk u Drain w.dev (drain_threads c.part w.request) w.request d).part (staged_tame w.request stages.Draining c.part) (begin_tame u Drain w.dev (drain_threads c.part w.request) w.request d)
+      tame_then c.part d.part (begin_walk u Drain w.dev (drain_threads c.part w.request) w.request d).part (staged_tame w.request stages.Draining c.part) (begin_tame u Drain w.dev (drain_threads c.part w.request) w.request 0 d)
   after_tame u w Drain c = staged_tame w.request stages.Drained c.part
   after_tame u w Thaw c = staged_tame w.request stages.Thawed c.part
   after_tame u w Removal c = tame_same c.part c.part refl refl refl
@@ -289,7 +304,7 @@ module _ (setup : Setup) (t : ℕ) where
   went_tame u req threads None c = tame_same c.part c.part refl refl refl
   went_tame u req threads (Some r) c =
       let d : Change = record { part = freezes req threads c.part; moves = c.moves } in
-      tame_then c.part d.part (begin_walk u Freeze r.dev threads (Some req) d).part (tame_same _ _ refl refl refl) (begin_tame u Freeze r.dev threads (Some req) d)
+      tame_then c.part d.part (begin_walk_with u Freeze r.dev threads (Some req) r.time d).part (tame_same _ _ refl refl refl) (begin_tame u Freeze r.dev threads (Some req) r.time d)
 
   told_walk_tame : (u : ℕ) (told : News) (c : Change) → Tame c.part (told_walk u told c).part
   told_walk_tame u (news.Go req threads) c = went_tame u req threads (reset_of c.part req) c
@@ -297,6 +312,8 @@ module _ (setup : Setup) (t : ℕ) where
   told_walk_tame u (news.Gone handle) c = tame_same c.part c.part refl refl refl
   told_walk_tame u (news.Channel dev) c = tame_same c.part c.part refl refl refl
   told_walk_tame u (news.Device dev) c = tame_same c.part c.part refl refl refl
+  told_walk_tame u (news.Grow dev blocks) c = tame_same c.part c.part refl refl refl
+  told_walk_tame u (news.Sized handle blocks) c = tame_same c.part c.part refl refl refl
 
   arrived_tame : (p : Part) (req : ReqId) (o : Option DevId) → Tame p (arrived p req o)
   arrived_tame p req None = tame_same p p refl refl refl
@@ -328,24 +345,33 @@ module _ (setup : Setup) (t : ℕ) where
   removing_tame : (a : Answer) (p : Part) → Tame p (removing setup t a p).part
   removing_tame (answers.Removing dev threads handles destruct) p =
       let c : Change = alone (with_due _ p) in
-      tame_then p c.part (begin_walk t Removal dev threads None c).part (tame_same _ _ refl refl refl) (begin_tame t Removal dev threads None c)
+      tame_then p c.part (begin_walk t Removal dev threads None c).part (tame_same _ _ refl refl refl) (begin_tame t Removal dev threads None 0 c)
   removing_tame _ p = tame_same p p refl refl refl
 
   begun_tame : (dev : DevId) (req : ReqId) (a : Answer) (p : Part) → Tame p (reset_begun t dev req a p).part
   begun_tame dev req (answers.ResetStarted threads) p =
       let c : Change = alone (with_reset req dev stages.Freezing threads p) in
-      tame_then p c.part (begin_walk t Freeze dev threads (Some req) c).part (tame_same _ _ refl refl refl) (begin_tame t Freeze dev threads (Some req) c)
+      let time : ℕ = drain_time p req in
+      tame_then p c.part (begin_walk_with t Freeze dev threads (Some req) time c).part (tame_same _ _ refl refl refl) (begin_tame t Freeze dev threads (Some req) time c)
   begun_tame dev req _ p = tame_same _ _ refl refl refl
 
   thaws_tame : (dev : DevId) (a : Answer) (p : Part) → Tame p (reset_thaws t dev a p).part
   thaws_tame dev (answers.ResetEnded threads) p =
       let c : Change = alone (advanced dev stages.Drained stages.Thawing p) in
-      tame_then p c.part (begin_walk t Thaw dev threads (first_req p.resets dev stages.Drained) c).part (tame_same _ _ refl refl refl) (begin_tame t Thaw dev threads (first_req p.resets dev stages.Drained) c)
+      tame_then p c.part (begin_walk t Thaw dev threads (first_req p.resets dev stages.Drained) c).part (tame_same _ _ refl refl refl) (begin_tame t Thaw dev threads (first_req p.resets dev stages.Drained) 0 c)
   thaws_tame dev _ p = tame_same p p refl refl refl
 
   injection_tame : (v : View) (req : ReqId) (a : Answer) → Tame v.part (injection_taken v req a).part
   injection_tame v req (answers.Injected decision) = tame_same _ _ refl refl refl
   injection_tame v req _ = tame_same v.part v.part refl refl refl
+
+  resizing_tame : (blocks : ℕ) (a : Answer) (p : Part) → Tame p (resizing blocks a p)
+  resizing_tame blocks (answers.Resizing dev home) p = tame_same _ _ refl refl refl
+  resizing_tame blocks _ p = tame_same p p refl refl refl
+
+  resized_tame : (a : Answer) (p : Part) → Tame p (resized a p)
+  resized_tame (answers.Resized handles blocks destruct) p = tame_same _ _ refl refl refl
+  resized_tame _ p = tame_same p p refl refl refl
 
   -- what is known of an event's answer
   abbrev pub EventFine : RegEvent → Answer → Type 0
@@ -354,6 +380,7 @@ module _ (setup : Setup) (t : ℕ) where
   EventFine (events.Close id) a = AnswerFine a
   EventFine (events.BeginRemove name) a = AnswerFine a
   EventFine (events.Destructed dev) a = FreesBase a
+  EventFine (events.BeginResize name blocks) a = AnswerFine a
   EventFine _ a = Unit {0}
 
   reg_tame : (v : View) (came : Came) (event : RegEvent) (a : Answer) → EventFine event a → Tame v.part (change_reg setup t v came event a).part
@@ -374,6 +401,11 @@ module _ (setup : Setup) (t : ℕ) where
   reg_tame v came (events.FinishReset dev) a h = finishes_tame dev a v.part
   reg_tame v came (events.TakeInjection dev req op) a h = injection_tame v req a
   reg_tame v came (events.Destructed dev) a h = tame_then v.part (paid (owes.Report dev) v.part) _ (paid_tame (owes.Report dev) v.part) (freed_tame a (paid (owes.Report dev) v.part) h)
+  reg_tame v came (events.BeginResize name blocks) a h = tame_then v.part (decided_by came a v.part) _ (decided_tame came a v.part h) (resizing_tame blocks a (decided_by came a v.part))
+  reg_tame v came (events.EndResize dev) a h =
+      tame_then v.part (resized a (paid (owes.EndResize dev) v.part)) _
+      (tame_then v.part (paid (owes.EndResize dev) v.part) _ (paid_tame (owes.EndResize dev) v.part) (resized_tame a (paid (owes.EndResize dev) v.part)))
+      (tame_same _ _ refl refl refl)
 
   applied_tame : (v : View) (req : ReqId) (k : ℕ) (dev : DevId) (end : ApplyEnd) (size : ℕ) (x : Option OpenPiece) (b : Option Base) → Tame v.part (change_applied v req k dev end size x b).part
   applied_tame v req k dev end size (Some p) (Some b) = tame_same _ _ refl refl refl
@@ -400,6 +432,11 @@ module _ (setup : Setup) (t : ℕ) where
       none : (b : Bool) (d : DevId) → count_in (same_owed (owes.Put d)) (cond b (owes.Report dev ∷ []) []) ≡ 0
       none true d = refl
       none false d = refl
+
+  grown_tame : (v : View) (dev : DevId) (blocks : ℕ) → Tame v.part (change_grow setup v dev blocks).part
+  grown_tame v dev blocks =
+      tame_then v.part (paid (owes.Grow dev blocks) v.part) _ (paid_tame (owes.Grow dev blocks) v.part)
+      (tame_then (paid (owes.Grow dev blocks) v.part) (owing (owes.EndResize dev) (paid (owes.Grow dev blocks) v.part)) _ (owing_tame (owes.EndResize dev ∷ []) (paid (owes.Grow dev blocks) v.part) (tt, tt) (λ d. refl)) (tame_same _ _ refl refl refl))
 
   -- a line binds its name to what was opened
   bound_fine : (job : Option Job) (p : Part) → FineNames p → BoundFine (bound_after job p.decided p.bound)
@@ -434,11 +471,11 @@ module _ (setup : Setup) (t : ℕ) where
   IsVisit (acts.Visit walk dev Removal) = Unit {0}
   IsVisit _ = ⊥
 
-  marked_tame : (v : View) (dev : DevId) (kind : WalkKind) → (kind ≡ Removal → ⊥) → Tame v.part (marked_by setup t v dev kind)
-  marked_tame v dev Freeze h = tame_cond _ v.part (remarked dev freeze_set v.part) v.part (tame_same _ _ refl refl refl) (tame_same v.part v.part refl refl refl)
-  marked_tame v dev Drain h = tame_same v.part v.part refl refl refl
-  marked_tame v dev Thaw h = tame_same _ _ refl refl refl
-  marked_tame v dev Removal h = absurd (h refl)
+  marked_tame : (v : View) (walk : WalkId) (dev : DevId) (kind : WalkKind) → (kind ≡ Removal → ⊥) → Tame v.part (marked_by setup t v walk dev kind)
+  marked_tame v walk dev Freeze h = tame_cond _ v.part (remarked dev (freeze_set walk (time_of_walk (walk_here v walk))) v.part) v.part (tame_same _ _ refl refl refl) (tame_same v.part v.part refl refl refl)
+  marked_tame v walk dev Drain h = tame_same v.part v.part refl refl refl
+  marked_tame v walk dev Thaw h = tame_same _ _ refl refl refl
+  marked_tame v walk dev Removal h = absurd (h refl)
 
   pub act_tame : (v : View) (act : Act) (came : Came) → ActFine act → (IsVisit act → ⊥) → Tame v.part (change setup t v act came).part
   act_tame v (acts.Took source number what) came a n =
@@ -452,8 +489,8 @@ module _ (setup : Setup) (t : ℕ) where
   act_tame v (acts.Visit walk dev kind) came a n = by kind n
     where
       all : (kind : WalkKind) → (kind ≡ Removal → ⊥) → Tame v.part (change setup t v (acts.Visit walk dev kind) came).part
-      all kind ne = tame_then v.part (marked_by setup t v dev kind) _ (marked_tame v dev kind ne)
-          (tame_then (marked_by setup t v dev kind) (walked_if_any t walk (marked_by setup t v dev kind) (walk_here v walk)).part _ (walked_if_tame t walk (marked_by setup t v dev kind) (walk_here v walk)) (tame_same _ _ refl refl refl))
+      all kind ne = tame_then v.part (marked_by setup t v walk dev kind) _ (marked_tame v walk dev kind ne)
+          (tame_then (marked_by setup t v walk dev kind) (walked_if_any t walk (marked_by setup t v walk dev kind) (walk_here v walk)).part _ (walked_if_tame t walk (marked_by setup t v walk dev kind) (walk_here v walk)) (tame_same _ _ refl refl refl))
 
       by : (kind : WalkKind) → (IsVisit (acts.Visit walk dev kind) → ⊥) → Tame v.part (change setup t v (acts.Visit walk dev kind) came).part
       by Freeze n = all Freeze (λ e. cc)
@@ -462,6 +499,9 @@ module _ (setup : Setup) (t : ℕ) where
       by Removal n = absurd (n tt)
   act_tame v (acts.Destruct dev digest) came a n = tame_then v.part _ _ (destruct_tame v dev (is_told v dev)) (tame_same _ _ refl refl refl)
   act_tame v (acts.Script line outcome) came a n = record { fine = λ f. script_tame v _ f; puts_less = λ d. le_refl (puts v.part d) }
+  act_tame v (acts.Grow dev blocks) came a n = tame_then v.part (change_grow setup v dev blocks).part _ (grown_tame v dev blocks) (tame_same _ _ refl refl refl)
+  act_tame v (acts.Grace walk until) came a n = tame_then v.part (remarked_if_any (softened walk v.part.prior) (with_until until) v.part) _ (remarked_tame (softened walk v.part.prior) (with_until until) v.part) (tame_same _ _ refl refl refl)
+  act_tame v (acts.Due walk now) came a n = tame_then v.part (ended walk now v.part) _ (ended_tame walk now v.part) (tame_same _ _ refl refl refl)
   act_tame v _ came a n = tame_same _ _ refl refl refl
 
   -- a visit of a removal adds a put at most, at the home of a limited device

@@ -147,6 +147,8 @@ module _ (setup : Setup) where
       by (owes.Report i) e g = cc
       by (owes.Put i) e g = cc
       by (owes.Remove i) e g = cc
+      by (owes.Grow i n) e g = cc
+      by (owes.EndResize i) e g = cc
 
       go : (b : Bool) → same_owed (owes.Close id) x ≡ b → (b || list_any (same_owed (owes.Close id)) xs) ≡ true → (list_any (same_owed (owes.Close id)) xs ≡ true → is_base_handle setup id ≡ true) → is_base_handle setup id ≡ true
       go true e h rest = by x e (f.0, tt)
@@ -181,6 +183,8 @@ module _ (setup : Setup) where
   submit_bound t part id op lba count (Some (jobs.Post m)) f h = cc
   submit_bound t part id op lba count (Some (jobs.Await m)) f h = cc
   submit_bound t part id op lba count (Some (jobs.Gone handle)) f h = cc
+  submit_bound t part id op lba count (Some (jobs.Resize d n)) f h = cc
+  submit_bound t part id op lba count (Some (jobs.Sized handle n)) f h = cc
   submit_bound t part id op lba count None f h = cc
 
   found_any : (id : HandleId) (dev : DevId) (hs : List Handle) (x : Handle) → handle_of hs id ≡ Some x → same_dev x.dev dev ≡ true → list_any (λ (h : Handle). same_handle h.id id && same_dev h.dev dev) hs ≡ true
@@ -206,11 +210,11 @@ module _ (setup : Setup) where
       let q = and_parts (not came.shut) (is_job_submit v.part (Some handle) op lba count (undecided_job setup t v.part)) p.0 in
       (go (handle_of v.handles handle) refl p.1 (admitted (is_removed_handle setup v handle) ok.1.0), submit_bound t v.part handle op lba count (undecided_job setup t v.part) f.0 q.1)
     where
-      admitted : (b : Bool) → is_none (cond b (Some NoDev) (refusal_on setup (handle_of v.handles handle) op lba count)) ≡ true → is_none (refusal_on setup (handle_of v.handles handle) op lba count) ≡ true
+      admitted : (b : Bool) → is_none (cond b (Some NoDev) (refusal_on setup v.part (handle_of v.handles handle) op lba count)) ≡ true → is_none (refusal_on setup v.part (handle_of v.handles handle) op lba count) ≡ true
       admitted true k = cc
       admitted false k = k
 
-      go : (o : Option Handle) → handle_of v.handles handle ≡ o → is_device_of dev o ≡ true → is_none (refusal_on setup o op lba count) ≡ true → list_any (λ (h : Handle). same_handle h.id handle && same_dev h.dev dev) v.handles ≡ true
+      go : (o : Option Handle) → handle_of v.handles handle ≡ o → is_device_of dev o ≡ true → is_none (refusal_on setup v.part o op lba count) ≡ true → list_any (λ (h : Handle). same_handle h.id handle && same_dev h.dev dev) v.handles ≡ true
       go None e d k = cc
       go (Some x) e d k = found_any handle dev v.handles x e d
 
@@ -237,11 +241,11 @@ module _ (setup : Setup) where
 
   rows_event : (s : State) (t : ℕ) (came : Came) (event : RegEvent) (a : Answer) → FineNames setup t (view s t).part → asks_between setup t (view s t) came event s.registry.between ≡ true
       → RowsOpen (view s t).handles (view s t).part.requests → RowsOpen (handles_after t (view s t).handles event a) (view s t).part.requests
-  rows_event s t came (events.Open name write) (answers.Opened id d) f q h =
+  rows_event s t came (events.Open name write) (answers.Opened id d blocks) f q h =
       rows_weaker (view s t).handles ((view s t).handles ++ new ∷ []) (λ o k. any_more (λ (h : Handle). same_handle h.id o.handle && same_dev h.dev o.dev) (view s t).handles new k) (view s t).part.requests h
     where
       new : Handle
-      new = record { id = id; dev = d; thread = record { 0 = t }; write = write; claim = None }
+      new = record { id = id; dev = d; thread = record { 0 = t }; write = write; claim = None; blocks = blocks }
   rows_event s t came (events.Claim id kind) answers.Claimed f q h =
       rows_weaker (view s t).handles (map (λ x. cond (is_own t id x) (with_claim kind x) x) (view s t).handles)
       (λ o k. any_map (λ (h : Handle). same_handle h.id o.handle && same_dev h.dev o.dev) (λ x. cond (is_own t id x) (with_claim kind x) x) (claim_leaves t id kind o) (view s t).handles ∙ k) (view s t).part.requests h

@@ -365,7 +365,7 @@ module _ (setup : Setup) (reset : ReqId) (busy : ℕ → Bool) where
   pub first_bare : (told : Told) → IsBareIn reset (start setup told)
   first_bare told = record { token = tt; taken = λ u. none (range_with_len 0 setup.threads) u }
     where
-      none : (us : List ℕ) (i : ℕ) → NotTaken reset (get_or (map (part_at_start setup told) us) i blank_part).injection
+      none : (us : List ℕ) (i : ℕ) → NotTaken reset (get_or (map (part_at_start setup told) us) i blank_part).prior
       none [] i = tt
       none (w ∷ us) zero = tt
       none (w ∷ us) (suc i) = none us i

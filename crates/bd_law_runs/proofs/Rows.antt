@@ -39,18 +39,21 @@ use Rattle.bd_machine.specs.Admission.{is_gone}
 use Rattle.bd_machine.specs.Asked.{owes_removal, is_reset_at}
 use Rattle.bd_machine.specs.BlockMap.{below, home, size_of}
 use Rattle.bd_machine.specs.Changes.{is_dropped}
-use Rattle.bd_machine.specs.Events.{decided_by, paid, owing, with_due, alone, closed_by, born, all_born, got_by, put_paid, removal_paid, with_reset, advanced, freed_by, removing, reset_begun, reset_thaws, reset_finishes, injection_taken, change_reg, first_req, dropped_by, put_down_by}
+use Rattle.bd_machine.specs.Events.{decided_by, paid, owing, with_due, alone, closed_by, born, all_born, got_by, put_paid, removal_paid, with_reset, advanced, freed_by, removing, reset_begun, reset_thaws, reset_finishes, injection_taken, drain_time, resizing, resized, change_reg, first_req, dropped_by, put_down_by}
 use Rattle.bd_machine.specs.Guards.{change}
 use Rattle.bd_machine.specs.Homes.{base_here, change_applied}
 use Rattle.bd_machine.specs.Kept.{request_here, piece_here, walk_here}
 use Rattle.bd_machine.specs.Limits.{arrived, departed, is_limited, next_limited, waits_at}
-use Rattle.bd_machine.specs.Marks.{remarked, frozen_as, freeze_set, removal_set}
+use Rattle.bd_machine.specs.declared.state.Marking.{Marking}
+use Rattle.bd_machine.specs.declared.state.FreezeMark.TheVariants.{Not}
+use Rattle.bd_machine.specs.Grace.{dev_if_any, ended, ending_mark, remarked_if_any, softened}
+use Rattle.bd_machine.specs.Marks.{remarked, with_frozen, with_until, hardened, freeze_set, removal_set}
 use Rattle.bd_machine.specs.Messages.{request_took, told_part, freezing, freezes, went, told_walk, taken_by, arrived_walk}
 use Rattle.bd_machine.specs.Registry.{made, device_named}
 use Rattle.bd_machine.specs.Threads.{is_nobody}
 use Rattle.bd_machine.specs.Users.{is_base_handle}
 use Rattle.bd_machine.specs.View.{View, Came, Change, id_of}
-use Rattle.bd_machine.specs.Walks.{is_reset_of, at_stage, staged, numbered, over_nobody, begin_walk, after_walk, is_at_end, walked, drain_threads, put_owed, marked_by, visited, walked_if_any, reset_of}
+use Rattle.bd_machine.specs.Walks.{is_reset_of, at_stage, staged, numbered, over_nobody, begin_walk_with, time_of_walk, after_walk, is_at_end, walked, drain_threads, put_owed, marked_by, visited, walked_if_any, reset_of}
 use Rattle.bd_machine.proofs.Laws.{filter_push, filter_twice, filter_map_commutes}
 use Rattle.bd_machine.proofs.Tables.{request_same}
 use Rattle.bd_law_runs.proofs.Fields.{taken_before}
@@ -127,8 +130,8 @@ pub mine_advanced : (reset : ReqId) (dev : DevId) (old new : Stage) (p : Part) �
 mine_advanced reset dev old new p = filter_map_commutes (is_reset_of reset) (moved_on dev old new) (moved_on_keeps reset dev old new) p.resets
 
 pub mine_appended : (reset req : ReqId) (dev : DevId) (stage : Stage) (threads : ThreadSet) (p : Part)
-    → mine reset (with_reset req dev stage threads p).resets ≡ mine reset p.resets ++ cond (is_reset_of reset (record { req = req; dev = dev; stage = stage; threads = threads })) (record { req = req; dev = dev; stage = stage; threads = threads } ∷ []) []
-mine_appended reset req dev stage threads p = filter_push (is_reset_of reset) p.resets (record { req = req; dev = dev; stage = stage; threads = threads })
+    → mine reset (with_reset req dev stage threads p).resets ≡ mine reset p.resets ++ cond (is_reset_of reset (record { req = req; dev = dev; stage = stage; threads = threads; time = drain_time p req })) (record { req = req; dev = dev; stage = stage; threads = threads; time = drain_time p req } ∷ []) []
+mine_appended reset req dev stage threads p = filter_push (is_reset_of reset) p.resets (record { req = req; dev = dev; stage = stage; threads = threads; time = drain_time p req })
 
 -- ---- words that leave resets and what is due
 
@@ -159,8 +162,8 @@ got_leaves setup v dev _ = record { resets = refl; due = refl }
 pub put_leaves : (dev : DevId) (closing : Bool) (p : Part) → Leaves p (put_paid dev closing p)
 put_leaves dev closing p = leaves_cond closing p p (paid (owes.Put dev) p) (record { resets = refl; due = refl }) (record { resets = refl; due = refl })
 
-pub dropped_leaves : (dev : DevId) (b : Bool) (p : Part) → Leaves p (cond b (remarked dev (frozen_as false) p) p)
-dropped_leaves dev b p = leaves_cond b p (remarked dev (frozen_as false) p) p (record { resets = refl; due = refl }) (record { resets = refl; due = refl })
+pub dropped_leaves : (dev : DevId) (b : Bool) (p : Part) → Leaves p (cond b (remarked dev (with_frozen Not) p) p)
+dropped_leaves dev b p = leaves_cond b p (remarked dev (with_frozen Not) p) p (record { resets = refl; due = refl }) (record { resets = refl; due = refl })
 
 pub removal_leaves : (came : Came) (a : Answer) (o : Option ℕ) (p : Part) → Leaves p (removal_paid came a o p)
 removal_leaves came a None p = record { resets = refl; due = refl }
@@ -172,11 +175,11 @@ freed_leaves (answers.Freed (Some id)) p = record { resets = refl; due = refl }
 freed_leaves (answers.Freed None) p = record { resets = refl; due = refl }
 freed_leaves _ p = record { resets = refl; due = refl }
 
-pub marked_leaves : (setup : Setup) (t : ℕ) (v : View) (dev : DevId) (kind : WalkKind) → Leaves v.part (marked_by setup t v dev kind)
-marked_leaves setup t v dev Freeze = leaves_cond _ v.part (remarked dev freeze_set v.part) v.part (record { resets = refl; due = refl }) (record { resets = refl; due = refl })
-marked_leaves setup t v dev Drain = record { resets = refl; due = refl }
-marked_leaves setup t v dev Thaw = record { resets = refl; due = refl }
-marked_leaves setup t v dev Removal =
+pub marked_leaves : (setup : Setup) (t : ℕ) (v : View) (walk : WalkId) (dev : DevId) (kind : WalkKind) → Leaves v.part (marked_by setup t v walk dev kind)
+marked_leaves setup t v walk dev Freeze = leaves_cond _ v.part (remarked dev (freeze_set walk (time_of_walk (walk_here v walk))) v.part) v.part (record { resets = refl; due = refl }) (record { resets = refl; due = refl })
+marked_leaves setup t v walk dev Drain = record { resets = refl; due = refl }
+marked_leaves setup t v walk dev Thaw = record { resets = refl; due = refl }
+marked_leaves setup t v walk dev Removal =
     let p : Part = remarked dev removal_set v.part in
     leaves_then v.part p (put_owed setup t dev p) (record { resets = refl; due = refl }) (leaves_cond (is_limited setup dev && (home setup dev == t)) p (owing (owes.Put dev) p) p (record { resets = refl; due = refl }) (record { resets = refl; due = refl }))
 
@@ -186,6 +189,17 @@ told_leaves setup (news.Gone handle) p = record { resets = refl; due = refl }
 told_leaves setup (news.Channel dev) p = record { resets = refl; due = refl }
 told_leaves setup (news.Device dev) p = record { resets = refl; due = refl }
 told_leaves setup (news.Go req threads) p = record { resets = refl; due = refl }
+told_leaves setup (news.Grow dev blocks) p = record { resets = refl; due = refl }
+told_leaves setup (news.Sized handle blocks) p = record { resets = refl; due = refl }
+
+pub remarked_leaves : (o : Option DevId) (f : Marking → Marking) (p : Part) → Leaves p (remarked_if_any o f p)
+remarked_leaves None f p = record { resets = refl; due = refl }
+remarked_leaves (Some dev) f p = record { resets = refl; due = refl }
+
+pub ended_leaves : (walk : WalkId) (now : ℕ) (p : Part) → Leaves p (ended walk now p)
+ended_leaves walk now p =
+    let q : Part = remarked_if_any (dev_if_any (ending_mark p walk)) hardened p in
+    leaves_then p q (ended walk now p) (remarked_leaves (dev_if_any (ending_mark p walk)) hardened p) (record { resets = refl; due = refl })
 
 arrived_leaves : (p : Part) (req : ReqId) (o : Option DevId) → Leaves p (arrived p req o)
 arrived_leaves p req None = record { resets = refl; due = refl }
@@ -252,9 +266,9 @@ module _ (reset : ReqId) where
   appended_begun req dev stage threads p none b = subst Begun (sym (mine_appended reset req dev stage threads p)) (go (is_reset_of reset new_row) refl)
     where
       new_row : Resetting
-      new_row = record { req = req; dev = dev; stage = stage; threads = threads }
+      new_row = record { req = req; dev = dev; stage = stage; threads = threads; time = drain_time p req }
 
-      go : (c : Bool) → is_reset_of reset (record { req = req; dev = dev; stage = stage; threads = threads }) ≡ c → Begun (mine reset p.resets ++ cond c (record { req = req; dev = dev; stage = stage; threads = threads } ∷ []) [])
+      go : (c : Bool) → is_reset_of reset (record { req = req; dev = dev; stage = stage; threads = threads; time = drain_time p req }) ≡ c → Begun (mine reset p.resets ++ cond c (record { req = req; dev = dev; stage = stage; threads = threads; time = drain_time p req } ∷ []) [])
       go true e = absurd (subst Begun (none (request_same.exact req reset e)) b)
       go false e = subst Begun (sym (append-nil (mine reset p.resets))) b
 
@@ -268,11 +282,11 @@ module _ (reset : ReqId) where
   nobody_begun Thaw req p b = staged_begun req stages.Thawed (numbered 1 p) refl b
   nobody_begun Removal req p b = b
 
-  pub begin_begun : (t : ℕ) (kind : WalkKind) (dev : DevId) (threads : ThreadSet) (req : Option ReqId) (c : Change) → BegunIn c.part → BegunIn (begin_walk t kind dev threads req c).part
-  begin_begun t kind dev threads req c b = begun_cond (is_nobody threads) _ _ (nobody_begun kind req c.part b) b
+  pub begin_begun : (t : ℕ) (kind : WalkKind) (dev : DevId) (threads : ThreadSet) (req : Option ReqId) (time : ℕ) (c : Change) → BegunIn c.part → BegunIn (begin_walk_with t kind dev threads req time c).part
+  begin_begun t kind dev threads req time c b = begun_cond (is_nobody threads) _ _ (nobody_begun kind req c.part b) b
 
   after_begun : (t : ℕ) (w : OpenWalk) (kind : WalkKind) (c : Change) → BegunIn c.part → BegunIn (after_walk t w kind c).part
-  after_begun t w Freeze c b = begin_begun t Drain w.dev (drain_threads c.part w.request) w.request (record { part = staged w.request stages.Draining c.part; moves = c.moves }) (staged_begun w.request stages.Draining c.part refl b)
+  after_begun t w Freeze c b = begin_begun t Drain w.dev (drain_threads c.part w.request) w.request 0 (record { part = staged w.request stages.Draining c.part; moves = c.moves }) (staged_begun w.request stages.Draining c.part refl b)
   after_begun t w Drain c b = staged_begun w.request stages.Drained c.part refl b
   after_begun t w Thaw c b = staged_begun w.request stages.Thawed c.part refl b
   after_begun t w Removal c b = b
@@ -286,7 +300,7 @@ module _ (reset : ReqId) where
 
   went_begun : (t : ℕ) (req : ReqId) (threads : ThreadSet) (x : Option Resetting) (c : Change) → BegunIn c.part → BegunIn (went t req threads x c).part
   went_begun t req threads None c b = b
-  went_begun t req threads (Some r) c b = begin_begun t Freeze r.dev threads (Some req) (record { part = freezes req threads c.part; moves = c.moves }) (freezes_begun req threads c.part b)
+  went_begun t req threads (Some r) c b = begin_begun t Freeze r.dev threads (Some req) r.time (record { part = freezes req threads c.part; moves = c.moves }) (freezes_begun req threads c.part b)
 
   told_begun : (t : ℕ) (told : News) (c : Change) → BegunIn c.part → BegunIn (told_walk t told c).part
   told_begun t (news.Go req threads) c b = went_begun t req threads (reset_of c.part req) c b
@@ -294,6 +308,8 @@ module _ (reset : ReqId) where
   told_begun t (news.Gone handle) c b = b
   told_begun t (news.Channel dev) c b = b
   told_begun t (news.Device dev) c b = b
+  told_begun t (news.Grow dev blocks) c b = b
+  told_begun t (news.Sized handle blocks) c b = b
 
   taken_begun : (setup : Setup) (t : ℕ) (what : Token) (p : Part) (x : Option Kept) (id : Id) → BegunIn p → BegunIn (taken_by setup t what p x id).part
   taken_begun setup t what p None id b = none what
@@ -316,15 +332,15 @@ module _ (reset : ReqId) where
   dropped_begun t dev _ p b = b
 
   removing_begun : (setup : Setup) (t : ℕ) (a : Answer) (p : Part) → BegunIn p → BegunIn (removing setup t a p).part
-  removing_begun setup t (answers.Removing dev threads handles destruct) p b = begin_begun t Removal dev threads None (alone (with_due _ p)) b
+  removing_begun setup t (answers.Removing dev threads handles destruct) p b = begin_begun t Removal dev threads None 0 (alone (with_due _ p)) b
   removing_begun setup t _ p b = b
 
   reset_begun_begun : (t : ℕ) (dev : DevId) (req : ReqId) (a : Answer) (p : Part) → (req ≡ reset → mine reset p.resets ≡ []) → BegunIn p → BegunIn (reset_begun t dev req a p).part
-  reset_begun_begun t dev req (answers.ResetStarted threads) p none b = begin_begun t Freeze dev threads (Some req) (alone (with_reset req dev stages.Freezing threads p)) (appended_begun req dev stages.Freezing threads p none b)
+  reset_begun_begun t dev req (answers.ResetStarted threads) p none b = begin_begun t Freeze dev threads (Some req) (drain_time p req) (alone (with_reset req dev stages.Freezing threads p)) (appended_begun req dev stages.Freezing threads p none b)
   reset_begun_begun t dev req _ p none b = appended_begun req dev stages.Queued (record { 0 = 0 }) p none b
 
   thaws_begun : (t : ℕ) (dev : DevId) (a : Answer) (p : Part) → BegunIn p → BegunIn (reset_thaws t dev a p).part
-  thaws_begun t dev (answers.ResetEnded threads) p b = begin_begun t Thaw dev threads (first_req p.resets dev stages.Drained) (alone (advanced dev stages.Drained stages.Thawing p)) (advanced_begun dev stages.Drained stages.Thawing p refl b)
+  thaws_begun t dev (answers.ResetEnded threads) p b = begin_begun t Thaw dev threads (first_req p.resets dev stages.Drained) 0 (alone (advanced dev stages.Drained stages.Thawing p)) (advanced_begun dev stages.Drained stages.Thawing p refl b)
   thaws_begun t dev _ p b = b
 
   finishes_begun : (dev : DevId) (a : Answer) (p : Part) → BegunIn p → BegunIn (reset_finishes dev a p)
@@ -334,6 +350,14 @@ module _ (reset : ReqId) where
   injection_begun : (v : View) (req : ReqId) (a : Answer) → BegunIn v.part → BegunIn (injection_taken v req a).part
   injection_begun v req (answers.Injected decision) b = b
   injection_begun v req _ b = b
+
+  resizing_begun : (blocks : ℕ) (a : Answer) (p : Part) → BegunIn p → BegunIn (resizing blocks a p)
+  resizing_begun blocks (answers.Resizing dev home) p b = b
+  resizing_begun blocks _ p b = b
+
+  resized_begun : (a : Answer) (p : Part) → BegunIn p → BegunIn (resized a p)
+  resized_begun (answers.Resized handles blocks destruct) p b = b
+  resized_begun _ p b = b
 
   -- where an event begins this reset, the thread has no row of it
   abbrev pub BeginsNew : Act → Part → Type 0
@@ -351,6 +375,8 @@ module _ (reset : ReqId) where
   reg_begun setup t v came (events.FinishReset dev) a new b = finishes_begun dev a v.part b
   reg_begun setup t v came (events.TakeInjection dev req op) a new b = injection_begun v req a b
   reg_begun setup t v came (events.Destructed dev) a new b = begun_leaves (paid (owes.Report dev) v.part) _ (freed_leaves a (paid (owes.Report dev) v.part)) b
+  reg_begun setup t v came (events.BeginResize name blocks) a new b = resizing_begun blocks a (decided_by came a v.part) b
+  reg_begun setup t v came (events.EndResize dev) a new b = resized_begun a (paid (owes.EndResize dev) v.part) b
   reg_begun setup t v came _ a new b = b
 
   -- the reset is completed
@@ -372,6 +398,8 @@ module _ (reset : ReqId) where
   begun_stays setup t v (acts.Took source number what) came open_yet new b = taken_begun setup t what (taken_before v.part source number) came.message (id_of source t number what) b
   begun_stays setup t v (acts.Reg event a) came open_yet new b = reg_begun setup t v came event a new b
   begun_stays setup t v (acts.Apply req k dev end) came open_yet new b = begun_leaves v.part _ (applied_leaves v req k dev end (size_of setup dev) (piece_here v req k) (base_here v dev)) b
-  begun_stays setup t v (acts.Visit walk dev kind) came open_yet new b = walked_if_begun t walk (marked_by setup t v dev kind) (walk_here v walk) (begun_leaves v.part _ (marked_leaves setup t v dev kind) b)
+  begun_stays setup t v (acts.Visit walk dev kind) came open_yet new b = walked_if_begun t walk (marked_by setup t v walk dev kind) (walk_here v walk) (begun_leaves v.part _ (marked_leaves setup t v walk dev kind) b)
   begun_stays setup t v (acts.Abort req cause) came open_yet new b = begun_leaves v.part _ (stopped_leaves setup v.part req (request_here v req)) b
+  begun_stays setup t v (acts.Grace walk until) came open_yet new b = begun_leaves v.part _ (remarked_leaves (softened walk v.part.prior) (with_until until) v.part) b
+  begun_stays setup t v (acts.Due walk now) came open_yet new b = begun_leaves v.part _ (ended_leaves walk now v.part) b
   begun_stays setup t v _ came open_yet new b = b

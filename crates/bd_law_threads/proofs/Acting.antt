@@ -23,6 +23,8 @@ use Rattle.bd_law_logs.specs.Turning.{put_to, took_all, HasItsMessage, AreRowsOf
 use Rattle.bd_law_logs.proofs.Turning.{turn_is_accepted}
 use Rattle.bd_law_served.specs.Served.{served_by, served_led, served_on, ServedPiece}
 use Rattle.bd_law_served.proofs.Rows.{served_rows_on}
+use Rattle.bd_law_held.specs.Held.{held_by, held_led, held_on, Holding}
+use Rattle.bd_law_held.proofs.Rows.{held_rows_on}
 use Rattle.bd_law_threads.specs.Course.{acts_of, all_rows, restamped, stamp_of, take_stamps, AreNotAbove, Course, IsCourse, Phase}
 use Rattle.bd_law_threads.specs.Steps.{ActsOn, AnyStamp, GoesOn, IsLonger}
 use Rattle.bd_law_threads.proofs.Lists.{lower_on, not_above_on}
@@ -85,6 +87,7 @@ module _ (setup : Setup) (t : ℕ) (p : Phase) (c : Course) (l l' : Local) (f : 
     sent = c.sent;
     seen = c.seen ++ events (f ∷ []);
     served = λ dev. c.served dev ++ served_led setup t dev l (f ∷ []);
+    held = c.held ++ held_led setup t l (f ∷ []);
     last = c.last + 1;
   }
 
@@ -224,6 +227,15 @@ module _ (setup : Setup) (t : ℕ) (p : Phase) (c : Course) (l l' : Local) (f : 
         (ap₂ (λ (b : Bool) (e : Entry). served_on setup b t dev p.from c.rows ++ (served_by dev l.view e.act ++ [])) (sym a.shut_is) (sym entry_is)
         ∙ sym (served_rows_on setup l'.shared.shut t dev p.from c.rows l.view (r ∷ []) accepted))
 
+    -- and so is what it held
+    held_more : c.held ++ held_led setup t l (f ∷ []) ≡ p.held ++ held_on setup l'.shared.shut t p.from (c.rows ++ r ∷ [])
+    held_more =
+        ap (λ (xs : List Holding). xs ++ held_led setup t l (f ∷ [])) h.held
+        ∙ append_assoc p.held (held_on setup l.shared.shut t p.from c.rows) (held_led setup t l (f ∷ []))
+        ∙ ap (λ (xs : List Holding). p.held ++ xs)
+        (ap₂ (λ (b : Bool) (e : Entry). held_on setup b t p.from c.rows ++ (held_by l.view.here e.act ++ [])) (sym a.shut_is) (sym entry_is)
+        ∙ sym (held_rows_on setup l'.shared.shut t p.from c.rows l.view (r ∷ []) accepted))
+
     -- the course with the row
     goes_on_by : IsCourse setup t p course_more l'
     goes_on_by = record {
@@ -256,6 +268,7 @@ module _ (setup : Setup) (t : ℕ) (p : Phase) (c : Course) (l l' : Local) (f : 
       wrote = subst (λ (rs : List Row). entries_of t (c.seen ++ events (f ∷ [])) ≡ events (entries rs)) whole wrote_more;
       followed = subst (λ (rs : List Row). events_by t (followed_from setup (registry_at_start setup) (c.seen ++ events (f ∷ []))) ≡ events_in rs) whole followed_more;
       served = served_more;
+      held = held_more;
     }
 
 -- ---- one entry
@@ -285,6 +298,7 @@ one setup t p c l l' e leads h =
         last = refl;
       };
       served = λ dev. refl;
+      held = refl;
       is_course = goes_on_by setup t p c l l' (next_entry t c e.act) r refl refl a h;
     }
     by (r ∷ s ∷ rs) a = (let bad : r.entry ∷ s.entry ∷ entries rs ≡ next_entry t c e.act ∷ [] = a.entries_are in cc)
@@ -316,6 +330,7 @@ acts_on setup t p c l l' [] leads h = record {
     last = omega arith;
   };
   served = λ dev. sym (append-nil (c.served dev));
+  held = sym (append-nil c.held);
   is_course = subst (λ (x : Local). IsCourse setup t p c x) leads h;
 }
 acts_on setup t p c l l' (e ∷ es) leads h =
@@ -331,6 +346,11 @@ acts_on setup t p c l l' (e ∷ es) leads h =
           ∙ ap (λ (xs : List ServedPiece). xs ++ served_led setup t dev (local_after setup t l e) es) (first.served dev)
           ∙ append_assoc (c.served dev) (served_led setup t dev l (e ∷ [])) (served_led setup t dev (local_after setup t l e) es)
           ∙ ap (λ (xs : List ServedPiece). c.served dev ++ (xs ++ served_led setup t dev (local_after setup t l e) es)) (append-nil (served_by dev l.view e.act)));
+      held =
+          then.held
+          ∙ ap (λ (xs : List Holding). xs ++ held_led setup t (local_after setup t l e) es) first.held
+          ∙ append_assoc c.held (held_led setup t l (e ∷ [])) (held_led setup t (local_after setup t l e) es)
+          ∙ ap (λ (xs : List Holding). c.held ++ (xs ++ held_led setup t (local_after setup t l e) es)) (append-nil (held_by l.view.here e.act));
       is_course = then.is_course;
     }
 
@@ -357,4 +377,5 @@ any_stamp setup t p c l stamp h = record {
   wrote = h.wrote;
   followed = h.followed;
   served = h.served;
+  held = h.held;
 }

@@ -39,6 +39,7 @@ course_begins setup told t = record {
   wrote = refl;
   followed = refl;
   served = λ dev. refl;
+  held = refl;
 }
 
 -- ---- a stamp
@@ -72,6 +73,7 @@ stamps_are_met setup t p c l last le h = record {
   wrote = h.wrote;
   followed = h.followed;
   served = h.served;
+  held = h.held;
 }
 
 -- ---- messages
@@ -139,4 +141,5 @@ arrivals_are_met setup t p c l posts last le within senders h = record {
   wrote = h.wrote;
   followed = h.followed;
   served = h.served;
+  held = h.held;
 }

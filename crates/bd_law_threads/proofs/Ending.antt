@@ -25,9 +25,11 @@ use Rattle.bd_law_logs.specs.Loose.{FitLoosely}
 use Rattle.bd_law_logs.specs.Turning.{HasItsMessage, put_to}
 use Rattle.bd_law_logs.proofs.Restamped.{loose_logs_are_complete_run, loose_logs_end_as_seen}
 use Rattle.bd_law_served.specs.Served.{served_on}
+use Rattle.bd_law_held.specs.Held.{held_on}
+use Rattle.bd_law_held.proofs.Restamped.{merge_holds_as_seen}
 use Rattle.bd_law_served.proofs.Restamped.{merge_serves_as_seen}
 use Rattle.bd_law_threads.specs.Course.{all_rows, Course, IsCourse}
-use Rattle.bd_law_threads.specs.Ends.{phase_after, AreDelivered, AreEnded, BasesEndAsSeen, CoursesAreCompleteRun, CoursesEndAsSeen, CoursesServeAsSeen, IsJournalOf}
+use Rattle.bd_law_threads.specs.Ends.{phase_after, AreDelivered, AreEnded, BasesEndAsSeen, CoursesAreCompleteRun, CoursesEndAsSeen, CoursesHoldAsSeen, CoursesServeAsSeen, IsJournalOf}
 use Rattle.bd_law_threads.proofs.Delivered.{absent_passed, none_passed, others_passed, own_passed, Passed}
 use Rattle.bd_law_threads.proofs.Journaled.{events_seen, journal_found}
 use Rattle.bd_law_threads.proofs.Rows.{none_followed}
@@ -227,3 +229,11 @@ courses_serve_as_seen setup told stamp firsts marks logs cs ls journal merged en
     merge_serves_as_seen setup told logs journal merged (shut setup told stamp firsts marks logs cs ls ended journal) (fits setup told stamp firsts marks logs cs ls ended delivered journal j) merge t dev lt
     ∙ ap₂ (λ (b c : Bool). served_on setup false t dev (view_at_start setup told t) (firsts t) ++ served_on setup b t dev (marks t) (cond c (cs t).rows [])) (sym (ended.shut t lt)) (lt-ltb t setup.threads lt)
     ∙ sym ((ended.courses t lt).served dev)
+
+-- **and hold as seen**
+pub courses_hold_as_seen : CoursesHoldAsSeen
+unfolding shut
+courses_hold_as_seen setup told stamp firsts marks logs cs ls journal merged ended delivered j merge t lt =
+    merge_holds_as_seen setup told logs journal merged (shut setup told stamp firsts marks logs cs ls ended journal) (fits setup told stamp firsts marks logs cs ls ended delivered journal j) merge t lt
+    ∙ ap₂ (λ (b c : Bool). held_on setup false t (view_at_start setup told t) (firsts t) ++ held_on setup b t (marks t) (cond c (cs t).rows [])) (sym (ended.shut t lt)) (lt-ltb t setup.threads lt)
+    ∙ sym (ended.courses t lt).held

@@ -94,4 +94,5 @@ others_are_followed setup t p c l added sees none h = record {
   wrote = own_same setup t p c l added sees none h ∙ h.wrote;
   followed = events_same setup t p c l added sees none h;
   served = h.served;
+  held = h.held;
 }

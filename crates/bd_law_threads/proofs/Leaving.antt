@@ -69,4 +69,5 @@ departures_are_stamped setup t p c l posts queues none same goes h = record {
   wrote = h.wrote;
   followed = h.followed;
   served = h.served;
+  held = h.held;
 }

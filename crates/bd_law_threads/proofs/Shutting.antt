@@ -147,4 +147,5 @@ shutdown_begins_a_phase setup t p c l stamp above h = record {
       ∙ ap (λ (js : List Event). js ++ events_in (shutdown_of stamp t)) h.followed
       ∙ sym (parts_later (all_rows p c) stamp t events_in events_in_on);
   served = λ dev. sym (append-nil (c.served dev));
+  held = sym (append-nil c.held);
 }

@@ -18,6 +18,7 @@ use Rattle.bd_law_logs.specs.Fits.{events_in}
 use Rattle.bd_law_logs.specs.Loose.{put_stamps, AreLower}
 use Rattle.bd_law_logs.specs.Turning.{HasItsMessage, put_to, took_all}
 use Rattle.bd_law_served.specs.Served.{served_on, ServedPiece}
+use Rattle.bd_law_held.specs.Held.{held_on, Holding}
 
 -- ---- entries with the log's stamps
 
@@ -34,15 +35,16 @@ restamped thread last (act ∷ acts) = record { stamp = last + 1; thread = threa
 
 -- ---- what was done
 
--- a thread's course has two phases, before and after the Shutdown: the rows before this one, the pieces that each of its base devices served until then, what the thread saw when the phase began, and a stamp below those of its rows
+-- a thread's course has two phases, before and after the Shutdown: the rows before this one, the pieces that each of its base devices served until then, the requests that it held until then, what the thread saw when the phase began, and a stamp below those of its rows
 pub record Phase : Type 0 where
   pub earlier : List Row
   pub served : DevId → List ServedPiece
+  pub held : List Holding
   pub from : View
   pub since : ℕ
 
 -- the rows of the phase; all messages that came into the thread's queue, each with its stamp (one that the thread put to itself has its entry's); of those, the ones taken from its ring; what was put into the ring to each thread
--- the rows of the journal that its registry followed; the pieces that each of its base devices served since the start; and the last stamp
+-- the rows of the journal that its registry followed; the pieces that each of its base devices served since the start; the requests that it held since then; and the last stamp
 pub record Course : Type 0 where
   pub rows : List Row
   pub arrived : List Post
@@ -50,6 +52,7 @@ pub record Course : Type 0 where
   pub sent : ℕ → List Post
   pub seen : List Entry
   pub served : DevId → List ServedPiece
+  pub held : List Holding
   pub last : ℕ
 
 -- the rows of both phases
@@ -105,3 +108,5 @@ pub record IsCourse (setup : Setup) (t : ℕ) (p : Phase) (c : Course) (l : Loca
   pub followed : events_by t (followed_from setup (registry_at_start setup) c.seen) ≡ events_in (all_rows p c)
   -- what its base devices served is what they served until the phase began, and then what its rows say
   pub served : (dev : DevId) → c.served dev ≡ p.served dev ++ served_on setup l.shared.shut t dev p.from c.rows
+  -- and so it is with the requests that it held
+  pub held : c.held ≡ p.held ++ held_on setup l.shared.shut t p.from c.rows

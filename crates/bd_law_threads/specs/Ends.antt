@@ -22,6 +22,7 @@ use Rattle.bd_law_logs.specs.Journals.{events, IsReplay}
 use Rattle.bd_law_logs.specs.Fits.{IsMergeOf}
 use Rattle.bd_law_logs.specs.Laws.{shutdown_of, AreAllTaken, AreSpent, IsSeenAs}
 use Rattle.bd_law_served.specs.Served.{served_from, served_on}
+use Rattle.bd_law_held.specs.Held.{held_from, held_on}
 use Rattle.bd_law_threads.specs.Course.{all_rows, Course, IsCourse, Phase}
 
 -- ---- the mark
@@ -33,13 +34,13 @@ pub record Rests (setup : Setup) (t : ℕ) (v : View) : Type 0 where
   pub closed : list_any (is_left_open_in setup v) v.handles ≡ false
   pub resting : (id : Id) → is_resting_here setup t v id (v.here id) ≡ true
 
--- the rows of each thread before the Shutdown, and what each saw then: all rested and were blocked, and every message was taken; thread 0's last entry took no injection
+-- the rows of each thread before the Shutdown, and what each saw then: all rested and were blocked, and every message was taken; thread 0's last entry took no injection, set no soft mark and let no device grow
 pub record AreMarked (setup : Setup) (told : Told) (stamp : ℕ) (firsts : ℕ → List Row) (marks : ℕ → View) : Type 0 where
   pub positive : 0 < stamp
   pub accepted : (t : ℕ) → t < setup.threads → Accepts setup false t (view_at_start setup told t) (firsts t) (marks t)
   pub early : (t : ℕ) → t < setup.threads → AllByRecursion (λ r. r.entry.stamp < stamp) (firsts t)
   pub rested : (t : ℕ) → t < setup.threads → Rests setup t (marks t)
-  pub untaken : (marks 0).part.injection ≡ None
+  pub untaken : (marks 0).part.prior ≡ None
   pub all_taken : AreAllTaken setup.threads marks
   pub blocked : AreBlocked setup marks
 
@@ -48,6 +49,7 @@ abbrev pub phase_after : Setup → Told → ℕ → (ℕ → List Row) → (ℕ 
 phase_after setup told stamp firsts marks t = record {
   earlier = firsts t ++ shutdown_of stamp t;
   served = λ dev. served_on setup false t dev (view_at_start setup told t) (firsts t);
+  held = held_on setup false t (view_at_start setup told t) (firsts t);
   from = marks t;
   since = stamp;
 }
@@ -105,3 +107,9 @@ abbrev pub CoursesServeAsSeen : Type 0
 CoursesServeAsSeen = (setup : Setup) (told : Told) (stamp : ℕ) (firsts : ℕ → List Row) (marks : ℕ → View) (logs : ℕ → List Row) (cs : ℕ → Course) (ls : ℕ → Local) (journal merged : List Entry)
     → AreEnded setup told stamp firsts marks logs cs ls → AreDelivered setup.threads cs → IsJournalOf setup logs cs journal → IsMergeOf logs merged
     → (t : ℕ) (dev : DevId) → t < setup.threads → served_from setup t dev (start setup told) merged ≡ (cs t).served dev
+
+-- and so are the requests that a thread held in it
+abbrev pub CoursesHoldAsSeen : Type 0
+CoursesHoldAsSeen = (setup : Setup) (told : Told) (stamp : ℕ) (firsts : ℕ → List Row) (marks : ℕ → View) (logs : ℕ → List Row) (cs : ℕ → Course) (ls : ℕ → Local) (journal merged : List Entry)
+    → AreEnded setup told stamp firsts marks logs cs ls → AreDelivered setup.threads cs → IsJournalOf setup logs cs journal → IsMergeOf logs merged
+    → (t : ℕ) → t < setup.threads → held_from setup t (start setup told) merged ≡ (cs t).held

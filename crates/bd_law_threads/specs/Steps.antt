@@ -19,16 +19,17 @@ use Rattle.bd_law_logs.specs.Rows.{message_of, entries}
 use Rattle.bd_law_logs.specs.Journals.{events, registry_by}
 use Rattle.bd_law_logs.specs.Laws.{shutdown_of}
 use Rattle.bd_law_served.specs.Served.{served_led}
+use Rattle.bd_law_held.specs.Held.{held_led}
 use Rattle.bd_law_threads.specs.Course.{acts_of, all_rows, restamped, Course, IsCourse, Phase}
 
 -- ---- the start
 
 -- before the Shutdown, from the start
 abbrev pub first_phase : Setup → Told → ℕ → Phase
-first_phase setup told t = record { earlier = []; served = λ dev. []; from = view_at_start setup told t; since = 0 }
+first_phase setup told t = record { earlier = []; served = λ dev. []; held = []; from = view_at_start setup told t; since = 0 }
 
 abbrev pub new_course : Course
-new_course = record { rows = []; arrived = []; taken = []; sent = λ r. []; seen = []; served = λ dev. []; last = 0 }
+new_course = record { rows = []; arrived = []; taken = []; sent = λ r. []; seen = []; served = λ dev. []; held = []; last = 0 }
 
 -- what a thread sees and has for itself before any entry
 abbrev pub local_at_start : Setup → Told → ℕ → Local
@@ -74,6 +75,7 @@ pub record GoesOn (setup : Setup) (t : ℕ) (p : Phase) (c : Course) (es : List 
   pub course : Course
   pub longer : IsLonger t c (restamped t c.last (acts_of es)) course
   pub served : (dev : DevId) → course.served dev ≡ c.served dev ++ served_led setup t dev l es
+  pub held : course.held ≡ c.held ++ held_led setup t l es
   pub is_course : IsCourse setup t p course l'
 
 -- what the thread did by the local rules, with its log's next stamps
@@ -122,7 +124,7 @@ CatchesUp = (setup : Setup) (t : ℕ) (p : Phase) (c : Course) (l : Local) (adde
 
 -- after the Shutdown with this stamp
 abbrev pub second_phase : ℕ → ℕ → Phase → Course → Local → Phase
-second_phase stamp t p c l = record { earlier = all_rows p c ++ shutdown_of stamp t; served = c.served; from = l.view; since = stamp }
+second_phase stamp t p c l = record { earlier = all_rows p c ++ shutdown_of stamp t; served = c.served; held = c.held; from = l.view; since = stamp }
 
 abbrev pub course_then : ℕ → ℕ → Course → Course
 course_then stamp t c = record c { rows = []; seen = cond (t == 0) (c.seen ++ shutdown_at stamp ∷ []) c.seen; last = stamp }

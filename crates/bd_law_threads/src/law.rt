@@ -1,6 +1,6 @@
 //! The laws of courses. Each function says one of them: its body is empty, and its clause is the law,
 //! which the definitions alone prove.
-ghost use Rattle.bd_law_threads.specs.Ends.{BasesEndAsSeen, CoursesAreCompleteRun, CoursesEndAsSeen, CoursesServeAsSeen};
+ghost use Rattle.bd_law_threads.specs.Ends.{BasesEndAsSeen, CoursesAreCompleteRun, CoursesEndAsSeen, CoursesHoldAsSeen, CoursesServeAsSeen};
 ghost use Rattle.bd_law_threads.specs.Steps.{ActsOn, AnyStamp, Arrives, Begins, CatchesUp, GoesOut, Meets, ShutsDown};
 
 /// A thread begins with an empty course.
@@ -61,4 +61,9 @@ pub fn bases_end_as_seen()
 /// The pieces that a thread's base devices served in it are those of the thread's course.
 pub fn courses_serve_as_seen()
     ensures { CoursesServeAsSeen }
+{}
+
+/// The requests that a thread held in it are those of the thread's course.
+pub fn courses_hold_as_seen()
+    ensures { CoursesHoldAsSeen }
 {}

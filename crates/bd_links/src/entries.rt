@@ -1,12 +1,13 @@
 //! The list of the entries of a thread's turn.
-ghost use Rattle.std.specs.Prelude.{◌≡◌, ◌<◌, IfSome, OnOk, length};
+ghost use Rattle.std.specs.Prelude.{◌≡◌, ◌<◌, IfSome, OnErr, OnOk, length};
 ghost use Rattle.bd_links.specs.Entries.{longer, next_stamp};
 
 use bd_base::{Act, Entry, OutOfMemory, Rows};
 
-/// Adds what a thread did to the list, with the next stamp.
+/// Adds what a thread did to the list, with the next stamp; out of memory, the list stays as it was.
 pub fn add(entries: &mut Rows<Entry>, thread: u32, act: Act) -> Result<(), OutOfMemory>
-    ensures { OnOk result (entries.new ≡ longer thread entries.old act) }
+    ensures ok { OnOk result (entries.new ≡ longer thread entries.old act) }
+    ensures err { OnErr result (entries.new ≡ entries.old) }
 {
     let stamp = entries.len() as u128 + 1;
     entries.push(Entry { stamp, thread, act })

@@ -25,12 +25,12 @@ use Rattle.bd_machine.specs.Asked.{asks_submission}
 use Rattle.bd_machine.specs.Marks.{is_removed, is_removed_below}
 use Rattle.bd_machine.specs.declared.state.Handle.{Handle}
 use Rattle.bd_machine.specs.BlockMap.{below}
-use Rattle.bd_machine.specs.Changes.{devices_after, with_standing, with_reset, with_waiting, without_next, less_injection, registry_after}
+use Rattle.bd_machine.specs.Changes.{devices_after, with_standing, with_reset, with_waiting, without_next, less_injection, begun_growing, grown_to, registry_after}
 use Rattle.bd_machine.specs.Claims.{open_refusal}
 use Rattle.bd_machine.specs.Destruction.{is_removing_of, is_accept_over, AcceptedWhereUnmarked, reaches, DestructedAtMostOnce, DestructedWhereFree, RemovedIsOutOfReach}
 use Rattle.bd_machine.specs.Homes.{is_home, has_destructed, is_called_for, is_told}
 use Rattle.bd_machine.specs.Laws.{is_destruct_of, count_of, one_if}
-use Rattle.bd_machine.specs.Registry.{Question, is_live, is_live_standing, standing_if_any, is_free, are_live, open_answer, device_named, refused_or, holders_on, references, is_born_frozen, made, handle_of}
+use Rattle.bd_machine.specs.Registry.{Question, is_live, is_live_standing, standing_if_any, is_free, are_live, open_answer, device_named, refused_or, holders_on, references, is_born_frozen, made, handle_of, size_now}
 use Rattle.bd_machine.specs.Requests.{is_device_of}
 use Rattle.bd_machine.specs.Run.{IsRunFrom, after_all, state_after}
 use Rattle.bd_machine.specs.Same.{same_dev, same_answer}
@@ -102,6 +102,8 @@ stays_gone devices (events.EndReset dev) (answers.ResetEnded threads) k h = gone
 stays_gone devices (events.FinishReset dev) (answers.ResetFinished (Some next)) k h = gone_at devices dev.0 k without_next (λ d g. g) h
 stays_gone devices (events.FinishReset dev) (answers.ResetFinished None) k h = gone_at devices dev.0 k (with_reset resets.Idle) (λ d g. g) h
 stays_gone devices (events.TakeInjection dev req op) (answers.Injected decision) k h = gone_at devices dev.0 k (less_injection op) (λ d g. g) h
+stays_gone devices (events.BeginResize name blocks) (answers.Resizing dev home) k h = gone_at devices dev.0 k (begun_growing blocks) (λ d g. g) h
+stays_gone devices (events.EndResize dev) (answers.Resized handles blocks destruct) k h = gone_at devices dev.0 k (grown_to blocks) (λ d g. g) h
 stays_gone devices _ _ k h = h
 
 gone_by : (setup : Setup) (r : Registry) (t : ℕ) (q : Option Question) (k : ℕ) → Gone r.devices k → Gone (registry_after setup r t q).devices k
@@ -161,15 +163,18 @@ not_all_live setup r d dev gone lower = go (are_live setup r d) refl
     go true e = absurd (differ (one_of_all (is_live r) (below setup d) dev e lower) gone)
     go false e = refl
 
-pub not_opened : (setup : Setup) (r : Registry) (write : Bool) (o : Option ℕ) (id-is : Answer) (d dev : DevId) → is_live r dev ≡ false → is_below setup d dev ≡ true → (n : ℕ) → same_answer (answers.Opened (record { 0 = n }) d) (open_answer setup r write o) ≡ true → ⊥
-not_opened setup r write None a d dev gone lower n h = cc
-not_opened setup r write (Some m) a d dev gone lower n h = go (are_live setup r (record { 0 = m })) refl h
+pub not_opened : (setup : Setup) (r : Registry) (write : Bool) (o : Option ℕ) (id-is : Answer) (d dev : DevId) → is_live r dev ≡ false → is_below setup d dev ≡ true → (n blocks : ℕ) → same_answer (answers.Opened (record { 0 = n }) d blocks) (open_answer setup r write o) ≡ true → ⊥
+not_opened setup r write None a d dev gone lower n blocks h = cc
+not_opened setup r write (Some m) a d dev gone lower n blocks h = go (are_live setup r (record { 0 = m })) refl h
   where
-    refused : (o : Option Errno) → same_answer (answers.Opened (record { 0 = n }) d) (refused_or o (answers.Opened (record { 0 = r.next }) (record { 0 = m }))) ≡ true → same_dev d (record { 0 = m }) ≡ true
-    refused None h = (and_parts (n == r.next) (d.0 == m) h).1
+    opened : Answer
+    opened = answers.Opened (record { 0 = r.next }) (record { 0 = m }) (size_now setup r (record { 0 = m }))
+
+    refused : (o : Option Errno) → same_answer (answers.Opened (record { 0 = n }) d blocks) (refused_or o opened) ≡ true → same_dev d (record { 0 = m }) ≡ true
+    refused None h = (and_parts (n == r.next) (d.0 == m) (and_parts ((n == r.next) && (d.0 == m)) (blocks == size_now setup r (record { 0 = m })) h).0).1
     refused (Some errno) h = cc
 
-    go : (b : Bool) → are_live setup r (record { 0 = m }) ≡ b → same_answer (answers.Opened (record { 0 = n }) d) (cond b (refused_or (open_refusal write (holders_on r (record { 0 = m }))) (answers.Opened (record { 0 = r.next }) (record { 0 = m }))) (answers.Refused NoDev)) ≡ true → ⊥
+    go : (b : Bool) → are_live setup r (record { 0 = m }) ≡ b → same_answer (answers.Opened (record { 0 = n }) d blocks) (cond b (refused_or (open_refusal write (holders_on r (record { 0 = m }))) opened) (answers.Refused NoDev)) ≡ true → ⊥
     go true e h =
         let same : d ≡ record { 0 = m } = dev_exact d (record { 0 = m }) (refused (open_refusal write (holders_on r (record { 0 = m }))) h) in
         differ (subst (λ (x : DevId). are_live setup r x ≡ true) (sym same) e) (not_all_live setup r d dev gone lower)
@@ -184,8 +189,8 @@ got setup r d dev fresh frozen a gone lower true e h = differ e (not_all_live se
 got setup r d dev fresh frozen a gone lower false e h = cc
 
 out : (setup : Setup) (s : State) (t : ℕ) (act : Act) (dev : DevId) → is_live s.registry dev ≡ false → Passes (guards_in setup s t act) → reaches setup dev act ≡ true → ⊥
-out setup s t (acts.Reg (events.Open name write) (answers.Opened id d)) dev gone h e =
-    not_opened setup s.registry write (device_named setup name) (answers.Opened id d) d dev gone e id.0 (passed (guards_in setup s t (acts.Reg (events.Open name write) (answers.Opened id d))) h).0
+out setup s t (acts.Reg (events.Open name write) (answers.Opened id d blocks)) dev gone h e =
+    not_opened setup s.registry write (device_named setup name) (answers.Opened id d blocks) d dev gone e id.0 blocks (passed (guards_in setup s t (acts.Reg (events.Open name write) (answers.Opened id d blocks))) h).0
 out setup s t (acts.Reg (events.GetChannel d) (answers.Got fresh frozen)) dev gone h e =
     got setup s.registry d dev fresh frozen (answers.Got (is_none (references s.registry t d)) (filter (λ d. is_born_frozen (slice_get s.registry.devices d.0)) (made (references s.registry t) (below setup d)))) gone e (are_live setup s.registry d) refl (passed (guards_in setup s t (acts.Reg (events.GetChannel d) (answers.Got fresh frozen))) h).0
 out setup s t _ dev gone h e = never e
@@ -230,7 +235,7 @@ unmarked_by setup s t (acts.Accept d lba handle req op count) dev h e =
     on (handle_of v.handles handle) own (admitted b ok.1.0) (later (is_gone v.part handle) (is_on_removed setup v.part (handle_of v.handles handle)) (none b ok.1.0))
   where
     refused : Option Errno
-    refused = refusal_on setup (handle_of (view s t).handles handle) op lba count
+    refused = refusal_on setup (view s t).part (handle_of (view s t).handles handle) op lba count
 
     none : (b : Bool) → is_none (cond b (Some NoDev) refused) ≡ true → b ≡ false
     none true k = cc
@@ -244,7 +249,7 @@ unmarked_by setup s t (acts.Accept d lba handle req op count) dev h e =
     later true b e = cc
     later false b e = e
 
-    on : (o : Option Handle) → is_device_of d o ≡ true → is_none (refusal_on setup o op lba count) ≡ true → is_on_removed setup (part_of s t) o ≡ false → is_removed (part_of s t) dev ≡ false
+    on : (o : Option Handle) → is_device_of d o ≡ true → is_none (refusal_on setup (view s t).part o op lba count) ≡ true → is_on_removed setup (part_of s t) o ≡ false → is_removed (part_of s t) dev ≡ false
     on None k fine g = cc
     on (Some x) k fine g = none_of_any (is_removed (part_of s t)) (below setup d) dev (subst (λ (y : DevId). is_removed_below setup (part_of s t) y ≡ false) (dev_exact x.dev d k) g) e
 unmarked_by setup s t _ dev h e = never e

@@ -50,7 +50,7 @@ first_path_setup = record {
 
 abbrev pub first_path : List Entry
 first_path =
-    at 1 0 (acts.Reg (events.Open (codes "Malloc0") true) (answers.Opened (handle 0) (dev 0))) ∷
+    at 1 0 (acts.Reg (events.Open (codes "Malloc0") true) (answers.Opened (handle 0) (dev 0) 4)) ∷
     at 2 0 (acts.Reg (events.GetChannel (dev 0)) (answers.Got true [])) ∷
     at 3 0 (acts.Script 1 outcomes.Done) ∷
     at 4 0 (acts.Accept (dev 0) 0 (handle 0) (req 0 0) (write 5) 1) ∷
@@ -113,7 +113,7 @@ after_first n = after_all first_path_setup (start first_path_setup []) (take n f
 
 -- a request that isn't there is kept without an answer; a reset that the line doesn't ask for
 not_asked : (refusal first_path_setup (after_first 0) (at 100 0 (acts.Pend (req 0 0))) ≡ Some 13)
-    × (refusal first_path_setup (after_first 3) (at 100 0 (acts.Accept (dev 0) 0 (handle 0) (req 0 0) ops.Reset 0)) ≡ Some 8)
+    × (refusal first_path_setup (after_first 3) (at 100 0 (acts.Accept (dev 0) 0 (handle 0) (req 0 0) (ops.Reset 0) 0)) ≡ Some 8)
 unfolding after
 not_asked = (refl, refl)
 

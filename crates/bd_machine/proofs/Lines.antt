@@ -78,6 +78,7 @@ next_stays setup t v act came still = go (is_plain act) refl
     others (acts.Accept dev lba handle req op count) e = refl
     others (acts.Destruct dev digest) e = refl
     others (acts.Tick dev now slices) e = refl
+    others (acts.Grow dev blocks) e = refl
     others (acts.Apply req k dev end) e = applied_next v req k dev end (size_of setup dev) (piece_here v req k) (base_here v dev)
     others _ e = cc
 

@@ -39,7 +39,7 @@ use Rattle.bd_machine.specs.Aborts.{stopped}
 use Rattle.bd_machine.specs.Asked.{owes_removal}
 use Rattle.bd_machine.specs.Admission.{is_gone}
 use Rattle.bd_machine.specs.BlockMap.{below, home}
-use Rattle.bd_machine.specs.Events.{decided_by, paid, owing, with_due, alone, closed_by, born, all_born, got_by, put_down_by, put_paid, dropped_by, removal_paid, with_reset, advanced, reset_finishes, freed_by, channel_due, removing, reset_begun, reset_thaws, injection_taken, change_reg, first_req}
+use Rattle.bd_machine.specs.Events.{decided_by, paid, owing, with_due, alone, closed_by, born, all_born, got_by, put_down_by, put_paid, dropped_by, removal_paid, with_reset, advanced, reset_finishes, freed_by, drain_time, resizing, resized, device_due, destruct_of, channel_due, removing, reset_begun, reset_thaws, injection_taken, change_reg, first_req}
 use Rattle.bd_machine.specs.Changes.{is_dropped}
 use Rattle.bd_machine.specs.Guards.{change_by}
 use Rattle.bd_machine.specs.Homes.{is_base, without_last}
@@ -49,7 +49,10 @@ use Rattle.bd_machine.specs.Limits.{arrived, departed, next_limited, waits_at, i
 use Rattle.bd_machine.specs.Timeslices.{Timing, timing_of, timings}
 use Rattle.bd_machine.specs.declared.state.Limited.{Limited}
 use Rattle.bd_base.specs.declared.request.Way.{Way}
-use Rattle.bd_machine.specs.Marks.{remarked, frozen_as, freeze_set, removal_set}
+use Rattle.bd_machine.specs.declared.state.FreezeMark.TheVariants.{Not}
+use Rattle.bd_machine.specs.declared.state.Marking.{Marking}
+use Rattle.bd_machine.specs.Grace.{dev_if_any, ended, ending_mark, remarked_if_any, softened}
+use Rattle.bd_machine.specs.Marks.{remarked, with_frozen, with_until, hardened, freeze_set, removal_set}
 use Rattle.bd_machine.specs.Messages.{queued, bases_took, request_took, told_part, freezes, went, told_walk, taken_by, arrived_walk, closed_notice}
 use Rattle.bd_machine.specs.Registry.{made, device_named}
 use Rattle.bd_machine.specs.Same.{same_request}
@@ -57,7 +60,7 @@ use Rattle.bd_machine.specs.Table.{change_first, write}
 use Rattle.bd_machine.specs.Threads.{is_nobody}
 use Rattle.bd_machine.specs.Users.{is_base_handle}
 use Rattle.bd_machine.specs.View.{View, Came, Change, id_of}
-use Rattle.bd_machine.specs.Walks.{staged, numbered, over_nobody, begin_walk, after_walk, is_at_end, walked, drain_threads, put_owed, marked_by, visited, walked_if_any, reset_of}
+use Rattle.bd_machine.specs.Walks.{staged, numbered, over_nobody, begin_walk_with, begin_walk, after_walk, is_at_end, walked, drain_threads, put_owed, time_of_walk, marked_by, visited, walked_if_any, reset_of}
 
 -- what most acts leave of a part
 pub record Core : Type 0 where
@@ -131,8 +134,8 @@ put_down_keeps t dev _ p = record { rest = refl; walks = refl }
 
 dropped_keeps : (t : ℕ) (dev : DevId) (a : Answer) (p : Part) → Keeps p (dropped_by t dev a p)
 dropped_keeps t dev (answers.Dropped what zero destruct) p =
-    let q : Part = cond (is_dropped what) (remarked dev (frozen_as false) p) p in
-    keeps_then p q (with_due (channel_due t zero) q) (keeps_cond (is_dropped what) p (remarked dev (frozen_as false) p) p (record { rest = refl; walks = refl }) (record { rest = refl; walks = refl })) (record { rest = refl; walks = refl })
+    let q : Part = cond (is_dropped what) (remarked dev (with_frozen Not) p) p in
+    keeps_then p q (with_due (channel_due t zero) q) (keeps_cond (is_dropped what) p (remarked dev (with_frozen Not) p) p (record { rest = refl; walks = refl }) (record { rest = refl; walks = refl })) (record { rest = refl; walks = refl })
 dropped_keeps t dev _ p = record { rest = refl; walks = refl }
 
 pub removal_paid_keeps : (came : Came) (a : Answer) (o : Option ℕ) (p : Part) → Keeps p (removal_paid came a o p)
@@ -156,11 +159,12 @@ staged_keeps (Some req) stage p = record { rest = refl; walks = refl }
 put_owed_keeps : (setup : Setup) (t : ℕ) (dev : DevId) (p : Part) → Keeps p (put_owed setup t dev p)
 put_owed_keeps setup t dev p = keeps_cond (is_limited setup dev && (home setup dev == t)) p (owing (owes.Put dev) p) p (record { rest = refl; walks = refl }) (record { rest = refl; walks = refl })
 
-pub marked_keeps : (setup : Setup) (t : ℕ) (v : View) (dev : DevId) (kind : WalkKind) → Keeps v.part (marked_by setup t v dev kind)
-marked_keeps setup t v dev Freeze = keeps_cond _ v.part (remarked dev freeze_set v.part) v.part (record { rest = refl; walks = refl }) (record { rest = refl; walks = refl })
-marked_keeps setup t v dev Drain = record { rest = refl; walks = refl }
-marked_keeps setup t v dev Thaw = record { rest = refl; walks = refl }
-marked_keeps setup t v dev Removal = keeps_then v.part (remarked dev removal_set v.part) (put_owed setup t dev (remarked dev removal_set v.part)) (record { rest = refl; walks = refl }) (put_owed_keeps setup t dev (remarked dev removal_set v.part))
+pub marked_keeps : (setup : Setup) (t : ℕ) (v : View) (walk : WalkId) (dev : DevId) (kind : WalkKind) → Keeps v.part (marked_by setup t v walk dev kind)
+marked_keeps setup t v walk dev Freeze =
+    keeps_cond _ v.part (remarked dev (freeze_set walk (time_of_walk (walk_here v walk))) v.part) v.part (record { rest = refl; walks = refl }) (record { rest = refl; walks = refl })
+marked_keeps setup t v walk dev Drain = record { rest = refl; walks = refl }
+marked_keeps setup t v walk dev Thaw = record { rest = refl; walks = refl }
+marked_keeps setup t v walk dev Removal = keeps_then v.part (remarked dev removal_set v.part) (put_owed setup t dev (remarked dev removal_set v.part)) (record { rest = refl; walks = refl }) (put_owed_keeps setup t dev (remarked dev removal_set v.part))
 
 abbrev with_timings : Part → List Timing → Core
 with_timings p rows = record { put = p.put; next_request = p.next_request; destructed = p.destructed; contents = stored p.bases; taken = p.taken; next = p.next; timings = rows; requests = p.requests }
@@ -200,6 +204,17 @@ told_keeps setup (news.Gone handle) p = record { rest = refl; walks = refl }
 told_keeps setup (news.Channel dev) p = record { rest = refl; walks = refl }
 told_keeps setup (news.Device dev) p = record { rest = refl; walks = refl }
 told_keeps setup (news.Go req threads) p = record { rest = refl; walks = refl }
+told_keeps setup (news.Grow dev blocks) p = record { rest = refl; walks = refl }
+told_keeps setup (news.Sized handle blocks) p = record { rest = refl; walks = refl }
+
+remarked_if_keeps : (o : Option DevId) (f : Marking → Marking) (p : Part) → Keeps p (remarked_if_any o f p)
+remarked_if_keeps None f p = record { rest = refl; walks = refl }
+remarked_if_keeps (Some dev) f p = record { rest = refl; walks = refl }
+
+ended_keeps : (walk : WalkId) (now : ℕ) (p : Part) → Keeps p (ended walk now p)
+ended_keeps walk now p =
+    let q : Part = remarked_if_any (dev_if_any (ending_mark p walk)) hardened p in
+    keeps_then p q (ended walk now p) (remarked_if_keeps (dev_if_any (ending_mark p walk)) hardened p) (record { rest = refl; walks = refl })
 
 -- ---- walks
 
@@ -216,14 +231,14 @@ nobody_grows Drain req p = staged_grows 1 req stages.Drained p
 nobody_grows Thaw req p = staged_grows 1 req stages.Thawed p
 nobody_grows Removal req p = record { rest = refl; walks = more p.next_walk 1 }
 
-pub begin_grows : (t : ℕ) (kind : WalkKind) (dev : DevId) (threads : ThreadSet) (req : Option ReqId) (c : Change) → Grows c.part (begin_walk t kind dev threads req c).part
-begin_grows t kind dev threads req c =
+pub begin_grows : (t : ℕ) (kind : WalkKind) (dev : DevId) (threads : ThreadSet) (req : Option ReqId) (time : ℕ) (c : Change) → Grows c.part (begin_walk_with t kind dev threads req time c).part
+begin_grows t kind dev threads req time c =
     grows_cond (is_nobody threads) c.part _ _ (nobody_grows kind req c.part) (record { rest = refl; walks = more c.part.next_walk 1 })
 
 pub after_grows : (t : ℕ) (w : OpenWalk) (kind : WalkKind) (c : Change) → Grows c.part (after_walk t w kind c).part
 after_grows t w Freeze c =
     let d : Change = record { part = staged w.request stages.Draining c.part; moves = c.moves } in
-    grows_then c.part d.part (begin_walk t Drain w.dev (drain_threads c.part w.request) w.request d).part (staged_keeps w.request stages.Draining c.part) (begin_grows t Drain w.dev (drain_threads c.part w.request) w.request d)
+    grows_then c.part d.part (begin_walk t Drain w.dev (drain_threads c.part w.request) w.request d).part (staged_keeps w.request stages.Draining c.part) (begin_grows t Drain w.dev (drain_threads c.part w.request) w.request 0 d)
 after_grows t w Drain c = grows_of c.part _ (staged_keeps w.request stages.Drained c.part)
 after_grows t w Thaw c = grows_of c.part _ (staged_keeps w.request stages.Thawed c.part)
 after_grows t w Removal c = record { rest = refl; walks = le_of_eq refl }
@@ -239,7 +254,7 @@ went_grows : (t : ℕ) (req : ReqId) (threads : ThreadSet) (x : Option Resetting
 went_grows t req threads None c = record { rest = refl; walks = le_of_eq refl }
 went_grows t req threads (Some r) c =
     let d : Change = record { part = freezes req threads c.part; moves = c.moves } in
-    grows_then c.part d.part (begin_walk t Freeze r.dev threads (Some req) d).part (record { rest = refl; walks = refl }) (begin_grows t Freeze r.dev threads (Some req) d)
+    grows_then c.part d.part (begin_walk_with t Freeze r.dev threads (Some req) r.time d).part (record { rest = refl; walks = refl }) (begin_grows t Freeze r.dev threads (Some req) r.time d)
 
 told_walk_grows : (t : ℕ) (told : News) (c : Change) → Grows c.part (told_walk t told c).part
 told_walk_grows t (news.Go req threads) c = went_grows t req threads (reset_of c.part req) c
@@ -247,6 +262,8 @@ told_walk_grows t (news.Mark mark) c = record { rest = refl; walks = le_of_eq re
 told_walk_grows t (news.Gone handle) c = record { rest = refl; walks = le_of_eq refl }
 told_walk_grows t (news.Channel dev) c = record { rest = refl; walks = le_of_eq refl }
 told_walk_grows t (news.Device dev) c = record { rest = refl; walks = le_of_eq refl }
+told_walk_grows t (news.Grow dev blocks) c = record { rest = refl; walks = le_of_eq refl }
+told_walk_grows t (news.Sized handle blocks) c = record { rest = refl; walks = le_of_eq refl }
 
 -- ---- bases whose queue alone changes
 
@@ -281,24 +298,33 @@ taken_grows setup t _ p _ id = record { rest = refl; walks = le_of_eq refl }
 removing_grows : (setup : Setup) (t : ℕ) (a : Answer) (p : Part) → Grows p (removing setup t a p).part
 removing_grows setup t (answers.Removing dev threads handles destruct) p =
     let c : Change = alone (with_due _ p) in
-    grows_then p c.part (begin_walk t Removal dev threads None c).part (record { rest = refl; walks = refl }) (begin_grows t Removal dev threads None c)
+    grows_then p c.part (begin_walk t Removal dev threads None c).part (record { rest = refl; walks = refl }) (begin_grows t Removal dev threads None 0 c)
 removing_grows setup t _ p = record { rest = refl; walks = le_of_eq refl }
 
 reset_begun_grows : (t : ℕ) (dev : DevId) (req : ReqId) (a : Answer) (p : Part) → Grows p (reset_begun t dev req a p).part
 reset_begun_grows t dev req (answers.ResetStarted threads) p =
     let c : Change = alone (with_reset req dev stages.Freezing threads p) in
-    grows_then p c.part (begin_walk t Freeze dev threads (Some req) c).part (record { rest = refl; walks = refl }) (begin_grows t Freeze dev threads (Some req) c)
+    let time : ℕ = drain_time p req in
+    grows_then p c.part (begin_walk_with t Freeze dev threads (Some req) time c).part (record { rest = refl; walks = refl }) (begin_grows t Freeze dev threads (Some req) time c)
 reset_begun_grows t dev req _ p = record { rest = refl; walks = le_of_eq refl }
 
 reset_thaws_grows : (t : ℕ) (dev : DevId) (a : Answer) (p : Part) → Grows p (reset_thaws t dev a p).part
 reset_thaws_grows t dev (answers.ResetEnded threads) p =
     let c : Change = alone (advanced dev stages.Drained stages.Thawing p) in
-    grows_then p c.part (begin_walk t Thaw dev threads (first_req p.resets dev stages.Drained) c).part (record { rest = refl; walks = refl }) (begin_grows t Thaw dev threads (first_req p.resets dev stages.Drained) c)
+    grows_then p c.part (begin_walk t Thaw dev threads (first_req p.resets dev stages.Drained) c).part (record { rest = refl; walks = refl }) (begin_grows t Thaw dev threads (first_req p.resets dev stages.Drained) 0 c)
 reset_thaws_grows t dev _ p = record { rest = refl; walks = le_of_eq refl }
 
 injection_grows : (v : View) (req : ReqId) (a : Answer) → Grows v.part (injection_taken v req a).part
 injection_grows v req (answers.Injected decision) = record { rest = refl; walks = le_of_eq refl }
 injection_grows v req _ = record { rest = refl; walks = le_of_eq refl }
+
+resizing_keeps : (blocks : ℕ) (a : Answer) (p : Part) → Keeps p (resizing blocks a p)
+resizing_keeps blocks (answers.Resizing dev home) p = record { rest = refl; walks = refl }
+resizing_keeps blocks _ p = record { rest = refl; walks = refl }
+
+resized_keeps : (a : Answer) (p : Part) → Keeps p (resized a p)
+resized_keeps (answers.Resized handles blocks destruct) p = record { rest = refl; walks = refl }
+resized_keeps _ p = record { rest = refl; walks = refl }
 
 pub reg_grows : (setup : Setup) (t : ℕ) (v : View) (came : Came) (event : RegEvent) (a : Answer) → Grows v.part (change_reg setup t v came event a).part
 reg_grows setup t v came (events.Open name write) a = record { rest = refl; walks = le_of_eq refl }
@@ -321,22 +347,30 @@ reg_grows setup t v came (events.FinishReset dev) a = grows_of v.part _ (finishe
 reg_grows setup t v came (events.TakeInjection dev req op) a = injection_grows v req a
 reg_grows setup t v came (events.Destructed dev) a =
     grows_of v.part _ (keeps_then v.part (paid (owes.Report dev) v.part) _ (record { rest = refl; walks = refl }) (freed_keeps a (paid (owes.Report dev) v.part)))
+reg_grows setup t v came (events.BeginResize name blocks) a =
+    let p : Part = decided_by came a v.part in
+    grows_of v.part _ (keeps_then v.part p (resizing blocks a p) (decided_keeps came a v.part) (resizing_keeps blocks a p))
+reg_grows setup t v came (events.EndResize dev) a =
+    let p : Part = paid (owes.EndResize dev) v.part in
+    let q : Part = resized a p in
+    grows_of v.part _ (keeps_then v.part p _ (record { rest = refl; walks = refl }) (keeps_then p q (with_due (device_due setup (destruct_of a)) q) (resized_keeps a p) (record { rest = refl; walks = refl })))
 
 -- ---- acts
 
--- an act other than Put, Accept, Apply, Destruct and Tick
+-- an act other than Put, Accept, Apply, Destruct, Tick and Grow
 abbrev pub is_plain : Act → Bool
 is_plain (acts.Put to number what) = false
 is_plain (acts.Accept dev lba handle req op count) = false
 is_plain (acts.Apply req k dev end) = false
 is_plain (acts.Destruct dev digest) = false
 is_plain (acts.Tick dev now slices) = false
+is_plain (acts.Grow dev blocks) = false
 is_plain _ = true
 
-pub visit_grows : (setup : Setup) (t : ℕ) (v : View) (walk : WalkId) (dev : DevId) (kind : WalkKind) → Grows v.part (walked_if_any t walk (marked_by setup t v dev kind) (walk_here v walk)).part
+pub visit_grows : (setup : Setup) (t : ℕ) (v : View) (walk : WalkId) (dev : DevId) (kind : WalkKind) → Grows v.part (walked_if_any t walk (marked_by setup t v walk dev kind) (walk_here v walk)).part
 visit_grows setup t v walk dev kind =
-    let p : Part = marked_by setup t v dev kind in
-    grows_then v.part p (walked_if_any t walk p (walk_here v walk)).part (marked_keeps setup t v dev kind) (walked_if_grows t walk p (walk_here v walk))
+    let p : Part = marked_by setup t v walk dev kind in
+    grows_then v.part p (walked_if_any t walk p (walk_here v walk)).part (marked_keeps setup t v walk dev kind) (walked_if_grows t walk p (walk_here v walk))
 
 -- how many messages were taken from each thread, after an act
 abbrev pub taken_by_act : Act → List (ℕ × ℕ) → List (ℕ × ℕ)
@@ -363,6 +397,7 @@ plain_grows setup t v (acts.Accept dev lba handle req op count) came h = cc
 plain_grows setup t v (acts.Apply req k dev end) came h = cc
 plain_grows setup t v (acts.Destruct dev digest) came h = cc
 plain_grows setup t v (acts.Tick dev now slices) came h = cc
+plain_grows setup t v (acts.Grow dev blocks) came h = cc
 plain_grows setup t v (acts.Let req dev now) came h =
     let bytes : ℕ = bytes_if_any setup (request_here v req) in
     let way : Option Way = way_if_any (request_here v req) in
@@ -375,4 +410,6 @@ plain_grows setup t v (acts.Reg event a) came h = reg_grows setup t v came event
 plain_grows setup t v (acts.NoMem req k dev) came h = record { rest = ap (with_contents v.part) (queue_contents dev without_last (λ b. refl) v.part.bases); walks = le_of_eq refl }
 plain_grows setup t v (acts.Abort req cause) came h = grows_of v.part _ (stopped_keeps setup v.part req (request_here v req))
 plain_grows setup t v (acts.Visit walk dev kind) came h = visit_grows setup t v walk dev kind
+plain_grows setup t v (acts.Grace walk until) came h = grows_of v.part _ (remarked_if_keeps (softened walk v.part.prior) (with_until until) v.part)
+plain_grows setup t v (acts.Due walk now) came h = grows_of v.part _ (ended_keeps walk now v.part)
 plain_grows setup t v _ came h = record { rest = refl; walks = le_of_eq refl }

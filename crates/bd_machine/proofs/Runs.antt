@@ -11,7 +11,7 @@ use Rattle.bd_machine.specs.declared.state.Place.TheVariants.{At, Ring, Nowhere}
 use Rattle.bd_machine.specs.declared.state.State.{State}
 use Rattle.bd_machine.specs.declared.state.Tracked.{Tracked}
 use Rattle.bd_machine.specs.Content.{Told}
-use Rattle.bd_machine.specs.Laws.{PrefixIsRun, StepIsDetermined, ContentChangesByApply, CompletedStaysClosed, EachIsCompletedOnce, EachIsDestructedOnce, OwnViewFollows, OtherViewsStay, AllOn, is_accept_of, is_complete_of, count_of, one_if, stored, stored_at}
+use Rattle.bd_machine.specs.Laws.{PrefixIsRun, StepIsDetermined, ContentChangesAtHome, CompletedStaysClosed, EachIsCompletedOnce, EachIsDestructedOnce, OwnViewFollows, OtherViewsStay, AllOn, is_accept_of, is_complete_of, count_of, one_if, stored, stored_at}
 use Rattle.bd_machine.specs.Placement.{place_of}
 use Rattle.bd_machine.specs.Rest.{is_nowhere}
 use Rattle.bd_machine.specs.Run.{IsRun, IsRunFrom, after_all, state_after}
@@ -37,9 +37,9 @@ prefix_is_run setup told es fs run = prefix_from setup (start setup told) es fs 
 pub step_is_determined : StepIsDetermined
 step_is_determined setup s e s1 s2 a b = a.1 ∙ sym b.1
 
-pub content_changes_by_apply : ContentChangesByApply
+pub content_changes_at_home : ContentChangesAtHome
 unfolding after
-content_changes_by_apply setup s e allowed still t = go (cases_eq e.thread t)
+content_changes_at_home setup s e allowed still t = go (cases_eq e.thread t)
   where
     change_of : Change
     change_of = change_in setup s e.thread e.act

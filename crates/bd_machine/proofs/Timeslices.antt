@@ -149,6 +149,7 @@ timing_kept setup t v act came dev h = go (is_plain act) refl
     others (acts.Put to number what) h e = refl
     others (acts.Accept d lba handle req op count) h e = refl
     others (acts.Destruct d digest) h e = refl
+    others (acts.Grow d blocks) h e = refl
     others (acts.Apply req k d end) h e = applied req k d end (size_of setup d) (piece_here v req k) (base_here v d)
     others (acts.Tick d now slices) h e = other_row d dev (ticked setup v.part.moments now slices) (ticked_dev setup v.part.moments now slices) h v.part.limited
     others _ h e = cc

@@ -29,11 +29,13 @@ use Rattle.bd_machine.specs.declared.state.Handle.{Handle}
 use Rattle.bd_machine.specs.declared.state.Owed.{Owed}
 use Rattle.bd_machine.specs.declared.state.Owed.TheVariants as owes
 use Rattle.bd_machine.specs.declared.state.Part.{Part}
+use Rattle.bd_machine.specs.declared.state.Prior.{Prior}
+use Rattle.bd_machine.specs.declared.state.Prior.TheVariants.{Growth}
 use Rattle.bd_machine.specs.declared.state.Resetting.{Resetting}
 use Rattle.bd_machine.specs.declared.state.Stage.{Stage}
 use Rattle.bd_machine.specs.declared.state.Stage.TheVariants as stages
 use Rattle.bd_machine.specs.declared.state.Submitted.{Submitted}
-use Rattle.bd_machine.specs.Admission.{is_gone}
+use Rattle.bd_machine.specs.Admission.{is_gone, size_of_handle}
 use Rattle.bd_machine.specs.Claims.{same_kind}
 use Rattle.bd_machine.specs.Injections.{asks_injection}
 use Rattle.bd_machine.specs.Kept.{request_here}
@@ -110,6 +112,10 @@ abbrev pub is_job_remove : List ℕ → Option Job → Bool
 is_job_remove name (Some (jobs.Remove dev)) = same_name dev name
 is_job_remove name _ = false
 
+abbrev pub is_job_resize : List ℕ → ℕ → Option Job → Bool
+is_job_resize name blocks (Some (jobs.Resize dev n)) = same_name dev name && (n == blocks)
+is_job_resize name blocks _ = false
+
 abbrev pub is_submitted_at : ℕ → Option HandleId → Submitted → Bool
 is_submitted_at line id s = (s.line == line) && is_the same_handle s.handle id
 
@@ -174,6 +180,11 @@ is_reset_at dev stage r = same_dev r.dev dev && same_stage r.stage stage
 abbrev pub has_reset_at : Part → DevId → Stage → Bool
 has_reset_at part dev stage = list_any (is_reset_at dev stage) part.resets
 
+-- the entry before let the device's content grow
+abbrev pub has_grown : DevId → Option Prior → Bool
+has_grown dev (Some (Growth d)) = same_dev d dev
+has_grown dev _ = false
+
 -- an event is asked where nothing else has to follow
 abbrev pub asks_freely : Setup → ℕ → View → Came → RegEvent → Bool
 asks_freely setup t v came (events.Open name write) = is_job_open v name write (job_now setup t v came)
@@ -189,6 +200,8 @@ asks_freely setup t v came (events.EndReset dev) = has_reset_at v.part dev stage
 asks_freely setup t v came (events.FinishReset dev) = has_reset_at v.part dev stages.Thawed
 asks_freely setup t v came (events.TakeInjection dev req op) = asks_injection setup t v dev req op (request_here v req)
 asks_freely setup t v came (events.Destructed dev) = owes_it v.part (owes.Report dev)
+asks_freely setup t v came (events.BeginResize name blocks) = is_job_resize name blocks (job_now setup t v came)
+asks_freely setup t v came (events.EndResize dev) = has_grown dev v.part.prior && owes_it v.part (owes.EndResize dev)
 
 abbrev pub is_get_of : DevId → RegEvent → Bool
 is_get_of dev (events.GetChannel d) = same_dev d dev
@@ -234,6 +247,15 @@ abbrev pub gone_outcome : Part → Option HandleId → Option Outcome
 gone_outcome part None = Some (outcomes.Errno BadDesc)
 gone_outcome part (Some id) = cond (is_gone part id) (Some outcomes.Done) None
 
+-- the device of an open handle has at least this number of blocks, as far as the thread was told
+abbrev pub grown_outcome : Part → ℕ → Option Handle → Option Outcome
+grown_outcome part blocks None = Some (outcomes.Errno NoDev)
+grown_outcome part blocks (Some h) = cond (nat_le blocks (size_of_handle part h)) (Some outcomes.Done) None
+
+abbrev pub sized_outcome : View → ℕ → Option HandleId → Option Outcome
+sized_outcome v blocks None = Some (outcomes.Errno BadDesc)
+sized_outcome v blocks (Some id) = grown_outcome v.part blocks (handle_of v.handles id)
+
 -- the outcome of a line that no entry decided, where it goes on
 abbrev pub undecided_outcome : View → Job → Option Outcome
 undecided_outcome v (jobs.Open handle dev write) = cond (is_open_handle v (bound_to v.part handle)) (Some (outcomes.Errno Exists)) None
@@ -246,6 +268,8 @@ undecided_outcome v (jobs.Sleep micros) = Some outcomes.Done
 undecided_outcome v (jobs.Post mark) = Some outcomes.Done
 undecided_outcome v (jobs.Await mark) = cond (has_mark v.part mark) (Some outcomes.Done) None
 undecided_outcome v (jobs.Gone handle) = gone_outcome v.part (bound_to v.part handle)
+undecided_outcome v (jobs.Resize dev blocks) = None
+undecided_outcome v (jobs.Sized handle blocks) = sized_outcome v blocks (bound_to v.part handle)
 
 abbrev pub outcome_by : View → Option Decided → Job → Option Outcome
 outcome_by v None job = undecided_outcome v job
@@ -255,11 +279,12 @@ outcome_by v (Some d) job = Some (decided_outcome d)
 abbrev pub outcome_due : Setup → ℕ → View → Option Outcome
 outcome_due setup t v = option_and_then (λ line. outcome_by v v.part.decided line.job) (next_line setup t v.part)
 
--- a line that may wait for good: for a mark, a remove event, the open requests, or room
+-- a line that may wait for good: for a mark, a remove event, a size, the open requests, or room
 abbrev pub is_waiting_job : Part → Job → Bool
 is_waiting_job part jobs.Wait = true
 is_waiting_job part (jobs.Await mark) = true
 is_waiting_job part (jobs.Gone handle) = true
+is_waiting_job part (jobs.Sized handle blocks) = true
 is_waiting_job part (jobs.Submit handle op lba count) = nat_le most_requests (length part.requests)
 is_waiting_job part _ = false
 

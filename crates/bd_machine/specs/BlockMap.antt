@@ -1,5 +1,6 @@
 -- Which base block lies under a block of a device.
-use Rattle.std.specs.Prelude.{◌≡◌, ℕ, ◌<◌, zero, suc, ◌+◌, ◌%◌, Bool, true, false, ◌&&◌, ◌==◌, List, [], ◌∷◌, length, map, Option, Some, None, slice_get}
+use Rattle.std.specs.Prelude.{◌≡◌, ℕ, ◌<◌, zero, suc, ◌+◌, ◌%◌, Bool, true, false, ◌&&◌, ◌||◌, ◌==◌, List, [], ◌∷◌, length, map, Option, Some, None, slice_get}
+use Rattle.std.specs.List.{list_all}
 use Rattle.bd_base.specs.declared.id.DevId.{DevId}
 use Rattle.bd_base.specs.declared.device.Kind.{Kind}
 use Rattle.bd_base.specs.declared.device.Kind.TheVariants as kinds
@@ -51,6 +52,10 @@ abbrev pub is_malloc_kind : Kind → Bool
 is_malloc_kind kinds.Malloc = true
 is_malloc_kind _ = false
 
+abbrev pub is_null_kind : Kind → Bool
+is_null_kind kinds.Null = true
+is_null_kind _ = false
+
 abbrev pub is_base_kind : Kind → Bool
 is_base_kind kinds.Malloc = true
 is_base_kind kinds.Null = true
@@ -64,6 +69,13 @@ is_error_kind _ = false
 abbrev pub is_delay_kind : Kind → Bool
 is_delay_kind (kinds.Delay average_read p99_read average_write p99_write) = true
 is_delay_kind _ = false
+
+-- it has each block of the device that it stands on, under the same number
+abbrev pub is_whole_kind : Kind → Bool
+is_whole_kind kinds.Passthru = true
+is_whole_kind (kinds.Delay average_read p99_read average_write p99_write) = true
+is_whole_kind kinds.Error = true
+is_whole_kind _ = false
 
 abbrev pub has_kind : (Kind → Bool) → Option DevRow → Bool
 has_kind is None = false
@@ -135,11 +147,22 @@ is_aio setup dev = has_kind is_aio_kind (row_of setup (base_of setup dev))
 abbrev pub is_malloc : Setup → DevId → Bool
 is_malloc setup dev = has_kind is_malloc_kind (row_of setup dev)
 
+abbrev pub is_null : Setup → DevId → Bool
+is_null setup dev = has_kind is_null_kind (row_of setup dev)
+
 abbrev pub is_error : Setup → DevId → Bool
 is_error setup dev = has_kind is_error_kind (row_of setup dev)
 
 abbrev pub is_delay : Setup → DevId → Bool
 is_delay setup dev = has_kind is_delay_kind (row_of setup dev)
+
+-- it is this base device, or has each block of the device that it stands on
+abbrev pub is_whole_or : Setup → DevId → DevId → Bool
+is_whole_or setup base dev = (dev.0 == base.0) || has_kind is_whole_kind (row_of setup dev)
+
+-- the device has each block of this base device: it is it, or stands on it with no part in between
+abbrev pub is_over : Setup → DevId → DevId → Bool
+is_over setup base dev = ((base_of setup dev).0 == base.0) && list_all (is_whole_or setup base) (below setup dev)
 
 -- b is the block after a on the same base
 abbrev pub follows : Block → Block → Bool

@@ -114,7 +114,7 @@ change_hold setup v req until = record {
 
 -- ---- Release
 
--- its moment has come, and no visit set a mark of a device below since it was held
+-- its moment has come, and since it was held no mark of a device below was set that stops whatever waits
 abbrev pub is_hold_over : ℕ → ℕ → Hold → Bool
 is_hold_over now times (holds.Until moment marked) = nat_le moment now && (marked == times)
 is_hold_over now times _ = false

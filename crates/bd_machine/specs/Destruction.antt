@@ -26,7 +26,7 @@ is_removing_of dev _ = false
 
 -- an open or a get of a device that has this one below was answered
 abbrev pub reaches : Setup → DevId → Act → Bool
-reaches setup dev (acts.Reg (events.Open name write) (answers.Opened id d)) = is_below setup d dev
+reaches setup dev (acts.Reg (events.Open name write) (answers.Opened id d blocks)) = is_below setup d dev
 reaches setup dev (acts.Reg (events.GetChannel d) (answers.Got fresh frozen)) = is_below setup d dev
 reaches setup dev _ = false
 
@@ -40,6 +40,7 @@ abbrev pub named : Act → Option DevId
 named (acts.Reg (events.Close id) (answers.Closed destruct)) = destruct
 named (acts.Reg (events.DropChannel dev) (answers.Dropped what zero destruct)) = destruct
 named (acts.Reg (events.BeginRemove name) (answers.Removing dev threads handles destruct)) = destruct
+named (acts.Reg (events.EndResize dev) (answers.Resized handles blocks destruct)) = destruct
 named _ = None
 
 -- a request was accepted on a device that has this one below
@@ -53,7 +54,7 @@ is_accept_over setup dev _ = false
 abbrev pub DestructedAtMostOnce : Type 0
 DestructedAtMostOnce = (setup : Setup) (told : Told) (es : List Entry) → IsRun setup told es → (dev : DevId) → count_of (is_destruct_of dev) es ≤ 1
 
--- what is destructed is being removed, with neither handle nor channel
+-- what is destructed is being removed, with neither handle nor channel, and no resize of it is under way
 abbrev pub DestructedWhereFree : Type 0
 DestructedWhereFree = (setup : Setup) (s : State) (e : Entry)
     → IsAllowed setup s e → (dev : DevId) → is_destruct_of dev e.act ≡ true → is_free setup s.registry dev ≡ true
@@ -63,7 +64,7 @@ abbrev pub RemovedIsOutOfReach : Type 0
 RemovedIsOutOfReach = (setup : Setup) (told : Told) (es : List Entry) (e : Entry)
     → IsRun setup told (es ++ e ∷ []) → (dev : DevId) → 0 < count_of (is_removing_of dev) es → reaches setup dev e.act ≡ false
 
--- a device that an answer names is being removed, with neither handle nor channel
+-- a device that an answer names is being removed, with neither handle nor channel, and no resize of it is under way
 abbrev pub NamedIsFree : Type 0
 NamedIsFree = (setup : Setup) (s : State) (e : Entry)
     → IsAllowed setup s e → (dev : DevId) → is_the same_dev dev (named e.act) ≡ true → is_free setup (after setup s e).registry dev ≡ true

@@ -1,5 +1,5 @@
 -- Reg: the registry's answer is its own, and the event is asked; what an answer changes on the thread that asked.
-use Rattle.std.specs.Prelude.{ℕ, Bool, false, cond, ◌==◌, List, [], ◌∷◌, ◌++◌, map, Option, Some, None}
+use Rattle.std.specs.Prelude.{ℕ, Bool, cond, ◌==◌, List, [], ◌∷◌, ◌++◌, map, find, Option, Some, None}
 use Rattle.std.specs.List.{list_any}
 use Rattle.bd_base.specs.declared.event.Answer.{Answer}
 use Rattle.bd_base.specs.declared.event.Answer.TheVariants as answers
@@ -9,6 +9,8 @@ use Rattle.bd_base.specs.declared.id.DevId.{DevId}
 use Rattle.bd_base.specs.declared.id.HandleId.{HandleId}
 use Rattle.bd_base.specs.declared.id.ReqId.{ReqId}
 use Rattle.bd_base.specs.declared.id.ThreadId.{ThreadId}
+use Rattle.bd_base.specs.declared.request.Op.{Op}
+use Rattle.bd_base.specs.declared.request.Op.TheVariants as ops
 use Rattle.bd_base.specs.declared.request.WalkKind.TheVariants.{Freeze, Thaw, Removal}
 use Rattle.bd_base.specs.declared.setup.Setup.{Setup}
 use Rattle.bd_base.specs.declared.thread_set.ThreadSet.{ThreadSet}
@@ -16,8 +18,10 @@ use Rattle.bd_machine.specs.declared.guard.TheConstants.{REGISTRY_ANSWER, EVENT_
 use Rattle.bd_machine.specs.declared.state.Decided.{Decided}
 use Rattle.bd_machine.specs.declared.state.Decided.TheVariants as decisions
 use Rattle.bd_machine.specs.declared.state.Due.{Due}
+use Rattle.bd_machine.specs.declared.state.FreezeMark.TheVariants.{Not}
 use Rattle.bd_machine.specs.declared.state.News.{News}
 use Rattle.bd_machine.specs.declared.state.News.TheVariants as news
+use Rattle.bd_machine.specs.declared.state.Open.{Open}
 use Rattle.bd_machine.specs.declared.state.Owed.{Owed}
 use Rattle.bd_machine.specs.declared.state.Owed.TheVariants as owes
 use Rattle.bd_machine.specs.declared.state.Part.{Part}
@@ -31,12 +35,12 @@ use Rattle.bd_machine.specs.Changes.{is_dropped}
 use Rattle.bd_machine.specs.Delays.{uncounted}
 use Rattle.bd_machine.specs.Injections.{asked_once_more}
 use Rattle.bd_machine.specs.Kept.{request_here, edited}
-use Rattle.bd_machine.specs.Marks.{remarked, frozen_as}
+use Rattle.bd_machine.specs.Marks.{remarked, born_as, with_frozen}
 use Rattle.bd_machine.specs.Registry.{device_named, made}
-use Rattle.bd_machine.specs.Same.{same_answer, same_dev, same_owed, is_the}
+use Rattle.bd_machine.specs.Same.{same_answer, same_dev, same_owed, same_request, is_the}
 use Rattle.bd_machine.specs.Table.{without_first, write}
 use Rattle.bd_machine.specs.Users.{is_base_handle}
-use Rattle.bd_machine.specs.Walks.{begin_walk}
+use Rattle.bd_machine.specs.Walks.{begin_walk, begin_walk_with}
 use Rattle.bd_machine.specs.View.{View, Came, Change}
 
 abbrev pub guards_reg : Setup → ℕ → View → Came → RegEvent → Answer → List (ℕ × Bool)
@@ -48,10 +52,11 @@ guards_reg setup t v came event answer =
 
 -- what an answer decides of the line that asked
 abbrev pub decision_of : Answer → Option Decided
-decision_of (answers.Opened id dev) = Some (decisions.Opened id)
+decision_of (answers.Opened id dev blocks) = Some (decisions.Opened id)
 decision_of (answers.Closed destruct) = Some decisions.Closed
 decision_of answers.Claimed = Some decisions.Done
 decision_of (answers.Removing dev threads handles destruct) = Some decisions.Done
+decision_of (answers.Resizing dev home) = Some decisions.Done
 decision_of (answers.Refused errno) = Some (decisions.Refused errno)
 decision_of _ = None
 
@@ -100,11 +105,12 @@ abbrev pub destruct_of : Answer → Option DevId
 destruct_of (answers.Closed destruct) = destruct
 destruct_of (answers.Dropped what zero destruct) = destruct
 destruct_of (answers.Removing dev threads handles destruct) = destruct
+destruct_of (answers.Resized handles blocks destruct) = destruct
 destruct_of _ = None
 
 -- a channel that was made is frozen where the answer says so, and its delays count from 0
 abbrev pub born : List DevId → DevId → Part → Part
-born frozen dev part = record (remarked dev (frozen_as (list_any (same_dev dev) frozen)) part) { delayed = write same_dev part.delayed dev uncounted }
+born frozen dev part = record (remarked dev (with_frozen (born_as (list_any (same_dev dev) frozen))) part) { delayed = write same_dev part.delayed dev uncounted }
 
 abbrev pub all_born : List DevId → List DevId → Part → Part
 all_born frozen [] part = part
@@ -123,7 +129,7 @@ put_paid dev closing part = cond closing part (paid (owes.Put dev) part)
 
 -- the freeze mark goes with the channel
 abbrev pub dropped_by : ℕ → DevId → Answer → Part → Part
-dropped_by t dev (answers.Dropped what zero destruct) part = with_due (channel_due t zero) (cond (is_dropped what) (remarked dev (frozen_as false) part) part)
+dropped_by t dev (answers.Dropped what zero destruct) part = with_due (channel_due t zero) (cond (is_dropped what) (remarked dev (with_frozen Not) part) part)
 dropped_by t dev _ part = part
 
 -- ---- BeginRemove
@@ -141,11 +147,26 @@ removing setup t _ part = alone part
 
 -- ---- resets
 
+abbrev pub time_of_op : Op → ℕ
+time_of_op (ops.Reset time) = time
+time_of_op _ = 0
+
+abbrev pub time_if_any : Option Open → ℕ
+time_if_any None = 0
+time_if_any (Some o) = time_of_op o.op
+
+-- the drain time of an open reset
+abbrev pub drain_time : Part → ReqId → ℕ
+drain_time part req = time_if_any (find (λ o. same_request o.id req) part.requests)
+
 abbrev pub with_reset : ReqId → DevId → Stage → ThreadSet → Part → Part
-with_reset req dev stage threads part = record part { resets = part.resets ++ record { req = req; dev = dev; stage = stage; threads = threads } ∷ [] }
+with_reset req dev stage threads part = record part {
+  resets = part.resets ++ record { req = req; dev = dev; stage = stage; threads = threads; time = drain_time part req } ∷ [];
+}
 
 abbrev pub reset_begun : ℕ → DevId → ReqId → Answer → Part → Change
-reset_begun t dev req (answers.ResetStarted threads) part = begin_walk t Freeze dev threads (Some req) (alone (with_reset req dev stages.Freezing threads part))
+reset_begun t dev req (answers.ResetStarted threads) part =
+    begin_walk_with t Freeze dev threads (Some req) (drain_time part req) (alone (with_reset req dev stages.Freezing threads part))
 reset_begun t dev req _ part = alone (with_reset req dev stages.Queued (record { 0 = 0 }) part)
 
 abbrev pub first_req : List Resetting → DevId → Stage → Option ReqId
@@ -173,6 +194,21 @@ abbrev pub freed_by : Answer → Part → Part
 freed_by (answers.Freed (Some id)) part = owing (owes.Close id) part
 freed_by _ part = part
 
+-- ---- BeginResize, EndResize
+
+-- the home is told to let the content grow
+abbrev pub resizing : ℕ → Answer → Part → Part
+resizing blocks (answers.Resizing dev home) part = with_due (due_to home.0 (news.Grow dev blocks)) part
+resizing blocks _ part = part
+
+abbrev pub sized_due : ℕ → HandleId × ThreadId → Due
+sized_due blocks holder = record { receiver = holder.1.0; news = news.Sized holder.0 blocks }
+
+-- each handle's thread is told the new size
+abbrev pub resized : Answer → Part → Part
+resized (answers.Resized handles blocks destruct) part = with_due (map (sized_due blocks) handles) part
+resized _ part = part
+
 abbrev pub change_reg : Setup → ℕ → View → Came → RegEvent → Answer → Change
 change_reg setup t v came (events.Open name write) answer = alone (decided_by came answer v.part)
 change_reg setup t v came (events.Claim id kind) answer = alone (decided_by came answer v.part)
@@ -186,3 +222,5 @@ change_reg setup t v came (events.EndReset dev) answer = reset_thaws t dev answe
 change_reg setup t v came (events.FinishReset dev) answer = alone (reset_finishes dev answer v.part)
 change_reg setup t v came (events.TakeInjection dev req op) answer = injection_taken v req answer
 change_reg setup t v came (events.Destructed dev) answer = alone (freed_by answer (paid (owes.Report dev) v.part))
+change_reg setup t v came (events.BeginResize name blocks) answer = alone (resizing blocks answer (decided_by came answer v.part))
+change_reg setup t v came (events.EndResize dev) answer = alone (with_due (device_due setup (destruct_of answer)) (resized answer (paid (owes.EndResize dev) v.part)))

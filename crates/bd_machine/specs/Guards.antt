@@ -1,21 +1,28 @@
 -- The guards of each act, and what it changes, over what its thread sees and what came to it.
-use Rattle.std.specs.Prelude.{ℕ, Bool, true, List, [], Option, Some, None}
+use Rattle.std.specs.Prelude.{ℕ, Bool, true, false, cond, ◌&&◌, nat_lt, List, [], Option, Some, None, is_some}
 use Rattle.bd_base.specs.declared.act.Act.{Act}
 use Rattle.bd_base.specs.declared.act.Act.TheVariants as acts
 use Rattle.bd_base.specs.declared.event.Answer.TheVariants as answers
 use Rattle.bd_base.specs.declared.event.RegEvent.TheVariants as events
 use Rattle.bd_base.specs.declared.setup.Setup.{Setup}
-use Rattle.bd_machine.specs.declared.state.TakenInjection.{TakenInjection}
+use Rattle.bd_base.specs.declared.id.DevId.{DevId}
+use Rattle.bd_base.specs.declared.id.WalkId.{WalkId}
+use Rattle.bd_base.specs.declared.request.WalkKind.{WalkKind}
+use Rattle.bd_base.specs.declared.request.WalkKind.TheVariants.{Freeze}
+use Rattle.bd_machine.specs.declared.state.Prior.{Prior}
+use Rattle.bd_machine.specs.declared.state.Prior.TheVariants.{Injection, Softening, Growth}
 use Rattle.bd_machine.specs.Aborts.{guards_abort, change_abort}
 use Rattle.bd_machine.specs.Delays.{guards_hold, change_hold, guards_release, change_release}
 use Rattle.bd_machine.specs.Events.{guards_reg, change_reg}
-use Rattle.bd_machine.specs.Homes.{guards_apply, change_apply, guards_no_mem, change_no_mem, guards_destruct, change_destruct}
+use Rattle.bd_machine.specs.Grace.{guards_grace, change_grace, guards_due, change_due}
+use Rattle.bd_machine.specs.Homes.{guards_apply, change_apply, guards_no_mem, change_no_mem, guards_destruct, change_destruct, guards_grow, change_grow}
 use Rattle.bd_machine.specs.Injections.{guards_inject, change_inject, guards_pend, change_pend}
+use Rattle.bd_machine.specs.Kept.{walk_here}
 use Rattle.bd_machine.specs.Limits.{guards_let, change_let, guards_tick, change_tick}
 use Rattle.bd_machine.specs.Messages.{guards_put, change_put, guards_took, change_took}
 use Rattle.bd_machine.specs.Requests.{guards_accept, change_accept, guards_refuse, change_refuse, guards_cut, change_cut, guards_complete, change_complete}
 use Rattle.bd_machine.specs.Scripts.{guards_script, change_script}
-use Rattle.bd_machine.specs.Walks.{guards_visit, change_visit}
+use Rattle.bd_machine.specs.Walks.{guards_visit, change_visit, time_of_walk}
 use Rattle.bd_machine.specs.View.{View, Came, Change}
 
 -- every act is built; the first guard keeps its number for acts that aren't
@@ -46,6 +53,9 @@ guards setup t v (acts.Tick dev now slices) came = guards_tick setup t v dev now
 guards setup t v (acts.Destruct dev digest) came = guards_destruct setup t v came dev digest
 guards setup t v (acts.Script line outcome) came = guards_script setup t v came line outcome
 guards setup t v acts.Shutdown came = []
+guards setup t v (acts.Grow dev blocks) came = guards_grow setup t v dev blocks
+guards setup t v (acts.Grace walk until) came = guards_grace v walk until
+guards setup t v (acts.Due walk now) came = guards_due v walk now
 
 -- what an act changes, apart from what is noted for the next act
 abbrev pub change_by : Setup → ℕ → View → Act → Came → Change
@@ -69,15 +79,25 @@ change_by setup t v (acts.Tick dev now slices) came = change_tick setup v dev no
 change_by setup t v (acts.Destruct dev digest) came = change_destruct v dev
 change_by setup t v (acts.Script line outcome) came = change_script setup t v
 change_by setup t v acts.Shutdown came = record { part = v.part; moves = [] }
+change_by setup t v (acts.Grow dev blocks) came = change_grow setup v dev blocks
+change_by setup t v (acts.Grace walk until) came = change_grace v walk until
+change_by setup t v (acts.Due walk now) came = change_due v walk now
 
--- what an act took of an error device, for the Inject that follows
-abbrev pub taken_injection : Act → Option TakenInjection
-taken_injection (acts.Reg (events.TakeInjection dev req op) (answers.Injected decision)) = Some (record { req = req; dev = dev; decision = decision })
-taken_injection _ = None
+-- a visit of this walk sets a soft mark: a freeze walk with a drain time, and the thread has the channel
+abbrev pub softens : View → WalkId → DevId → WalkKind → Bool
+softens v walk dev Freeze = is_some (v.channels dev) && nat_lt 0 (time_of_walk (walk_here v walk))
+softens v walk dev _ = false
 
-abbrev pub noted : Option TakenInjection → Change → Change
-noted taken c = record { part = record c.part { injection = taken }; moves = c.moves }
+-- what an act is to the next one, which may have to follow it directly: the Inject, the Grace or the EndResize
+abbrev pub prior_by : View → Act → Option Prior
+prior_by v (acts.Reg (events.TakeInjection dev req op) (answers.Injected decision)) = Some (Injection (record { req = req; dev = dev; decision = decision }))
+prior_by v (acts.Visit walk dev kind) = cond (softens v walk dev kind) (Some (Softening walk dev)) None
+prior_by v (acts.Grow dev blocks) = Some (Growth dev)
+prior_by v _ = None
+
+abbrev pub noted : Option Prior → Change → Change
+noted prior c = record { part = record c.part { prior = prior }; moves = c.moves }
 
 -- what an act changes
 abbrev pub change : Setup → ℕ → View → Act → Came → Change
-change setup t v act came = noted (taken_injection act) (change_by setup t v act came)
+change setup t v act came = noted (prior_by v act) (change_by setup t v act came)

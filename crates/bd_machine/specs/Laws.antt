@@ -39,6 +39,11 @@ abbrev pub is_apply : Act → Bool
 is_apply (acts.Apply req k dev end) = true
 is_apply _ = false
 
+-- it may change the content of a device: an Apply, or a Grow
+abbrev pub is_at_content : Act → Bool
+is_at_content (acts.Grow dev blocks) = true
+is_at_content act = is_apply act
+
 abbrev pub one_if : Bool → ℕ
 one_if b = cond b 1 0
 
@@ -78,9 +83,9 @@ PrefixIsRun = (setup : Setup) (told : Told) (es fs : List Entry) → IsRun setup
 abbrev pub StepIsDetermined : Type 0
 StepIsDetermined = (setup : Setup) (s : State) (e : Entry) (s1 s2 : State) → IsStep setup s e s1 → IsStep setup s e s2 → s1 ≡ s2
 
--- an entry that isn't an Apply changes the content of no device
-abbrev pub ContentChangesByApply : Type 0
-ContentChangesByApply = (setup : Setup) (s : State) (e : Entry) → IsAllowed setup s e → is_apply e.act ≡ false → (t : ℕ) → stored_at (after setup s e) t ≡ stored_at s t
+-- an entry that is neither an Apply nor a Grow changes the content of no device
+abbrev pub ContentChangesAtHome : Type 0
+ContentChangesAtHome = (setup : Setup) (s : State) (e : Entry) → IsAllowed setup s e → is_at_content e.act ≡ false → (t : ℕ) → stored_at (after setup s e) t ≡ stored_at s t
 
 -- a request that was completed is nowhere from then on
 abbrev pub CompletedStaysClosed : Type 0

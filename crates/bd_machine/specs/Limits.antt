@@ -112,11 +112,11 @@ abbrev pub is_head : ReqId → List ReqId → Bool
 is_head req [] = false
 is_head req (r ∷ rs) = same_request r req
 
--- it waits here for the device, none came here before it, and it isn't marked here
+-- it waits here for the device, none came here before it, and no mark stops it here
 abbrev pub is_next_in_line : Setup → View → ReqId → DevId → Option OpenRequest → Bool
 is_next_in_line setup v req dev None = false
 is_next_in_line setup v req dev (Some r) =
-    is_out r.trip && is_none r.aborted && is_the same_dev dev (next_limited setup r) && is_head req (waiting_for v.part dev) && not (is_marked setup v.part r.dev)
+    is_out r.trip && is_none r.aborted && is_the same_dev dev (next_limited setup r) && is_head req (waiting_for v.part dev) && not (is_marked setup v.part r)
 
 abbrev pub may_pass_by : Setup → DevId → Option Way → Option Limited → Bool
 may_pass_by setup dev (Some way) (Some l) = may_pass (quotas_of (rates_of setup dev)) l.left way

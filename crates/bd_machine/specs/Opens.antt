@@ -7,7 +7,7 @@ use Rattle.bd_machine.specs.declared.state.Open.{Open}
 
 -- it is no reset
 abbrev pub is_work : Op → Bool
-is_work ops.Reset = false
+is_work (ops.Reset time) = false
 is_work _ = true
 
 -- it is on the device of this number, and no reset

@@ -1,5 +1,5 @@
 -- The registry: its answers.
-use Rattle.std.specs.Prelude.{ℕ, ◌-◌, Bool, true, false, cond, not, ◌&&◌, ◌||◌, ◌==◌, List, [], ◌∷◌, length, map, filter, find, position, Option, Some, None, is_none, is_some, slice_get}
+use Rattle.std.specs.Prelude.{ℕ, ◌-◌, ◌*◌, Bool, true, false, cond, not, ◌&&◌, ◌||◌, ◌==◌, nat_le, nat_lt, sum_by, List, [], ◌∷◌, length, map, filter, find, position, Option, Some, None, is_none, is_some, slice_get, unwrap_or}
 use Rattle.std.specs.List.{list_all}
 use Rattle.std.specs.Option.{option_flatten}
 use Rattle.bd_base.specs.Name.{same_name}
@@ -25,13 +25,13 @@ use Rattle.bd_machine.specs.declared.state.ResetState.{ResetState}
 use Rattle.bd_machine.specs.declared.state.ResetState.TheVariants as resets
 use Rattle.bd_machine.specs.declared.state.Standing.{Standing}
 use Rattle.bd_machine.specs.declared.state.Standing.TheVariants as standings
-use Rattle.bd_machine.specs.BlockMap.{below, is_error, stands_on}
+use Rattle.bd_machine.specs.BlockMap.{base_of, below, blocks_of, home, is_error, is_malloc, is_null, is_over, size_of, stands_on}
 use Rattle.bd_machine.specs.Claims.{Holder, claim_refusal, open_refusal}
 use Rattle.bd_machine.specs.Injecting.{decision_for}
 use Rattle.bd_machine.specs.Same.{same_handle, same_dev, same_channel}
-use Rattle.bd_machine.specs.Table.{look_up}
+use Rattle.bd_machine.specs.Table.{first_cause, look_up}
 use Rattle.bd_machine.specs.Threads.{is_nobody, those}
-use Rattle.bd_machine.specs.Users.{base_handle, users}
+use Rattle.bd_machine.specs.Users.{all_devices, base_handle, is_base_handle, users}
 
 -- an event with its answer
 pub record Question : Type 0 where
@@ -71,6 +71,31 @@ is_live registry dev = is_live_standing (standing_of registry dev)
 abbrev pub are_live : Setup → Registry → DevId → Bool
 are_live setup registry dev = list_all (is_live registry) (below setup dev)
 
+-- ---- sizes
+
+abbrev pub blocks_of_device : Option Device → ℕ
+blocks_of_device None = 0
+blocks_of_device (Some device) = device.blocks
+
+-- how many blocks a device has in the registry: a malloc or null device may have grown, no other device has
+abbrev pub blocks_in : Registry → DevId → ℕ
+blocks_in registry dev = blocks_of_device (slice_get registry.devices dev.0)
+
+-- how many blocks a device has now: one that has each block of its base grows with it, and a part keeps its size
+abbrev pub size_now : Setup → Registry → DevId → ℕ
+size_now setup registry dev = cond (is_over setup (base_of setup dev) dev) (blocks_in registry (base_of setup dev)) (blocks_of setup dev)
+
+abbrev pub growing_if_any : Option Device → Option ℕ
+growing_if_any None = None
+growing_if_any (Some device) = device.growing
+
+-- the number of blocks to which a device is growing, while a resize of it is under way
+abbrev pub growing_of : Registry → DevId → Option ℕ
+growing_of registry dev = growing_if_any (slice_get registry.devices dev.0)
+
+abbrev pub is_growing : Registry → DevId → Bool
+is_growing registry dev = is_some (growing_of registry dev)
+
 -- ---- handles
 
 abbrev pub handle_of : List Handle → HandleId → Option Handle
@@ -108,9 +133,13 @@ made channels (d ∷ ds) = cond (is_some (channels d)) [] (d ∷ made channels d
 
 -- ---- what prevents a destruction
 
--- it is being removed, with neither one of these handles nor a channel of these threads
+-- neither one of these handles nor a channel of these threads
+abbrev pub is_unused : List Handle → ThreadSet → Bool
+is_unused handles threads = (length handles == 0) && is_nobody threads
+
+-- it is being removed, with neither one of these handles nor a channel of these threads, and no resize of it is under way
 abbrev pub is_bare : Registry → DevId → List Handle → ThreadSet → Bool
-is_bare registry dev handles threads = is_removing_standing (standing_of registry dev) && (length handles == 0) && is_nobody threads
+is_bare registry dev handles threads = is_removing_standing (standing_of registry dev) && is_unused handles threads && not (is_growing registry dev)
 
 -- the device may be destructed
 abbrev pub is_free : Setup → Registry → DevId → Bool
@@ -129,7 +158,7 @@ abbrev pub open_answer : Setup → Registry → Bool → Option ℕ → Answer
 open_answer setup registry write None = answers.Refused NoDev
 open_answer setup registry write (Some n) =
     let dev : DevId = record { 0 = n } in
-    cond (are_live setup registry dev) (refused_or (open_refusal write (holders_on registry dev)) (answers.Opened (record { 0 = registry.next }) dev)) (answers.Refused NoDev)
+    cond (are_live setup registry dev) (refused_or (open_refusal write (holders_on registry dev)) (answers.Opened (record { 0 = registry.next }) dev (size_now setup registry dev))) (answers.Refused NoDev)
 
 -- the handle is this one, opened by this thread
 abbrev pub is_own : ℕ → HandleId → Handle → Bool
@@ -194,7 +223,7 @@ abbrev pub remove_answer_at : Setup → Registry → DevId → Standing → Answ
 remove_answer_at setup registry dev standings.Live =
     let handles : List Handle = handles_on registry dev in
     let threads : ThreadSet = threads_of setup registry dev in
-    answers.Removing dev threads (map opener_of handles) (if_so ((length handles == 0) && is_nobody threads) dev)
+    answers.Removing dev threads (map opener_of handles) (if_so (is_unused handles threads && not (is_growing registry dev)) dev)
 remove_answer_at setup registry dev standings.Removing = answers.Refused Busy
 remove_answer_at setup registry dev standings.Destructed = answers.Refused NoDev
 
@@ -243,6 +272,62 @@ left_open setup registry dev (Some handle) = cond (is_some (handle_of registry.h
 abbrev pub destructed_answer : Setup → Registry → DevId → Answer
 destructed_answer setup registry dev = cond (is_free setup registry dev) (answers.Freed (left_open setup registry dev (base_handle setup dev))) (answers.Refused Inval)
 
+-- ---- resizes
+
+-- malloc and null devices can grow
+abbrev pub can_grow : Setup → DevId → Bool
+can_grow setup dev = is_malloc setup dev || is_null setup dev
+
+-- the most blocks that a device can grow to
+abbrev pub most_blocks : Setup → DevId → ℕ
+most_blocks setup dev = cond (is_malloc setup dev) 2097152 1099511627776
+
+-- how many blocks a device has, or will have once its resize has ended
+abbrev pub blocks_to_come : Registry → DevId → ℕ
+blocks_to_come registry dev = unwrap_or (growing_of registry dev) (blocks_in registry dev)
+
+-- the bytes of a malloc device, where this one were to have so many blocks
+abbrev pub malloc_bytes_at : Setup → Registry → DevId → ℕ → DevId → ℕ
+malloc_bytes_at setup registry dev blocks d = cond (is_malloc setup d) (cond (same_dev d dev) blocks (blocks_to_come registry d) * size_of setup d) 0
+
+-- the bytes of all malloc devices, destructed ones too, where this one were to have so many blocks
+abbrev pub malloc_bytes : Setup → Registry → DevId → ℕ → ℕ
+malloc_bytes setup registry dev blocks = sum_by (malloc_bytes_at setup registry dev blocks) (all_devices setup)
+
+-- it can't grow, not to this number of blocks, or the contents of malloc devices would pass 1 GiB
+abbrev pub is_bad_size : Setup → Registry → DevId → ℕ → Bool
+is_bad_size setup registry dev blocks =
+    not (can_grow setup dev) || nat_le blocks (blocks_in registry dev) || nat_lt (most_blocks setup dev) blocks
+    || (is_malloc setup dev && nat_lt 1073741824 (malloc_bytes setup registry dev blocks))
+
+-- why a resize is refused, the first cause that holds
+abbrev pub resize_refusal : Setup → Registry → DevId → ℕ → Option Errno
+resize_refusal setup registry dev blocks = first_cause (
+    (not (is_live registry dev), NoDev) ∷
+    (is_growing registry dev, Busy) ∷
+    (is_bad_size setup registry dev blocks, Inval) ∷ [])
+
+abbrev pub resize_answer : Setup → Registry → ℕ → Option ℕ → Answer
+resize_answer setup registry blocks None = answers.Refused NoDev
+resize_answer setup registry blocks (Some n) =
+    let dev : DevId = record { 0 = n } in refused_or (resize_refusal setup registry dev blocks) (answers.Resizing dev (record { 0 = home setup dev }))
+
+-- it is a script's handle, and its device takes the size of this one
+abbrev pub is_resized : Setup → DevId → Handle → Bool
+is_resized setup dev h = not (is_base_handle setup h.id) && is_over setup dev h.dev
+
+-- the device, where it is being removed and its resize alone keeps it
+abbrev pub freed_by_resize : Setup → Registry → DevId → Option DevId
+freed_by_resize setup registry dev =
+    if_so (is_removing_standing (standing_of registry dev) && is_unused (handles_on registry dev) (threads_of setup registry dev)) dev
+
+abbrev pub end_resize_answer : Setup → Registry → DevId → Option ℕ → Answer
+end_resize_answer setup registry dev None = answers.Refused Inval
+end_resize_answer setup registry dev (Some blocks) =
+    answers.Resized (map opener_of (filter (is_resized setup dev) registry.handles)) blocks (freed_by_resize setup registry dev)
+
+-- ---- all answers
+
 -- what the registry answers to a thread's event
 abbrev pub answer_to : Setup → Registry → ℕ → RegEvent → Answer
 answer_to setup registry t (events.Open name write) = open_answer setup registry write (device_named setup name)
@@ -257,3 +342,5 @@ answer_to setup registry t (events.EndReset dev) = end_reset_answer (threads_of 
 answer_to setup registry t (events.FinishReset dev) = finish_reset_answer (threads_of setup registry dev) (slice_get registry.devices dev.0)
 answer_to setup registry t (events.TakeInjection dev req op) = injection_answer setup dev op (slice_get registry.devices dev.0)
 answer_to setup registry t (events.Destructed dev) = destructed_answer setup registry dev
+answer_to setup registry t (events.BeginResize name blocks) = resize_answer setup registry blocks (device_named setup name)
+answer_to setup registry t (events.EndResize dev) = end_resize_answer setup registry dev (growing_of registry dev)

@@ -112,11 +112,12 @@ blank_part = record {
   marked = [];
   resets = [];
   moments = record { first = None; last = 0 };
-  injection = None;
+  prior = None;
   bases = [];
   limited = [];
   destructed = [];
   delayed = [];
+  sized = [];
 }
 
 abbrev pub part_of : State → ℕ → Part

@@ -11,6 +11,7 @@ use Rattle.bd_base.specs.declared.request.WalkKind.TheVariants.{Freeze, Drain, T
 use Rattle.bd_base.specs.declared.setup.Setup.{Setup}
 use Rattle.bd_base.specs.declared.thread_set.ThreadSet.{ThreadSet}
 use Rattle.bd_machine.specs.declared.guard.TheConstants.{NEXT_VISIT, DRAINED}
+use Rattle.bd_machine.specs.declared.state.FreezeMark.TheVariants.{Not}
 use Rattle.bd_machine.specs.declared.state.Id.TheVariants as ids
 use Rattle.bd_machine.specs.declared.state.Kept.TheVariants as keeps
 use Rattle.bd_machine.specs.declared.state.Open.{Open}
@@ -23,7 +24,7 @@ use Rattle.bd_machine.specs.declared.state.Stage.TheVariants as stages
 use Rattle.bd_machine.specs.BlockMap.{below, home}
 use Rattle.bd_machine.specs.Kept.{walk_here}
 use Rattle.bd_machine.specs.Limits.{is_limited}
-use Rattle.bd_machine.specs.Marks.{remarked, freeze_set, removal_set, frozen_as}
+use Rattle.bd_machine.specs.Marks.{remarked, freeze_set, removal_set, with_frozen}
 use Rattle.bd_machine.specs.Same.{same_dev, same_request, same_walk_kind, is_the}
 use Rattle.bd_machine.specs.Threads.{is_nobody, first_of, without}
 use Rattle.bd_machine.specs.View.{View, Move, Here, Closed, Change}
@@ -53,10 +54,10 @@ staged (Some req) stage part = record part { resets = map (at_stage req stage) p
 abbrev pub numbered : ℕ → Part → Part
 numbered n part = record part { next_walk = part.next_walk + n }
 
-abbrev pub begun : ℕ → Part → WalkKind → DevId → ThreadSet → Option ReqId → Move
-begun t part kind dev threads req = record {
+abbrev pub begun : ℕ → Part → WalkKind → DevId → ThreadSet → Option ReqId → ℕ → Move
+begun t part kind dev threads req time = record {
   id = ids.Walk (record { thread = t; seq = part.next_walk });
-  kept = keeps.Walk (record { dev = dev; kind = kind; left = threads; request = req; taken = false });
+  kept = keeps.Walk (record { dev = dev; kind = kind; left = threads; request = req; taken = false; time = time });
   going = Here;
 }
 
@@ -67,11 +68,14 @@ over_nobody Drain req part = staged req stages.Drained (numbered 1 part)
 over_nobody Thaw req part = staged req stages.Thawed (numbered 1 part)
 over_nobody Removal req part = numbered 1 part
 
--- the part and the tokens, with a walk that begins here
-abbrev pub begin_walk : ℕ → WalkKind → DevId → ThreadSet → Option ReqId → Change → Change
-begin_walk t kind dev threads req c = cond (is_nobody threads)
+-- the part and the tokens, with a walk that begins here; a freeze walk brings the drain time of its reset
+abbrev pub begin_walk_with : ℕ → WalkKind → DevId → ThreadSet → Option ReqId → ℕ → Change → Change
+begin_walk_with t kind dev threads req time c = cond (is_nobody threads)
     (record { part = over_nobody kind req c.part; moves = c.moves })
-    (record { part = numbered 1 c.part; moves = c.moves ++ begun t c.part kind dev threads req ∷ [] })
+    (record { part = numbered 1 c.part; moves = c.moves ++ begun t c.part kind dev threads req time ∷ [] })
+
+abbrev pub begin_walk : ℕ → WalkKind → DevId → ThreadSet → Option ReqId → Change → Change
+begin_walk t kind dev threads req c = begin_walk_with t kind dev threads req 0 c
 
 -- ---- end
 
@@ -104,7 +108,7 @@ is_next_visit t dev kind None = false
 is_next_visit t dev kind (Some w) = w.taken && is_the ◌==◌ t (first_of w.left) && same_dev w.dev dev && same_walk_kind w.kind kind
 
 abbrev pub is_reset : Op → Bool
-is_reset ops.Reset = true
+is_reset (ops.Reset time) = true
 is_reset _ = false
 
 abbrev pub is_kept_waiting : Setup → DevId → Open → Bool
@@ -124,12 +128,17 @@ guards_visit setup t v walk dev kind =
 abbrev pub put_owed : Setup → ℕ → DevId → Part → Part
 put_owed setup t dev part = cond (is_limited setup dev && (home setup dev == t)) (record part { owed = part.owed ++ owes.Put dev ∷ [] }) part
 
+-- the drain time that a walk brings
+abbrev pub time_of_walk : Option OpenWalk → ℕ
+time_of_walk None = 0
+time_of_walk (Some w) = w.time
+
 -- freeze marks go with a channel
-abbrev pub marked_by : Setup → ℕ → View → DevId → WalkKind → Part
-marked_by setup t v dev Freeze = cond (is_some (v.channels dev)) (remarked dev freeze_set v.part) v.part
-marked_by setup t v dev Drain = v.part
-marked_by setup t v dev Thaw = remarked dev (frozen_as false) v.part
-marked_by setup t v dev Removal = put_owed setup t dev (remarked dev removal_set v.part)
+abbrev pub marked_by : Setup → ℕ → View → WalkId → DevId → WalkKind → Part
+marked_by setup t v walk dev Freeze = cond (is_some (v.channels dev)) (remarked dev (freeze_set walk (time_of_walk (walk_here v walk))) v.part) v.part
+marked_by setup t v walk dev Drain = v.part
+marked_by setup t v walk dev Thaw = remarked dev (with_frozen Not) v.part
+marked_by setup t v walk dev Removal = put_owed setup t dev (remarked dev removal_set v.part)
 
 abbrev pub visited : ℕ → OpenWalk → OpenWalk
 visited t w = record w { left = without w.left t }
@@ -139,4 +148,4 @@ walked_if_any t walk part None = record { part = part; moves = [] }
 walked_if_any t walk part (Some w) = walked t walk (visited t w) part
 
 abbrev pub change_visit : Setup → ℕ → View → WalkId → DevId → WalkKind → Change
-change_visit setup t v walk dev kind = walked_if_any t walk (marked_by setup t v dev kind) (walk_here v walk)
+change_visit setup t v walk dev kind = walked_if_any t walk (marked_by setup t v walk dev kind) (walk_here v walk)

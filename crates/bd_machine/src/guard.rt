@@ -30,14 +30,14 @@ pub const REFUSAL_DUE: u32 = 11;
 pub const INJECTION_TAKEN: u32 = 12;
 /// Pend: the request is here on its own thread, its last decision is to be kept, and it isn't yet.
 pub const MAY_PEND: u32 = 13;
-/// Let: the request is the first that waits here for the device, and it isn't marked here.
+/// Let: the request is the first that waits here for the device, and no mark stops it here.
 pub const FIRST_IN_LINE: u32 = 14;
 /// Let: more than 0 is left of each limit that counts the request.
 pub const WITHIN_LIMITS: u32 = 15;
 /// Tick: a request waits here, and this number of timeslices may have passed.
 pub const TICK_DUE: u32 = 16;
 /// Cut: the request has a range, every Let and every decision, is here on its own thread, and is
-/// neither cut nor aborted nor marked.
+/// neither cut nor aborted nor stopped by a mark.
 pub const MAY_CUT: u32 = 17;
 /// Cut: into as many pieces as boundaries and block map give.
 pub const PIECE_COUNT: u32 = 18;
@@ -50,11 +50,12 @@ pub const END_ALLOWED: u32 = 20;
 pub const QUEUE_FULL: u32 = 21;
 /// Hold: the request's pieces came back, and it is held as long as its delays say.
 pub const MAY_HOLD: u32 = 22;
-/// Release: its moment has come, and no visit set a mark of a device below since it was held.
+/// Release: its moment has come, and since it was held no removal mark of a device below was set, and no freeze
+/// mark of one set hard or made hard.
 pub const HOLD_OVER: u32 = 23;
 /// Abort: the request is here, and not all of it is sent.
 pub const MAY_ABORT: u32 = 24;
-/// Abort: the mark is set here, or the abort that names the request is open.
+/// Abort: the mark is set here and stops the request, or the abort that names it is open.
 pub const ABORT_CAUSE: u32 = 25;
 /// Complete: the request is here on its own thread, and so is every piece of it; no walk of it is
 /// under way.
@@ -79,3 +80,9 @@ pub const OUTCOME_DUE: u32 = 34;
 pub const AT_REST: u32 = 35;
 /// Shutdown: every script is at its end or waits.
 pub const SCRIPTS_BLOCKED: u32 = 36;
+/// Grow: this is the device's home, which was told to let the content grow to this number of blocks.
+pub const GROW_DUE: u32 = 37;
+/// Grace: the thread's entry before set the soft mark of this walk, and its drain time lasts until then.
+pub const GRACE_DUE: u32 = 38;
+/// Due: the soft mark of this walk is set here, and its moment has come.
+pub const MARK_DUE: u32 = 39;

@@ -3,7 +3,7 @@
 ghost use Rattle.bd_machine.specs.Destruction.{AcceptedWhereUnmarked, DestructedAfterLastClose, DestructedAtMostOnce, DestructedWhereFree, FreeStays, NamedIsFree, RemovedIsOutOfReach};
 ghost use Rattle.bd_machine.specs.Lines.{LinesArePrefix, ScriptsGoAsFar};
 ghost use Rattle.bd_machine.specs.Timeslices.{LeftStartsFit, SomeStartFits};
-ghost use Rattle.bd_machine.specs.Laws.{CompletedStaysClosed, ContentChangesByApply, EachIsCompletedOnce, EachIsDestructedOnce, PrefixIsRun, OtherViewsStay, OwnViewFollows, SomeRunIsComplete, StepIsDetermined};
+ghost use Rattle.bd_machine.specs.Laws.{CompletedStaysClosed, ContentChangesAtHome, EachIsCompletedOnce, EachIsDestructedOnce, PrefixIsRun, OtherViewsStay, OwnViewFollows, SomeRunIsComplete, StepIsDetermined};
 
 /// A prefix of a run is a run.
 pub fn prefix_is_run()
@@ -15,9 +15,9 @@ pub fn step_is_determined()
     ensures { StepIsDetermined }
 {}
 
-/// An entry that isn't an Apply changes the content of no device.
-pub fn content_changes_by_apply()
-    ensures { ContentChangesByApply }
+/// An entry that is neither an Apply nor a Grow changes the content of no device.
+pub fn content_changes_at_home()
+    ensures { ContentChangesAtHome }
 {}
 
 /// A request that was completed is nowhere from then on: it is never open again.

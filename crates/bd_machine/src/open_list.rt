@@ -42,7 +42,7 @@ impl Model for OpenList {
 fn is_work(op: Op) -> bool
     ensures { result ≡ is_work op }
 {
-    !matches!(op, Op::Reset)
+    !matches!(op, Op::Reset(_))
 }
 
 fn same_id(a: ReqId, b: ReqId) -> bool

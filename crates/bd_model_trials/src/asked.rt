@@ -49,6 +49,11 @@ pub(crate) fn event(alloc: Global, dev: DevId, words: &[&str]) -> Result<RegEven
         ["begin", "reset"] => RegEvent::BeginReset { dev, req: REQ },
         ["end", "reset"] => RegEvent::EndReset { dev },
         ["finish", "reset"] => RegEvent::FinishReset { dev },
+        ["resize", blocks] => RegEvent::BeginResize {
+            name: name(alloc)?,
+            blocks: number(blocks),
+        },
+        ["end", "resize"] => RegEvent::EndResize { dev },
         ["remove"] => RegEvent::BeginRemove { name: name(alloc)? },
         _ => RegEvent::Destructed { dev },
     })
@@ -86,6 +91,8 @@ pub(crate) fn in_short(alloc: Global, answer: &Answer) -> Result<String, OutOfMe
         ),
         Answer::Injected { .. } => said(alloc, "injected"),
         Answer::Freed { .. } => said(alloc, "freed"),
+        Answer::Resizing { .. } => said(alloc, "resizing"),
+        Answer::Resized { .. } => said(alloc, "resized"),
         Answer::Refused(errno) => {
             let number = errno.number();
             Ok(format!(in alloc; "refused {number}")?)

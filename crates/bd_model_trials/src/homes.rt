@@ -1,6 +1,8 @@
 //! What a home begins with, and what it serves of a device of blocks of 8 bytes.
 use crate::words::{device, maybe, number, said, small, words};
-use bd_base::{ApplyEnd, Decision, DevId, Fill, HandleId, Op, OutOfMemory, Rows, Setup, Way};
+use bd_base::{
+    ApplyEnd, Decision, DevId, DevSet, Fill, HandleId, Op, OutOfMemory, Rows, Setup, Way,
+};
 use bd_blocks::{
     base_place, copy_of_piece, counts_way, digest_due, find_base, get_channel, is_digest_due,
     is_limited, new_piece, part_at_start, rates_of, references, registry_at_start, serve,
@@ -32,6 +34,7 @@ fn request(dev: DevId, op: Op) -> OpenRequest {
         aborted: None,
         pieces: None,
         hold: Hold::Before,
+        late: DevSet::empty(),
     }
 }
 

@@ -23,7 +23,7 @@ with_line_ended t = record t { met = t.moment }
 
 -- what is known of sleeps at the turn's moment, by the one rule for scripts
 abbrev pub known_at : Time → Known
-known_at t = known_by (record { now = t.moment; met = t.met; requests = 0; marks = []; gone = []; bound = [] })
+known_at t = known_by (record { now = t.moment; met = t.met; requests = 0; marks = []; gone = []; bound = []; sizes = [] })
 
 -- the next line is a sleep with this command, and it isn't over
 abbrev pub is_asleep : Time → Job → Bool

@@ -228,6 +228,7 @@ module _ {D : Type 0} (stamp : ℕ) (seats news : List (Seat D)) (len : length n
                   (sym (append-nil (entries_of i (trace ++ merged))
                   ∙ filter-append (λ e. e.thread == i) trace merged
                   ∙ ap (λ (es : List Entry). entries_of i trace ++ es) own)) at.times;
+              held = at.held;
               once = at.once;
               replica = at.replica;
               course = λ lowest. stamps_are_met setup i p c (seen_over setup contents s.worker) stamp le (at.course lowest);

@@ -8,6 +8,7 @@ use Rattle.std.proofs.lemmas.Option.{get_or_from_slice_get, slice_get_within}
 use Rattle.bd_base.specs.declared.act.Entry.{Entry}
 use Rattle.bd_base.specs.declared.id.DevId.{DevId}
 use Rattle.bd_base.specs.declared.setup.Setup.{Setup}
+use Rattle.bd_law_held.specs.Held.{held_from, EndInTime}
 use Rattle.bd_law_threads.specs.Course.{Phase}
 use Rattle.bd_log.specs.Merge.{IsMerge, IsOrdered}
 use Rattle.bd_machine.specs.declared.state.Base.{Base}
@@ -17,6 +18,7 @@ use Rattle.bd_machine.specs.Content.{Told}
 use Rattle.bd_machine.specs.Homes.{base_here, is_base}
 use Rattle.bd_machine.specs.Run.{state_after, IsCompleteRun}
 use Rattle.bd_machine.specs.Same.{same_dev}
+use Rattle.bd_machine.specs.Start.{start}
 use Rattle.bd_machine.specs.View.{part_of}
 use Rattle.bd_machine.proofs.Tables.{dev_exact}
 use Rattle.bd_outside.specs.Disk.{DiskState}
@@ -25,6 +27,7 @@ use Rattle.bd_disks.specs.Contents.{contents_of}
 use Rattle.bd_disks.specs.Done.{AreDoneBy}
 use Rattle.bd_disks.proofs.Done.{done_same}
 use Rattle.bd_law_disks.specs.Told.{told_base, AreBasesLowest}
+use Rattle.bd_thread.specs.Seen.{time_of}
 use Rattle.bd_turns.specs.Local.{Local}
 use Rattle.bd_wires.specs.declared.wires.Passes.{Passes}
 use Rattle.bd_wires.specs.declared.wires.Wires.{Wires}
@@ -35,7 +38,7 @@ use Rattle.bd_worker.specs.declared.seat.Seat.{Seat}
 use Rattle.bd_node.specs.Disks.{disks_at, disks_of, pieces_of, told_of, SaysOfDisks}
 use Rattle.bd_node.specs.Whole.{are_all_taken, is_idle, is_over, log_with, logs_of, past_of, seat_has_destructed, seat_is_done, setup_in, state_of, ArePhases, AreSeated, AreShut, IsNodeOf, KeepsDisks}
 use Rattle.bd_node.proofs.Resting.{local_of}
-use Rattle.bd_node.proofs.Settling.{courses_of, done_bases, done_complete, done_served, end_is, ends_of, map_at, map_from, passes_of, seat_is, seat_of}
+use Rattle.bd_node.proofs.Settling.{courses_of, done_bases, done_complete, done_held, done_served, end_is, ends_of, map_at, map_from, passes_of, seat_is, seat_of}
 
 -- ---- turns, one after the other
 
@@ -62,10 +65,12 @@ found_tells setup contents dev aio (b ∷ bs) = go (same_dev b.dev dev) refl (fo
 
 -- ---- the end
 
--- what the merge of all that its threads did says of a node that is done: these were the disks of its threads at their opening, and those are they now
-pub record Settles {D : Type 0} (state : D → DiskState) (setup : Setup) (starts now : List (List (DevId × D))) (merged : List Entry) : Type 0 where
+-- what the merge of all that its threads did says of a node that is done: these were the disks of its threads at their opening, and these are its seats now
+pub record Settles {D : Type 0} (state : D → DiskState) (setup : Setup) (starts : List (List (DevId × D))) (seats : List (Seat D)) (merged : List Entry) : Type 0 where
   pub complete : IsCompleteRun setup (told_of state setup starts) merged
-  pub says : SaysOfDisks state setup merged starts now
+  pub says : SaysOfDisks state setup merged starts (disks_of seats)
+  -- what each thread held in it ends in time from its last turn on
+  pub held : (t : ℕ) → t < setup.threads → (s : Seat D) → slice_get seats t ≡ Some s → EndInTime setup (time_of s.worker.thread).moment (held_from setup t (start setup (told_of state setup starts)) merged)
 
 module _ {D : Type 0} (state : D → DiskState) (setup : Setup) (w : Wires) (starts : List (List (DevId × D))) (met : ℕ) (trace : List Entry) (seats : List (Seat D)) (phases : ℕ → Phase) (a : AreSeated state setup w starts (past_of met trace) seats true phases)
     (sh : AreShut setup (told_of state setup starts) phases) (lowest : AreBasesLowest setup) (many : length starts ≡ setup.threads)
@@ -104,10 +109,13 @@ module _ {D : Type 0} (state : D → DiskState) (setup : Setup) (w : Wires) (sta
       (found_tells setup (contents_of state u.0.disks) dev aio u.0.worker.thread.part.bases)))
 
   -- **a node that is done has a complete run, which says what its disks did**
-  done_settles : Settles state setup starts (disks_of seats) merged
+  done_settles : Settles state setup starts seats merged
   done_settles = record {
     complete = done_complete state setup told w starts met trace seats phases a sh lowest done taken gone d r h ordered replay merged m;
     says = record { len = length-map seats (λ (s : Seat D). s.disks) ∙ a.len ∙ sym many; each = each; holds = holds };
+    held = λ t lt s e.
+        subst (EndInTime setup (time_of s.worker.thread).moment) (sym (done_held state setup told w starts met trace seats phases a sh lowest done taken gone d r h ordered replay merged m t lt))
+        (seat_is state setup told w starts met trace seats phases a sh lowest t s e).worker.held;
   }
 
 -- ---- a node, taken apart
@@ -122,7 +130,7 @@ done_parts false over false h = cc
 pub node_settles : {D : Type 0} → (state : D → DiskState) (starts : List (List (DevId × D))) (n : Node D) → IsNodeOf state starts n → AreBasesLowest (setup_in n) → state_of n ≡ Done
     → (passes : List Passes) → passes ≡ map passes_of n.seats.items
     → wires.AreDelivered passes → (r : Registered) → wires.HasJournalOf passes r → IsOrdered r.journal → ((x : Setup) → HasRowsOf r x → IsReplayFromStart x r.journal)
-    → (merged : List Entry) → IsMerge (logs_of n) merged → Settles state (setup_in n) starts (disks_of n.seats.items) merged
+    → (merged : List Entry) → IsMerge (logs_of n) merged → Settles state (setup_in n) starts n.seats.items merged
 node_settles {D} state starts n h lowest done passes passes-is d r j ordered replay merged m =
     go n.shut (done_parts n.shut (is_over n) (is_idle n) done).0 h.seated h.phases_are
   where
@@ -136,7 +144,7 @@ node_settles {D} state starts n h lowest done passes passes-is d r j ordered rep
     rest = and_parts (list_all seat_is_done n.seats.items) (are_all_taken n.seats.items) over.0
 
     go : (b : Bool) → b ≡ true → AreSeated state (setup_in n) n.wires starts (past_of h.met n.trace.items) n.seats.items b h.phases → ArePhases (setup_in n) (told_of state (setup_in n) starts) b h.phases
-        → Settles state (setup_in n) starts (disks_of n.seats.items) merged
+        → Settles state (setup_in n) starts n.seats.items merged
     go true e seated phased =
         done_settles state (setup_in n) n.wires starts h.met n.trace.items n.seats.items h.phases seated phased lowest h.many rest.0 rest.1 over.1
         (subst (λ (qs : List Passes). wires.AreDelivered qs) passes-is d) r (subst (λ (qs : List Passes). wires.HasJournalOf qs r) passes-is j) ordered replay merged m

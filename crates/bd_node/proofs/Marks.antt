@@ -1,6 +1,6 @@
 -- A node is shut when all rest: what each thread did before and saw then, and how it sits after the Shutdown.
 use Rattle.std.proofs.Common.{◌≡◌, ◌≢◌, ℕ, zero, suc, ◌<◌, ◌≤◌, Bool, true, false, cond, List, [], ◌++◌, All, length, length-set, set, slice_index_or, Option}
-use Rattle.std.proofs.Common.{Some, None, refl, sym, ◌∙◌, ap, ap₂, subst, arith}
+use Rattle.std.proofs.Common.{Some, None, refl, sym, ◌∙◌, ap, subst, arith}
 use mathlib.Core.Path.{fun_ext}
 use Rattle.std.specs.List.{list_all, slice_get, AllByRecursion}
 use Rattle.std.proofs.lemmas.Bool.{and_parts}
@@ -19,7 +19,8 @@ use Rattle.bd_law_logs.specs.Laws.{shutdown_of}
 use Rattle.bd_law_threads.specs.Course.{Course, Phase}
 use Rattle.bd_law_threads.specs.Ends.{phase_after, AreMarked}
 use Rattle.bd_law_threads.specs.Steps.{first_phase, second_phase}
-use Rattle.bd_law_served.specs.Served.{served_on, ServedPiece}
+use Rattle.bd_law_served.specs.Served.{served_on}
+use Rattle.bd_law_held.specs.Held.{held_on}
 use Rattle.bd_wires.specs.declared.wires.Wires.{Wires}
 use Rattle.bd_node.specs.declared.node.Node.{Node}
 use Rattle.bd_node.specs.declared.node.NodeState.TheVariants.{Idle, Done, Busy}
@@ -147,7 +148,7 @@ module _ {D : Type 0} (state : D → DiskState) (setup : Setup) (told : Told) (w
 
     -- the phase of a thread after the Shutdown
     abbrev after_rows : ℕ → List Row → View → Phase
-    after_rows i rows v = record { earlier = rows ++ shutdown_of stamp i; served = λ dev. served_on setup false i dev (view_at_start setup told i) rows; from = v; since = stamp }
+    after_rows i rows v = record { earlier = rows ++ shutdown_of stamp i; served = λ dev. served_on setup false i dev (view_at_start setup told i) rows; held = held_on setup false i (view_at_start setup told i) rows; from = v; since = stamp }
 
     abbrev after_seat : (i : ℕ) (s : Seat D) → slice_get seats i ≡ Some s → Phase
     after_seat i s h = second_phase stamp i (first_phase setup told i) (a.each i s h).sits.course (local_of state setup s)
@@ -155,15 +156,17 @@ module _ {D : Type 0} (state : D → DiskState) (setup : Setup) (told : Told) (w
     abbrev seconds : ℕ → Phase
     seconds i = choose (slice_get seats i) (after_seat i) (after_rows i [] (marks i))
 
-    -- where its course is one, what it served before is what its rows say
+    -- where its course is one, what it served and held before is what its rows say
     seat_is_after : AreBasesLowest setup → (i : ℕ) (s : Seat D) (h : slice_get seats i ≡ Some s) → after_seat i s h ≡ after_rows i (a.each i s h).sits.course.rows (marks i)
     seat_is_after lowest i s h =
         let c : Course = (a.each i s h).sits.course in
         let q : IsSeat state setup i (first_phase setup told i) c (pasts i) w (disks_at starts i) s = (a.each i s h).sits.seat in
         let served : c.served ≡ (λ dev. served_on setup false i dev (view_at_start setup told i) c.rows) =
         fun_ext (λ dev. (q.worker.course lowest).served dev ∙ ap (λ (b : Bool). served_on setup b i dev (view_at_start setup told i) c.rows) (a.each i s h).flag) in
+        let held : c.held ≡ held_on setup false i (view_at_start setup told i) c.rows =
+        (q.worker.course lowest).held ∙ ap (λ (b : Bool). held_on setup b i (view_at_start setup told i) c.rows) (a.each i s h).flag in
         let sees : (local_of state setup s).view ≡ marks i = sym (ap (λ (o : Option (Seat D)). (local_or state setup i o).view) h) in
-        ap₂ (λ (pieces : DevId → List ServedPiece) (v : View). let p : Phase = record { earlier = c.rows ++ shutdown_of stamp i; served = pieces; from = v; since = stamp } in p) served sees
+        λ j. let p : Phase = record { earlier = c.rows ++ shutdown_of stamp i; served = served j; held = held j; from = sees j; since = stamp } in p
 
     seconds_are : AreBasesLowest setup → (i : ℕ) → seconds i ≡ phase_after setup told stamp firsts marks i
     seconds_are lowest i =

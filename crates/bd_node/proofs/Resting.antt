@@ -13,11 +13,11 @@ use Rattle.bd_machine.specs.declared.state.Id.TheVariants.{Request, Piece, Walk,
 use Rattle.bd_machine.specs.declared.state.Kept.{Kept}
 use Rattle.bd_machine.specs.declared.state.Kept.TheVariants as keeps
 use Rattle.bd_machine.specs.declared.state.Part.{Part}
-use Rattle.bd_machine.specs.declared.state.TakenInjection.{TakenInjection}
+use Rattle.bd_machine.specs.declared.state.Prior.{Prior}
 use Rattle.bd_machine.specs.Admission.{is_gone}
 use Rattle.bd_machine.specs.Asked.{is_script_blocked, open_on}
 use Rattle.bd_machine.specs.BlockMap.{base_of, home}
-use Rattle.bd_machine.specs.Marks.{is_marked}
+use Rattle.bd_machine.specs.Marks.{has_any_mark}
 use Rattle.bd_machine.specs.Messages.{count_at}
 use Rattle.bd_machine.specs.Registry.{handle_of}
 use Rattle.bd_machine.specs.Same.{same_dev, same_handle, same_id}
@@ -70,7 +70,7 @@ nothing (x ∷ xs) h = absurd (let e : length (x ∷ xs) ≡ 0 = eqb-true (lengt
 none_held : (held : List (Id × Kept)) → held ≡ [] → (id : Id) → here_in held id ≡ None
 none_held held e id = ap (λ (h : List (Id × Kept)). here_in h id) e
 
-none_taken : (o : Option TakenInjection) → is_none o ≡ true → o ≡ None
+none_taken : (o : Option Prior) → is_none o ≡ true → o ≡ None
 none_taken None h = refl
 none_taken (Some x) h = cc
 
@@ -78,7 +78,7 @@ none_taken (Some x) h = cc
 pub record HasRest (t : Thread) (links : Links) : Type 0 where
   pub due : t.part.due ≡ []
   pub owed : t.part.owed ≡ []
-  pub injection : t.part.injection ≡ None
+  pub prior : t.part.prior ≡ None
   pub pended : are_own_pended t.setup.now t.part t.me t.held.items ≡ true
   pub settled : list_all (is_settled t links) t.part.gone ≡ true
 
@@ -87,16 +87,16 @@ rests_of t links h =
     let sent : Bool = length t.outbox.items == 0 in
     let due : Bool = length t.part.due == 0 in
     let owed : Bool = length t.part.owed == 0 in
-    let injection : Bool = is_none t.part.injection in
+    let prior : Bool = is_none t.part.prior in
     let pended : Bool = are_own_pended t.setup.now t.part t.me t.held.items in
-    let p = and_parts (sent && due && owed && injection && pended) (list_all (is_settled t links) t.part.gone) h in
-    let q = and_parts (sent && due && owed && injection) pended p.0 in
-    let r = and_parts (sent && due && owed) injection q.0 in
+    let p = and_parts (sent && due && owed && prior && pended) (list_all (is_settled t links) t.part.gone) h in
+    let q = and_parts (sent && due && owed && prior) pended p.0 in
+    let r = and_parts (sent && due && owed) prior q.0 in
     let u = and_parts (sent && due) owed r.0 in
     record {
       due = nothing t.part.due (and_parts sent due u.0).1;
       owed = nothing t.part.owed u.1;
-      injection = none_taken t.part.injection r.1;
+      prior = none_taken t.part.prior r.1;
       pended = q.1;
       settled = p.1;
     }
@@ -112,7 +112,7 @@ none_of t h =
     let held : Bool = length t.held.items == 0 in
     let due : Bool = length t.part.due == 0 in
     let owed : Bool = length t.part.owed == 0 in
-    let p = and_parts (held && due && owed) (is_none t.part.injection) h in
+    let p = and_parts (held && due && owed) (is_none t.part.prior) h in
     let q = and_parts (held && due) owed p.0 in
     let r = and_parts held due q.0 in
     record { held = nothing t.held.items r.0; due = nothing t.part.due r.1; owed = nothing t.part.owed q.1 }
@@ -120,7 +120,7 @@ none_of t h =
 -- ---- tokens at rest
 
 -- a pended request of this thread rests here, where the same devices carry marks
-pended_rests : (setup : Setup) (v : View) (part : Part) (me : ℕ) → ((dev : DevId) → is_marked setup v.part dev ≡ is_marked setup part dev) → (id : Id) (kept : Kept)
+pended_rests : (setup : Setup) (v : View) (part : Part) (me : ℕ) → ((dev : DevId) → has_any_mark setup v.part dev ≡ has_any_mark setup part dev) → (id : Id) (kept : Kept)
     → is_own_pended setup part me id kept ≡ true → is_resting_here setup me v id (Some kept) ≡ true
 pended_rests setup v part me same (Request req) (keeps.Request r) h = ap (λ b. (req.thread == me) && (r.pended && is_none r.aborted && not b)) (same r.dev) ∙ h
 pended_rests setup v part me same (Request req) (keeps.Piece p) h = cc
@@ -131,7 +131,7 @@ pended_rests setup v part me same (Walk walk) kept h = cc
 pended_rests setup v part me same (Notice sender receiver number) kept h = cc
 
 -- where all are, what is here of any token rests
-all_pended_rest : (setup : Setup) (v : View) (part : Part) (me : ℕ) → ((dev : DevId) → is_marked setup v.part dev ≡ is_marked setup part dev) → (items : List (Id × Kept))
+all_pended_rest : (setup : Setup) (v : View) (part : Part) (me : ℕ) → ((dev : DevId) → has_any_mark setup v.part dev ≡ has_any_mark setup part dev) → (items : List (Id × Kept))
     → are_own_pended setup part me items ≡ true → (id : Id) → is_resting_here setup me v id (here_in items id) ≡ true
 all_pended_rest setup v part me same [] all id = refl
 all_pended_rest setup v part me same (x ∷ xs) all id =
@@ -255,9 +255,9 @@ module _ {D : Type 0} (state : D → DiskState) (setup : Setup) (w : Wires) (sta
   done_at : list_all seat_is_done seats ≡ true → (q : View → Type 0) → ((s : Seat D) → HasNone s.worker.thread → q (local_of state setup s).view) → (t : ℕ) → t < setup.threads → q (seen t)
   done_at done q gives = of_each seat_is_done (λ t v. q v) done (λ t s number given h. gives s (none_of s.worker.thread h))
 
-  -- the last entry of none took an injection
-  pub none_injected : list_all seat_rests seats ≡ true → (t : ℕ) → t < setup.threads → (seen t).part.injection ≡ None
-  none_injected rest = of_each seat_rests (λ t v. v.part.injection ≡ None) rest (λ t s number given h. (rests_of s.worker.thread s.worker.links h).injection)
+  -- the last entry of none asks for one directly after it
+  pub none_injected : list_all seat_rests seats ≡ true → (t : ℕ) → t < setup.threads → (seen t).part.prior ≡ None
+  none_injected rest = of_each seat_rests (λ t v. v.part.prior ≡ None) rest (λ t s number given h. (rests_of s.worker.thread s.worker.links h).prior)
 
   -- every message was taken
   pub all_taken : are_all_taken seats ≡ true → AreAllTaken setup.threads seen

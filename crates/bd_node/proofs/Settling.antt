@@ -27,10 +27,11 @@ use Rattle.bd_ring.specs.Posts.{sent_by}
 use Rattle.bd_ring.specs.SlotRule.{StartsWith}
 use Rattle.bd_turns.specs.declared.queue.Post.{Post}
 use Rattle.bd_turns.specs.Local.{Local}
+use Rattle.bd_law_held.specs.Held.{held_from}
 use Rattle.bd_law_threads.specs.Course.{all_rows, Course, IsCourse, Phase}
 use Rattle.bd_law_threads.specs.Ends as ends
 use Rattle.bd_law_threads.specs.Steps.{new_course}
-use Rattle.bd_law_threads.proofs.Ending.{bases_end_as_seen, courses_are_complete_run, courses_serve_as_seen}
+use Rattle.bd_law_threads.proofs.Ending.{bases_end_as_seen, courses_are_complete_run, courses_hold_as_seen, courses_serve_as_seen}
 use Rattle.bd_law_served.specs.Served.{served_from}
 use Rattle.bd_wires.specs.declared.wires.Passes.{Passes}
 use Rattle.bd_wires.specs.declared.wires.Wires.{Wires}
@@ -251,6 +252,12 @@ module _ {D : Type 0} (state : D → DiskState) (setup : Setup) (told : Told) (w
     pub done_served : (t : ℕ) (dev : DevId) → t < setup.threads → served_from setup t dev (start setup told) merged ≡ (courses_of t).served dev
     done_served =
         courses_serve_as_seen setup told sh.stamp sh.firsts sh.marks logs_of courses_of ends_of r.journal merged
+        (ended done taken gone) (delivered d) (journal_of r h ordered replay) merge_is
+
+    -- and held what its course says
+    pub done_held : (t : ℕ) → t < setup.threads → held_from setup t (start setup told) merged ≡ (courses_of t).held
+    done_held =
+        courses_hold_as_seen setup told sh.stamp sh.firsts sh.marks logs_of courses_of ends_of r.journal merged
         (ended done taken gone) (delivered d) (journal_of r h ordered replay) merge_is
 
     -- and which leaves of each base device what its home sees

@@ -119,6 +119,7 @@ seat_begins {D} state setup disks w i s q within new own linked unused =
         later = subst (λ (es : List Entry). AllByRecursion (λ x. 0 < x.stamp) es) (sym new.log_entries) tt;
         met = omega arith;
         times = subst (IsOnTime s.worker.thread) (sym new.log_entries) (on_time_at_start i setup s.worker.thread new.thread);
+        held = tt;
         once = λ dev. subst (λ (l : Local). IsOnce dev l.view.part.bases) (sym begun) (start_is_once setup [] i dev);
         replica = ap (λ (l : Local). l.shared.registry) begun;
         course = λ lowest.

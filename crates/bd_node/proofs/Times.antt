@@ -10,6 +10,9 @@ use Rattle.bd_base.specs.declared.act.Act.TheVariants as acts
 use Rattle.bd_base.specs.declared.act.Entry.{Entry}
 use Rattle.bd_base.specs.declared.id.DevId.{DevId}
 use Rattle.bd_base.specs.declared.setup.Setup.{Setup}
+use Rattle.bd_law_held.specs.Held.{held_from, EndInTime}
+use Rattle.bd_law_held.proofs.Accepted.{held_as_accepted}
+use Rattle.bd_law_held.proofs.Ends.{end_later}
 use Rattle.bd_log.specs.Merge.{entries_of}
 use Rattle.bd_machine.specs.declared.state.State.{State}
 use Rattle.bd_machine.specs.BlockMap.{base_of, home}
@@ -29,19 +32,18 @@ use Rattle.bd_outside.specs.Clock.{IsWithin, Moments}
 use Rattle.bd_outside.specs.Disk.{DiskState}
 use Rattle.bd_thread.specs.declared.thread.Thread.{Thread}
 use Rattle.bd_thread.specs.Seen.{setup_of, time_of}
-use Rattle.bd_thread.specs.Timely.{moment_named, slices_in, until_named, EndsInTime, IsOnTime}
-use Rattle.bd_thread.proofs.OnTime.{held_weaker}
+use Rattle.bd_thread.specs.Timely.{moment_named, slices_in, IsOnTime}
 use Rattle.bd_wires.specs.declared.wires.Passes.{Passes as SeatPasses}
 use Rattle.bd_wires.specs.declared.wires.Wires.{Wires}
 use Rattle.bd_worker.specs.declared.seat.Seat.{Seat}
 use Rattle.bd_worker.specs.Seats.{made_by, AreTimesWithin, HasTimesWithin, IsHandedOut}
 use Rattle.bd_worker.specs.Shutting.{LearnsShut}
 use Rattle.bd_worker.proofs.Places.{has_at, is_below, set_else, set_here}
-use Rattle.bd_worker.proofs.Times.{held_within, named_within, start_within}
+use Rattle.bd_worker.proofs.Times.{moment_most, named_within, start_within}
 use Rattle.bd_node.specs.declared.node.Node.{Node}
 use Rattle.bd_node.specs.Gathering.{Gathers}
 use Rattle.bd_node.specs.Starting.{AreNewSeats, IsNewSeat}
-use Rattle.bd_node.specs.Times.{AreHoldsWithin, AreMomentsWithin, AreStartsWithin, EndsWithin, HaveTimesWithin}
+use Rattle.bd_node.specs.Times.{AreHoldsWithin, AreMomentsWithin, AreStartsWithin, HaveTimesWithin}
 use Rattle.bd_node.specs.Whole.{entries_left, past_of, setup_in, IsNodeOf}
 use Rattle.bd_node.proofs.Disks.{no_more}
 use Rattle.bd_node.proofs.Gathered.{none_of_sum}
@@ -171,13 +173,6 @@ own_fits dev t first before (e ∷ es) h f = go (e.thread == t) refl f (own_fits
         let none = untold dev first before e.act (of_other dev t e h.0 k) in
         (none.0, subst (λ (n : ℕ). Fits dev first n es) (more (slices_of dev e.act) none.1) (other f))
 
--- ---- what is held
-
--- all that a thread holds, it holds in time, by its clock
-ends_within : (range : Option Moments) (t : Thread) (es : List Entry) → IsOnTime t es → AreTimesWithin range (time_of t).given (time_of t).start (time_of t).moment → AreHoldsWithin range (setup_of t) es
-ends_within None t es h times = held_weaker (EndsInTime (setup_of t) (time_of t).moment) (EndsWithin None (setup_of t)) (λ n k. tt) es h.held
-ends_within (Some r) t es h times = held_within r t es h times
-
 -- ---- a node of which all was gathered
 
 module _ {D : Type 0} (state : D → DiskState) (starts : List (List (DevId × D))) (n : Node D) (h : IsNodeOf state starts n) (left : entries_left n ≡ 0) (range : Option Moments) (within : HaveTimesWithin range n.seats.items) where
@@ -206,11 +201,20 @@ module _ {D : Type 0} (state : D → DiskState) (starts : List (List (DevId × D
       of_threads (λ e. IfSome (moment_named e.act) (IsWithin range)) n.setup.now.threads n.trace.items h.trace.known
       (λ t lt. let o : OnTime t = on_time t lt in named_within range o.thread (entries_of t n.trace.items) o.did o.times)
 
-  -- **and each request is held in time**
-  pub holds_within : AreHoldsWithin range n.setup.now n.trace.items
-  holds_within =
-      of_threads (λ e. IfSome (until_named e.act) (EndsWithin range n.setup.now)) n.setup.now.threads n.trace.items h.trace.known
-      (λ t lt. let o : OnTime t = on_time t lt in subst (λ (s : Setup). AreHoldsWithin range s (entries_of t n.trace.items)) o.setup (ends_within range o.thread (entries_of t n.trace.items) o.did o.times))
+  -- **and each request is held in time**, as it was accepted, where that is a run in which each thread held in time what it held, as it saw it
+  pub holds_within : (told : Told) → IsRun (setup_in n) told n.trace.items
+      → ((t : ℕ) → t < n.setup.now.threads → (s : Seat D) → slice_get n.seats.items t ≡ Some s → EndInTime (setup_in n) (time_of s.worker.thread).moment (held_from (setup_in n) t (start (setup_in n) told) n.trace.items))
+      → AreHoldsWithin range (setup_in n) n.trace.items
+  holds_within told run held = go range within
+    where
+      go : (o : Option Moments) → HaveTimesWithin o n.seats.items → AreHoldsWithin o (setup_in n) n.trace.items
+      go None k = tt
+      go (Some r) k =
+          held_as_accepted (setup_in n) told n.trace.items n.setup.now.threads r.greatest run h.trace.known
+          (λ t lt.
+          let u = seat_at state n.setup.now n.wires starts (past_of h.met n.trace.items) n.seats.items n.shut h.phases h.seated t lt in
+          let time = time_of u.0.worker.thread in
+          end_later (setup_in n) time.moment r.greatest (held_from (setup_in n) t (start (setup_in n) told) n.trace.items) (moment_most r time.given time.start time.moment (k t u.0 u.1)) (held t lt u.0 u.1))
 
   -- **and some start of each device's timeslices**
   pub starts_within : (told : Told) → IsRun (setup_in n) told n.trace.items → AreStartsWithin range n.trace.items

@@ -4,9 +4,10 @@ use Rattle.std.specs.List.{list_all, AllByRecursion}
 use Rattle.bd_base.specs.declared.act.Entry.{Entry}
 use Rattle.bd_base.specs.declared.id.DevId.{DevId}
 use Rattle.bd_base.specs.declared.setup.Setup.{Setup}
+use Rattle.bd_law_held.specs.Held.{AreHeldInTime}
 use Rattle.bd_machine.specs.Timeslices.{Fits}
 use Rattle.bd_outside.specs.Clock.{IsWithin, Moments}
-use Rattle.bd_thread.specs.Timely.{moment_named, slices_in, until_named, EndsInTime}
+use Rattle.bd_thread.specs.Timely.{moment_named, slices_in}
 use Rattle.bd_node.specs.declared.node.Node.{Node}
 use Rattle.bd_worker.specs.declared.seat.Seat.{Seat}
 use Rattle.bd_worker.specs.Seats.{HasTimesWithin}
@@ -14,19 +15,15 @@ use Rattle.bd_node.specs.Whole.{seat_goes}
 
 -- ---- a history
 
--- each moment at which a request passes limits or is released, or timeslices are told, lies between those that a clock tells, if it tells them
+-- each moment at which a request passes limits or is released, timeslices are told, or a soft mark becomes hard, lies between those that a clock tells, if it tells them
 abbrev pub AreMomentsWithin : Option Moments → List Entry → Type 0
 AreMomentsWithin range history = AllByRecursion (λ e. IfSome (moment_named e.act) (IsWithin range)) history
 
--- where a clock tells its moments, what is held until this moment is held in time from the greatest of them on
-abbrev pub EndsWithin : Option Moments → Setup → ℕ → Type 0
-EndsWithin None setup until = Unit {0}
-EndsWithin (Some range) setup until = EndsInTime setup range.greatest until
-
--- each request that is held is held until the greatest moment that a clock tells with the most that the delay devices below some device hold a request, or
--- until an earlier moment, if the clock tells any
+-- where a clock tells its moments: each request that is held is held no longer than from the greatest of them on the delay devices below its device hold a request
+-- of its direction at most, where its device and its direction are those that its Accept names
 abbrev pub AreHoldsWithin : Option Moments → Setup → List Entry → Type 0
-AreHoldsWithin range setup history = AllByRecursion (λ e. IfSome (until_named e.act) (EndsWithin range setup)) history
+AreHoldsWithin None setup history = Unit {0}
+AreHoldsWithin (Some range) setup history = AreHeldInTime setup range.greatest (λ req. None) history
 
 -- of each device of which timeslices are told, these are at each moment just those that passed since one start, which lies there too
 abbrev pub AreStartsWithin : Option Moments → List Entry → Type 0

@@ -387,6 +387,9 @@ impl<'a, D> Node<'a, D> {
             if let Some(micros) = worker.thread.held_for() {
                 least = Some(lesser(least, micros));
             }
+            if let Some(micros) = worker.thread.softened_for() {
+                least = Some(lesser(least, micros));
+            }
             if let Some(micros) = worker.thread.limited_for() {
                 least = Some(lesser(least, micros));
             }
@@ -458,7 +461,8 @@ impl<'a, D: Disk> Node<'a, D> {
             → IsNodeOf D.state starts self.entry → AreBasesLowest (setup_in self.entry)
             → IfOk result.0 (λ run. SaysOfDisks D.state (setup_in self.entry) run.history starts result.1.items) }
         ensures moments { (range : Option Moments) → HaveTimesWithin range self.entry.seats.items → IfOk result.0 (λ run. AreMomentsWithin range run.history) }
-        ensures holds { (range : Option Moments) → HaveTimesWithin range self.entry.seats.items → IfOk result.0 (λ run. AreHoldsWithin range (setup_in self.entry) run.history) }
+        ensures holds { (range : Option Moments) → HaveTimesWithin range self.entry.seats.items → AreBasesLowest (setup_in self.entry)
+            → IfOk result.0 (λ run. AreHoldsWithin range (setup_in self.entry) run.history) }
         ensures starts { (range : Option Moments) → HaveTimesWithin range self.entry.seats.items → AreBasesLowest (setup_in self.entry)
             → IfOk result.0 (λ run. AreStartsWithin range run.history) }
         ensures kept { IsPermutation (disks_in self.entry) result.1.items }
@@ -498,7 +502,8 @@ impl<'a, D: Disk> Node<'a, D> {
             → IsNodeOf D.state starts self.entry → AreBasesLowest (setup_in self.entry)
             → IfOk result.0 (λ run. SaysOfDisks D.state (setup_in self.entry) run.history starts result.1.items) }
         ensures moments { (range : Option Moments) → HaveTimesWithin range self.entry.seats.items → IfOk result.0 (λ run. AreMomentsWithin range run.history) }
-        ensures holds { (range : Option Moments) → HaveTimesWithin range self.entry.seats.items → IfOk result.0 (λ run. AreHoldsWithin range (setup_in self.entry) run.history) }
+        ensures holds { (range : Option Moments) → HaveTimesWithin range self.entry.seats.items → AreBasesLowest (setup_in self.entry)
+            → IfOk result.0 (λ run. AreHoldsWithin range (setup_in self.entry) run.history) }
         ensures starts { (range : Option Moments) → HaveTimesWithin range self.entry.seats.items → AreBasesLowest (setup_in self.entry)
             → IfOk result.0 (λ run. AreStartsWithin range run.history) }
         ensures kept { IsPermutation (disks_in self.entry) result.1.items }

@@ -112,7 +112,7 @@ pub fn play<R: Threads + Wait + Sync, C: Clock + Sync, G: Gate + Sync, D: Disk +
     ensures complete { AreBasesLowest setup.now → IfOk result.0 (λ run. IsCompleteRun setup.now (told_of D.state setup.now disks.items) run.history) }
     ensures disks { AreBasesLowest setup.now → IfOk result.0 (λ run. SaysOfDisks D.state setup.now run.history disks.items result.1.items) }
     ensures moments { IfOk result.0 (λ run. AreMomentsWithin (C.range outside.now.clock.now) run.history) }
-    ensures holds { IfOk result.0 (λ run. AreHoldsWithin (C.range outside.now.clock.now) setup.now run.history) }
+    ensures holds { AreBasesLowest setup.now → IfOk result.0 (λ run. AreHoldsWithin (C.range outside.now.clock.now) setup.now run.history) }
     ensures starts { AreBasesLowest setup.now → IfOk result.0 (λ run. AreStartsWithin (C.range outside.now.clock.now) run.history) }
     ensures counted { IfOk result.0 (λ run. run.stats ≡ stats_of setup.now run.history) }
     ensures kept { AreAllThere D.state disks.items result.1.items }

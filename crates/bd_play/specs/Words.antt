@@ -3,14 +3,12 @@ use Rattle.std.specs.Prelude.{ℕ, Bool, true, false, not, List, ◌++◌, Optio
 use Rattle.bd_base.specs.declared.act.Act.{Act}
 use Rattle.bd_base.specs.declared.act.Act.TheVariants as acts
 use Rattle.bd_base.specs.declared.act.Token.{Token}
-use Rattle.bd_base.specs.declared.act.Token.TheVariants as tokens
 use Rattle.bd_base.specs.declared.event.Answer.{Answer}
 use Rattle.bd_base.specs.declared.event.RegEvent.{RegEvent}
 use Rattle.bd_base.specs.declared.event.RegEvent.TheVariants as events
 use Rattle.bd_base.specs.declared.id.DevId.{DevId}
 use Rattle.bd_base.specs.declared.id.ReqId.{ReqId}
 use Rattle.bd_machine.specs.declared.state.Kept.{Kept}
-use Rattle.bd_machine.specs.declared.state.Kept.TheVariants as keeps
 use Rattle.bd_machine.specs.declared.state.Limited.{Limited}
 use Rattle.bd_machine.specs.declared.state.Part.{Part}
 use Rattle.bd_machine.specs.declared.state.State.{State}
@@ -112,4 +110,4 @@ is_of_course _ = false
 abbrev pub submission_of : Act → Submission
 submission_of (acts.Accept dev lba handle req op count) = record { op = op; lba = lba; count = count }
 submission_of (acts.Refuse errno lba handle op count) = record { op = op; lba = lba; count = count }
-submission_of _ = record { op = ops.Reset; lba = 0; count = 0 }
+submission_of _ = record { op = ops.Reset 0; lba = 0; count = 0 }

@@ -14,7 +14,8 @@ use bd_machine::guard::{EVENT_ASKED, REGISTRY_ANSWER};
 use bd_machine::{OpenWalk, Part, State};
 use bd_rule_effects::{closed, decide};
 use bd_rule_events::{
-    dropped, freed, got, put_down, removal_paid, removing, reset_begun, reset_finishes, reset_thaws,
+    dropped, freed, got, put_down, removal_paid, removing, reset_begun, reset_finishes,
+    reset_thaws, resized, resizing,
 };
 use bd_rule_faults::asked_once_more;
 use bd_rule_registry::{answer_to, made};
@@ -92,6 +93,8 @@ fn answered_plainly(
         RegEvent::DropChannel { dev } => dropped(part, side.setup, side.thread, *dev, answer),
         RegEvent::FinishReset { dev } => reset_finishes(part, *dev, answer),
         RegEvent::Destructed { dev } => freed(part, *dev, answer),
+        RegEvent::BeginResize { blocks, .. } => { resizing(part, side.state.shut, *blocks, answer) }
+        RegEvent::EndResize { dev } => resized(part, side.setup, *dev, answer),
         _ => {
             decide(part, side.state.shut, answer);
             Ok(())

@@ -1,7 +1,7 @@
-//! Apply, NoMem and Destruct.
+//! Apply, NoMem, Destruct and Grow.
 ghost use Rattle.std.specs.Prelude.{◌≡◌, IfOk};
 ghost use Rattle.bd_base.specs.declared.act.Act.TheVariants as acts;
-ghost use Rattle.bd_machine.specs.Homes.{change_destruct, change_no_mem, is_base, without_last};
+ghost use Rattle.bd_machine.specs.Homes.{change_destruct, change_grow, change_no_mem, is_base, without_last};
 ghost use Rattle.bd_machine.specs.Table.{change_first};
 ghost use Rattle.bd_play.specs.Words.{changed, made_by, refused, seen};
 
@@ -9,11 +9,15 @@ use crate::side::Side;
 use bd_base::{ApplyEnd, DevId, OutOfMemory, Rows};
 use bd_blocks::{base_place, copy_of_piece, serve, size_of};
 use bd_clones::Duplicate;
-use bd_machine::guard::{CONTENT_DIGEST, END_ALLOWED, HEAD_OF_QUEUE, MAY_DESTRUCT, QUEUE_FULL};
+use bd_machine::guard::{
+    CONTENT_DIGEST, END_ALLOWED, GROW_DUE, HEAD_OF_QUEUE, MAY_DESTRUCT, QUEUE_FULL,
+};
 use bd_machine::{Base, Id, Kept, Place, Progress, State, Tracked};
-use bd_rule_effects::destructed;
+use bd_rule_effects::{destructed, grown};
 use bd_rule_registry::is_free;
-use bd_rule_requests::{is_digest_due, may_apply, may_destruct, may_end, may_refuse, piece_here};
+use bd_rule_requests::{
+    is_digest_due, may_apply, may_destruct, may_end, may_grow, may_refuse, piece_here,
+};
 use bd_rule_view::PieceId;
 use bd_state::put_in;
 use std::alloc::Global;
@@ -145,5 +149,28 @@ pub fn destruct(alloc: Global, side: &Side, dev: DevId) -> Result<State, OutOfMe
 {
     let mut next = side.state.duplicate(alloc)?;
     destructed(next.parts.at_mut(side.thread as usize), dev)?;
+    Ok(next)
+}
+
+// ---- Grow
+
+/// Why a Grow isn't allowed.
+pub fn refused_grow(side: &Side, dev: DevId, blocks: u64) -> Option<u32>
+    ensures { result ≡ refused side.now (acts.Grow dev blocks) }
+{
+    if may_grow(side, side.setup, side.thread, dev, blocks) {
+        None
+    } else {
+        Some(GROW_DUE)
+    }
+}
+
+/// The state with what a Grow changes.
+pub fn grow(alloc: Global, side: &Side, dev: DevId, blocks: u64) -> Result<State, OutOfMemory>
+    ensures { IfOk result (λ s. s ≡ changed side.now (change_grow side.now.setup.now (seen side.now) dev blocks)) }
+{
+    let mut next = side.state.duplicate(alloc)?;
+    let part = next.parts.at_mut(side.thread as usize);
+    grown(alloc, part, side.setup, dev, blocks)?;
     Ok(next)
 }

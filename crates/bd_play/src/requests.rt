@@ -75,7 +75,7 @@ pub fn accept(
     ensures { IfOk result (λ s. s ≡ changed side.now (made_by side.now (acts.Accept dev what.lba handle req what.op what.count))) }
 {
     let mut next = side.state.duplicate(alloc)?;
-    let kept = Kept::Request(new_request(handle, dev, what));
+    let kept = Kept::Request(new_request(side.setup, side.part(), handle, dev, what));
     let place = Place::At(side.thread);
     put_in(&mut next.tokens, Id::Request(req), Tracked { place, kept })?;
     let line = next_line(side.setup, side.thread, side.part());

@@ -1,11 +1,13 @@
 //! Which entry is allowed, and the state after it.
 ghost use Rattle.std.specs.Prelude.{◌≡◌, ◌<◌, length, IfOk, None, OnOk, true};
-ghost use Rattle.bd_machine.specs.Guards.{taken_injection};
+ghost use Rattle.bd_base.specs.declared.act.Act.TheVariants as acts;
+ghost use Rattle.bd_machine.specs.Guards.{prior_by};
 ghost use Rattle.bd_machine.specs.Changes.{registry_after};
 ghost use Rattle.bd_machine.specs.Step.{after, is_in_order, is_shutdown, refusal};
 ghost use Rattle.bd_machine.specs.Table.{change_at};
 ghost use Rattle.bd_machine.specs.View.{asked};
-ghost use Rattle.bd_play.specs.Words.{changed, is_of_course, is_of_request, made_by, refused, refused_with_shutdown, submission_of};
+ghost use Rattle.bd_play.specs.Words.{changed, is_of_course, is_of_request, made_by, refused, refused_with_shutdown, seen, submission_of};
+ghost use Rattle.bd_play.specs.declared.side.Side.{Side};
 
 use crate::messages::Message;
 use crate::side::Side;
@@ -13,14 +15,14 @@ use crate::{course, events, homes, messages, requests, scripts, walks};
 use bd_base::{Act, Answer, Entry, Op, OutOfMemory, RegEvent, Rows, Setup, Token};
 use bd_clones::Duplicate;
 use bd_machine::guard::IN_ORDER;
-use bd_machine::{Part, Registry, State, TakenInjection};
-use bd_rule_effects::{note_taken, register};
+use bd_machine::{Part, Prior, Registry, State, TakenInjection};
+use bd_rule_effects::{note, register};
 use bd_rule_faults::{
-    refused_abort, refused_hold, refused_inject, refused_let, refused_pend, refused_release,
-    refused_tick,
+    refused_abort, refused_due, refused_grace, refused_hold, refused_inject, refused_let,
+    refused_pend, refused_release, refused_tick,
 };
 use bd_rule_view::{PieceId, Submission};
-use bd_rule_walks::refused_visit;
+use bd_rule_walks::{refused_visit, softens};
 use std::alloc::Global;
 
 // Stamp and thread are above those of the entry before, and the thread exists.
@@ -54,7 +56,7 @@ fn submission_of(act: &Act) -> Submission
     match act {
         Act::Accept { op, lba, count, .. } => submission(*op, *lba, *count),
         Act::Refuse { op, lba, count, .. } => submission(*op, *lba, *count),
-        _ => submission(Op::Reset, 0, 0),
+        _ => submission(Op::Reset(0), 0, 0),
     }
 }
 
@@ -136,6 +138,9 @@ fn refused_act(alloc: Global, side: &Side, act: &Act) -> Result<Option<u32>, Out
         Act::Destruct { dev, digest } => Ok(homes::refused_destruct(side, *dev, digest)),
         Act::Script { line, outcome } => scripts::refused_script(side, *line, *outcome),
         Act::Shutdown => scripts::refused_shutdown(side),
+        Act::Grow { dev, blocks } => Ok(homes::refused_grow(side, *dev, *blocks)),
+        Act::Grace { walk, until } => Ok(refused_grace(side, *walk, *until)),
+        Act::Due { walk, now } => Ok(refused_due(side, *walk, *now)),
         _ => refused_course(side, act),
     }
 }
@@ -230,6 +235,9 @@ fn changed_by(alloc: Global, side: &Side, act: &Act) -> Result<State, OutOfMemor
         Act::Destruct { dev, .. } => homes::destruct(alloc, side, *dev),
         Act::Script { .. } => scripts::script(alloc, side),
         Act::Shutdown => side.state.duplicate(alloc),
+        Act::Grow { dev, blocks } => homes::grow(alloc, side, *dev, *blocks),
+        Act::Grace { walk, until } => walks::grace(alloc, side, *walk, *until),
+        Act::Due { walk, now } => walks::due(alloc, side, *walk, *now),
         _ => changed_by_course(alloc, side, act),
     }
 }
@@ -252,32 +260,50 @@ fn register_asked(
     }
 }
 
-// What an act took of an error device, for the Inject that follows.
-fn taken_injection(act: &Act) -> Option<TakenInjection>
-    ensures { result ≡ taken_injection act.now }
+// What an event took of an error device, for the Inject that follows.
+fn taken_injection(event: &RegEvent, answer: &Answer) -> Option<Prior>
+    ensures { (side : Side) → result ≡ prior_by (seen side) (acts.Reg event.now answer.now) }
 {
-    let Act::Reg { event, answer } = act else {
-        return None;
-    };
-    match (event, answer.get()) {
+    match (event, answer) {
         (RegEvent::TakeInjection { dev, req, .. }, Answer::Injected { decision }) => {
-            Some(TakenInjection {
+            Some(Prior::Injection(TakenInjection {
                 req: *req,
                 dev: *dev,
                 decision: *decision,
-            })
+            }))
         }
         _ => None,
     }
 }
 
-// The part of the thread with what the act took noted.
-#[tactic(auto, using(bd_rule_effects::proofs::Places::set_at))]
-fn note(parts: &mut Rows<Part>, thread: u32, act: &Act)
-    requires { thread < length parts.old }
-    ensures { parts.new ≡ change_at thread (λ p. record p { injection = taken_injection act.now }) parts.old }
+// What an act is to the next one of its thread.
+fn prior_by(side: &Side, act: &Act) -> Option<Prior>
+    ensures { result ≡ prior_by (seen side.now) act.now }
 {
-    note_taken(parts.at_mut(thread as usize), taken_injection(act));
+    match act {
+        Act::Reg { event, answer } => taken_injection(event, answer.get()),
+        Act::Visit { walk, dev, kind } => {
+            if softens(side, *walk, *dev, *kind) {
+                Some(Prior::Softening {
+                    walk: *walk,
+                    dev: *dev,
+                })
+            } else {
+                None
+            }
+        }
+        Act::Grow { dev, .. } => Some(Prior::Growth(*dev)),
+        _ => None,
+    }
+}
+
+// The part of the thread with what its act was noted for the next one.
+#[tactic(auto, using(bd_rule_effects::proofs::Places::set_at))]
+fn note_at(parts: &mut Rows<Part>, thread: u32, prior: Option<Prior>)
+    requires { thread < length parts.old }
+    ensures { parts.new ≡ change_at thread (λ p. record p { prior = prior }) parts.old }
+{
+    note(parts.at_mut(thread as usize), prior);
 }
 
 fn is_shutdown(act: &Act) -> bool
@@ -304,7 +330,7 @@ pub fn after(
         thread,
     };
     let mut next = changed_by(alloc, &side, &entry.act)?;
-    note(&mut next.parts, thread, &entry.act);
+    note_at(&mut next.parts, thread, prior_by(&side, &entry.act));
     register_asked(alloc, setup, &mut next.registry, thread, &entry.act)?;
     next.shut = state.shut || is_shutdown(&entry.act);
     next.stamp = entry.stamp;

@@ -53,13 +53,20 @@ fn dropped() -> Answer {
     }
 }
 
-// How the registry answers; an open has the number of its handle, and a get is the first or a later one.
+fn opened(handle: &str, blocks: u64) -> Answer {
+    Answer::Opened {
+        handle: HandleId(great(handle)),
+        dev: DEV,
+        blocks,
+    }
+}
+
+// How the registry answers; an open has the number of its handle, and of blocks where these aren't 64; a get is the
+// first or a later one.
 fn answer(alloc: Global, ask: &[&str]) -> Answer {
     match ask {
-        ["open", handle] => Answer::Opened {
-            handle: HandleId(great(handle)),
-            dev: DEV,
-        },
+        ["open", handle] => opened(handle, 64),
+        ["open", handle, blocks] => opened(handle, number(blocks)),
         ["get", which] => Answer::Got {
             fresh: *which == "first",
             frozen: Rows::new(alloc),

@@ -39,7 +39,7 @@ pub(crate) fn request(thread: &str, seq: &str) -> ReqId {
 pub(crate) fn op(word: &str) -> Op {
     match word {
         "read" => Op::Read,
-        "reset" => Op::Reset,
+        "reset" => Op::Reset(0),
         _ => Op::Write(Fill {
             seed: 5,
             flip: false,

@@ -1,8 +1,8 @@
 -- How the table of handles goes with the list of all handles.
-use Rattle.std.proofs.Common.{◌≡◌, ◌≢◌, ℕ, zero, suc, ◌<◌, Bool, true, false, not, cond, ◌&&◌, ◌==◌, ◌⊎◌, inl, inr, List, [], ◌∷◌, ◌++◌, length, map, Some, None, refl, sym, ◌∙◌, ap, eqb-true, eq-eqb, append-nil}
+use Rattle.std.proofs.Common.{◌≡◌, ◌≢◌, ℕ, zero, suc, ◌+◌, ◌<◌, ◌≤◌, Bool, true, false, not, cond, ◌&&◌, ◌==◌, ◌⊎◌, inl, inr, List, [], ◌∷◌, ◌++◌, length, map, Some, None, refl, sym, ◌∙◌, ap, eqb-true, eq-eqb, ne_eqb, lt-ltb, le-ltb, nat_lt, option_to_list, append-nil, arith}
 use Rattle.std.specs.Prelude.{slice_get}
 use Rattle.std.specs.List.{AllByRecursion, filter}
-use Rattle.std.proofs.lemmas.Bool.{cases_eq}
+use Rattle.std.proofs.lemmas.Bool.{cases_eq, cases_lt}
 use Rattle.bd_base.specs.declared.event.Answer.{Answer}
 use Rattle.bd_base.specs.declared.event.Answer.TheVariants as answers
 use Rattle.bd_base.specs.declared.event.ClaimKind.{ClaimKind}
@@ -19,7 +19,7 @@ use Rattle.bd_machine.proofs.Laws.{filter_push, filter_twice, filter_map_commute
 use Rattle.bd_machine.proofs.Tables.{dev_exact}
 use Rattle.bd_rule_channels.specs.ByDevice.{place_of, row_at, with_row}
 use Rattle.bd_rule_channels.proofs.Rows.{row_same, row_other, row_where_same}
-use Rattle.bd_registry.specs.Handles.{HandleTable, IsNumbered, Keeps, named_handle, with_handle}
+use Rattle.bd_registry.specs.Handles.{HandleTable, IsNumbered, Keeps, Rise, named_handle, with_handle}
 
 -- ---- what stays of the handles of one device
 
@@ -69,6 +69,48 @@ numbered_changed ds t hs (events.Claim i kind) answers.Claimed id n a = all_clai
 numbered_changed ds t hs (events.Close i) _ id n a = a
 numbered_changed ds t hs (events.Claim i kind) _ id n a = a
 numbered_changed ds t hs _ _ id n a = cc
+
+-- ---- numbers rise
+
+pub rise_from : (m n : ℕ) (hs : List Handle) → m ≤ n → Rise n hs → Rise m hs
+rise_from m n [] le r = tt
+rise_from m n (h ∷ hs) le r = (omega (arith, r.0), r.1)
+
+rise_left : (is : Handle → Bool) (n : ℕ) (hs : List Handle) → Rise n hs → Rise n (filter is hs)
+rise_left is n [] r = tt
+rise_left is n (h ∷ hs) r = go (is h) (rise_left is (h.id.0 + 1) hs r.1)
+  where
+    go : (b : Bool) → Rise (h.id.0 + 1) (filter is hs) → Rise n (cond b (h ∷ filter is hs) (filter is hs))
+    go true ih = (r.0, ih)
+    go false ih = rise_from n (h.id.0 + 1) (filter is hs) (omega (arith, r.0)) ih
+
+rise_claimed : (t : ℕ) (id : HandleId) (kind : ClaimKind) (n : ℕ) (hs : List Handle) → Rise n hs → Rise n (map (λ (h : Handle). cond (is_own t id h) (with_claim kind h) h) hs)
+rise_claimed t id kind n [] r = tt
+rise_claimed t id kind n (h ∷ hs) r = go (is_own t id h) (rise_claimed t id kind (h.id.0 + 1) hs r.1)
+  where
+    claimed : List Handle
+    claimed = map (λ (h : Handle). cond (is_own t id h) (with_claim kind h) h) hs
+
+    go : (b : Bool) → Rise (h.id.0 + 1) claimed → Rise n (cond b (with_claim kind h) h ∷ claimed)
+    go true ih = (r.0, ih)
+    go false ih = (r.0, ih)
+
+pub rise_changed : (t : ℕ) (hs : List Handle) (event : RegEvent) (answer : Answer) (id : HandleId) → named_handle event ≡ Some id → Rise 0 hs → Rise 0 (handles_after t hs event answer)
+rise_changed t hs (events.Close i) (answers.Closed destruct) id n r = rise_left (λ h. not (is_own t i h)) 0 hs r
+rise_changed t hs (events.Claim i kind) answers.Claimed id n r = rise_claimed t i kind 0 hs r
+rise_changed t hs (events.Close i) _ id n r = r
+rise_changed t hs (events.Claim i kind) _ id n r = r
+rise_changed t hs _ _ id n r = cc
+
+get_below : (ds : List DevId) (n : ℕ) (d : DevId) → slice_get ds n ≡ Some d → n < length ds
+get_below [] n d h = absurd cc
+get_below (x ∷ xs) zero d h = omega arith
+get_below (x ∷ xs) (suc n) d h = omega (arith, get_below xs n d h)
+
+-- a handle with the next number comes last
+rise_more : (ds : List DevId) (n : ℕ) (hs : List Handle) (h : Handle) → n ≤ h.id.0 → h.id.0 ≡ length ds → AllByRecursion (IsNumbered ds) hs → Rise n hs → Rise n (hs ++ h ∷ [])
+rise_more ds n [] h le e a r = (le, tt)
+rise_more ds n (x ∷ xs) h le e a r = (r.0, rise_more ds (x.id.0 + 1) xs h (omega (arith, get_below ds x.id.0 x.dev a.0, e)) e a.1 r.1)
 
 -- ---- a device none of whose handles is named
 
@@ -129,7 +171,11 @@ module _ (table : HandleTable) (t : ℕ) (hs : List Handle) (event : RegEvent) (
   -- where the handle is on a device, and the table has that device's row as it is then
   pub row_changed : (dev : DevId) → slice_get table.devices id.0 ≡ Some dev → 0 < length table.rows
       → Keeps (record table { rows = with_row table.rows dev (handles_after t (row_at table.rows dev) event answer) }) (handles_after t hs event answer)
-  row_changed dev at room = record { on_each = each; numbered = numbered_changed table.devices t hs event answer id named keeps.numbered }
+  row_changed dev at room = record {
+    on_each = each;
+    numbered = numbered_changed table.devices t hs event answer id named keeps.numbered;
+    rising = rise_changed t hs event answer id named keeps.rising;
+  }
     where
       row : List Handle
       row = handles_after t (row_at table.rows dev) event answer
@@ -161,6 +207,7 @@ module _ (table : HandleTable) (t : ℕ) (hs : List Handle) (event : RegEvent) (
   none_changed at = record {
     on_each = λ d. keeps.on_each d ∙ sym (on_unchanged table.devices t d hs event answer id named (away d) keeps.numbered);
     numbered = numbered_changed table.devices t hs event answer id named keeps.numbered;
+    rising = rise_changed t hs event answer id named keeps.rising;
   }
     where
       away : (d : DevId) → Elsewhere table.devices id d
@@ -182,7 +229,11 @@ numbered_more ds h [] e a = (ap (λ (n : ℕ). slice_get (ds ++ h.dev ∷ []) n)
 numbered_more ds h (x ∷ xs) e a = (get_more ds h.dev x.dev x.id.0 a.0, numbered_more ds h xs e a.1)
 
 pub one_more : (table : HandleTable) (h : Handle) (hs : List Handle) → 0 < length table.rows → h.id.0 ≡ length table.devices → Keeps table hs → Keeps (with_handle table h) (hs ++ h ∷ [])
-one_more table h hs room number keeps = record { on_each = each; numbered = numbered_more table.devices h hs number keeps.numbered }
+one_more table h hs room number keeps = record {
+  on_each = each;
+  numbered = numbered_more table.devices h hs number keeps.numbered;
+  rising = rise_more table.devices 0 hs h (omega arith) number keeps.numbered keeps.rising;
+}
   where
     place : DevId → ℕ
     place d = place_of (length table.rows) d
@@ -249,3 +300,54 @@ found_own table t id dev hs keeps at =
 
 pub missed_own : (ds : List DevId) (t : ℕ) (id : HandleId) (hs : List Handle) → slice_get ds id.0 ≡ None → AllByRecursion (IsNumbered ds) hs → None ≡ handle_of (filter (is_of t) hs) id
 missed_own ds t id hs at a = missed ds id (filter (is_of t) hs) at (all_left (IsNumbered ds) (is_of t) hs a)
+
+-- ---- all handles
+
+-- the handles with numbers below this one
+abbrev pub below_number : ℕ → List Handle → List Handle
+below_number n hs = filter (λ h. nat_lt h.id.0 n) hs
+
+-- none of those from this number on is below it
+pub none_below : (m n : ℕ) (hs : List Handle) → m ≤ n → Rise n hs → below_number m hs ≡ []
+none_below m n [] le r = refl
+none_below m n (h ∷ hs) le r =
+    ap (λ b. cond b (h ∷ below_number m hs) (below_number m hs)) (le-ltb h.id.0 m (omega (arith, r.0)))
+    ∙ none_below m (h.id.0 + 1) hs (omega (arith, r.0)) r.1
+
+-- nor has this number
+none_of : (m n : ℕ) (hs : List Handle) → m < n → Rise n hs → handle_of hs (record { 0 = m }) ≡ None
+none_of m n [] le r = refl
+none_of m n (h ∷ hs) le r =
+    ap (λ b. cond b (Some h) (handle_of hs (record { 0 = m }))) (ne_eqb h.id.0 m (λ (e : h.id.0 ≡ m). omega (arith, e, r.0)))
+    ∙ none_of m (h.id.0 + 1) hs (omega (arith, r.0)) r.1
+
+-- those below the next number are those below this one, and that of this one
+pub below_next : (m n : ℕ) (hs : List Handle) → Rise n hs → below_number (m + 1) hs ≡ below_number m hs ++ option_to_list (handle_of hs (record { 0 = m }))
+below_next m n [] r = refl
+below_next m n (h ∷ hs) r = elim (cases_lt h.id.0 m) [
+  | inl lt ↦
+      ap (λ b. cond b (h ∷ below_number (m + 1) hs) (below_number (m + 1) hs)) (lt-ltb h.id.0 (m + 1) (omega (arith, lt)))
+      ∙ ap (λ (zs : List Handle). h ∷ zs) (below_next m (h.id.0 + 1) hs r.1)
+      ∙ sym (ap (λ b. cond b (h ∷ below_number m hs) (below_number m hs) ++ option_to_list (handle_of (h ∷ hs) (record { 0 = m }))) (lt-ltb h.id.0 m lt)
+      ∙ ap (λ b. h ∷ (below_number m hs ++ option_to_list (cond b (Some h) (handle_of hs (record { 0 = m }))))) (ne_eqb h.id.0 m (λ (e : h.id.0 ≡ m). omega (arith, e, lt))))
+  | inr ge ↦ elim (cases_lt m h.id.0) [
+    | inl gt ↦
+        none_below (m + 1) h.id.0 (h ∷ hs) (omega (arith, gt)) (omega arith, r.1)
+        ∙ sym (ap (λ (zs : List Handle). zs ++ option_to_list (handle_of (h ∷ hs) (record { 0 = m }))) (none_below m h.id.0 (h ∷ hs) (omega (arith, gt)) (omega arith, r.1))
+        ∙ ap option_to_list (none_of m h.id.0 (h ∷ hs) gt (omega arith, r.1)))
+    | inr le ↦
+        let same : h.id.0 ≡ m = omega (arith, ge, le) in
+        ap (λ b. cond b (h ∷ below_number (m + 1) hs) (below_number (m + 1) hs)) (lt-ltb h.id.0 (m + 1) (omega (arith, same)))
+        ∙ ap (λ (zs : List Handle). h ∷ zs) (none_below (m + 1) (h.id.0 + 1) hs (omega (arith, same)) r.1)
+        ∙ sym (ap (λ b. cond b (h ∷ below_number m hs) (below_number m hs) ++ option_to_list (handle_of (h ∷ hs) (record { 0 = m }))) (le-ltb h.id.0 m ge)
+        ∙ ap (λ (zs : List Handle). zs ++ option_to_list (handle_of (h ∷ hs) (record { 0 = m }))) (none_below m (h.id.0 + 1) hs (omega (arith, same)) r.1)
+        ∙ ap (λ b. option_to_list (cond b (Some h) (handle_of hs (record { 0 = m })))) (eq-eqb h.id.0 m same))
+  ]
+]
+
+-- all are below the next number
+pub all_below : (ds : List DevId) (hs : List Handle) → AllByRecursion (IsNumbered ds) hs → below_number (length ds) hs ≡ hs
+all_below ds [] a = refl
+all_below ds (h ∷ hs) a =
+    ap (λ b. cond b (h ∷ below_number (length ds) hs) (below_number (length ds) hs)) (lt-ltb h.id.0 (length ds) (get_below ds h.id.0 h.dev a.0))
+    ∙ ap (λ (zs : List Handle). h ∷ zs) (all_below ds hs a.1)

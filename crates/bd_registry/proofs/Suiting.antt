@@ -20,10 +20,10 @@ use Rattle.bd_machine.specs.declared.state.Handle.{Handle}
 use Rattle.bd_machine.specs.declared.state.Registry.{Registry}
 use Rattle.bd_machine.specs.declared.state.Standing.{Standing}
 use Rattle.bd_machine.specs.declared.state.Standing.TheVariants as standings
-use Rattle.bd_machine.specs.BlockMap.{below, is_error, stands_on}
+use Rattle.bd_machine.specs.BlockMap.{below, home, is_error, stands_on}
 use Rattle.bd_machine.specs.Claims.{claim_refusal, open_refusal}
 use Rattle.bd_machine.specs.Injecting.{decision_for}
-use Rattle.bd_machine.specs.Registry.{answer_to, are_live, begin_reset_answer, claim_answer, close_answer, device_named, drop_answer, end_reset_answer, finish_reset_answer, freed_by_close, handle_of, handles_on, holders_on, if_so, injection_answer, is_bare, is_born_frozen, is_count, is_destructed_standing, is_free, is_idle_reset, is_live, is_running_reset, is_thawing_reset, left_open, made, next_reset, open_answer, other_threads_of, put_answer, references, refused_or, remove_answer, remove_answer_at, standing_of, threads_of, zero_by_drop}
+use Rattle.bd_machine.specs.Registry.{answer_to, are_live, begin_reset_answer, claim_answer, close_answer, device_named, drop_answer, end_reset_answer, end_resize_answer, finish_reset_answer, freed_by_close, growing_of, handle_of, handles_on, holders_on, if_so, injection_answer, is_bare, is_born_frozen, is_count, is_destructed_standing, is_free, is_idle_reset, is_live, is_running_reset, is_thawing_reset, left_open, made, next_reset, open_answer, other_threads_of, put_answer, references, refused_or, remove_answer, remove_answer_at, resize_answer, resize_refusal, size_now, standing_of, threads_of, zero_by_drop}
 use Rattle.bd_machine.specs.Threads.{is_nobody}
 use Rattle.bd_machine.specs.Users.{base_handle}
 use Rattle.bd_registry.specs.Handles.{IsNext, is_of_kind}
@@ -46,7 +46,7 @@ suits_open : (setup : Setup) (r : Registry) (name : List ℕ) (write : Bool) (o 
 suits_open setup r name write None = (record { kind = refl; number = tt })
 suits_open setup r name write (Some n) =
     let dev : DevId = record { 0 = n } in
-    let opened : Answer = answers.Opened (record { 0 = r.next }) dev in
+    let opened : Answer = answers.Opened (record { 0 = r.next }) dev (size_now setup r dev) in
     let errno : Option Errno = open_refusal write (holders_on r dev) in
     either (events.Open name write) r.next (are_live setup r dev) (refused_or errno opened) (answers.Refused NoDev)
     (refused (events.Open name write) r.next errno opened (λ e. (record { kind = refl; number = tt })) (record { kind = refl; number = refl })) (record { kind = refl; number = tt })
@@ -110,6 +110,17 @@ suits_injection setup next dev req op (Some device) = either (events.TakeInjecti
 suits_destructed : (setup : Setup) (r : Registry) (t : ℕ) (dev : DevId) → Suits (events.Destructed dev) r.next (answer_to setup r t (events.Destructed dev))
 suits_destructed setup r t dev = either (events.Destructed dev) r.next (is_free setup r dev) (answers.Freed (left_open setup r dev (base_handle setup dev))) (answers.Refused Inval) (record { kind = refl; number = tt }) (record { kind = refl; number = tt })
 
+suits_resize : (setup : Setup) (r : Registry) (name : List ℕ) (blocks : ℕ) (o : Option ℕ) → Suits (events.BeginResize name blocks) r.next (resize_answer setup r blocks o)
+suits_resize setup r name blocks None = (record { kind = refl; number = tt })
+suits_resize setup r name blocks (Some n) =
+    let dev : DevId = record { 0 = n } in
+    refused (events.BeginResize name blocks) r.next (resize_refusal setup r dev blocks) (answers.Resizing dev (record { 0 = home setup dev }))
+    (λ e. (record { kind = refl; number = tt })) (record { kind = refl; number = tt })
+
+suits_end_resize : (setup : Setup) (r : Registry) (dev : DevId) (o : Option ℕ) → Suits (events.EndResize dev) r.next (end_resize_answer setup r dev o)
+suits_end_resize setup r dev None = (record { kind = refl; number = tt })
+suits_end_resize setup r dev (Some blocks) = (record { kind = refl; number = tt })
+
 pub answer_suits : (setup : Setup) (r : Registry) (t : ℕ) (event : RegEvent) → Suits event r.next (answer_to setup r t event)
 answer_suits setup r t (events.Open name write) = suits_open setup r name write (device_named setup name)
 answer_suits setup r t (events.Close id) = suits_close setup r t id (handle_of r.handles id)
@@ -123,3 +134,5 @@ answer_suits setup r t (events.EndReset dev) = suits_end r.next dev (threads_of 
 answer_suits setup r t (events.FinishReset dev) = suits_finish r.next dev (threads_of setup r dev) (slice_get r.devices dev.0)
 answer_suits setup r t (events.TakeInjection dev req op) = suits_injection setup r.next dev req op (slice_get r.devices dev.0)
 answer_suits setup r t (events.Destructed dev) = suits_destructed setup r t dev
+answer_suits setup r t (events.BeginResize name blocks) = suits_resize setup r name blocks (device_named setup name)
+answer_suits setup r t (events.EndResize dev) = suits_end_resize setup r dev (growing_of r dev)

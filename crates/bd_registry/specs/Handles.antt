@@ -1,5 +1,5 @@
 -- The open handles by device.
-use Rattle.std.specs.Prelude.{◌≡◌, ℕ, ◌+◌, Bool, true, false, List, [], ◌∷◌, ◌++◌, filter, Option, Some, None, slice_get}
+use Rattle.std.specs.Prelude.{◌≡◌, ℕ, ◌+◌, ◌≤◌, Bool, true, false, List, [], ◌∷◌, ◌++◌, filter, Option, Some, None, slice_get}
 use Rattle.std.specs.List.{AllByRecursion}
 use Rattle.bd_base.specs.declared.event.Answer.{Answer}
 use Rattle.bd_base.specs.declared.event.Answer.TheVariants as answers
@@ -20,10 +20,16 @@ pub record HandleTable : Type 0 where
 abbrev pub IsNumbered : List DevId → Handle → Type 0
 IsNumbered devices h = slice_get devices h.id.0 ≡ Some h.dev
 
--- the table has these handles
+-- the handles have rising numbers, from this one on
+abbrev pub Rise : ℕ → List Handle → Type 0
+Rise n [] = Unit {0}
+Rise n (h ∷ hs) = (n ≤ h.id.0) × Rise (h.id.0 + 1) hs
+
+-- the table has these handles, which have rising numbers
 pub record Keeps (table : HandleTable) (handles : List Handle) : Type 0 where
   pub on_each : (dev : DevId) → filter (is_on dev) (row_at table.rows dev) ≡ filter (is_on dev) handles
   pub numbered : AllByRecursion (IsNumbered table.devices) handles
+  pub rising : Rise 0 handles
 
 -- the table with one handle more
 abbrev pub with_handle : HandleTable → Handle → HandleTable
@@ -31,7 +37,7 @@ with_handle table h = record { rows = with_row table.rows h.dev (row_at table.ro
 
 -- the handle that an answer gives has this number
 abbrev pub IsNext : ℕ → Answer → Type 0
-IsNext next (answers.Opened id dev) = id.0 ≡ next
+IsNext next (answers.Opened id dev blocks) = id.0 ≡ next
 IsNext next _ = Unit {0}
 
 -- the handle that a close or a claim names
@@ -44,9 +50,9 @@ named_handle _ = None
 abbrev pub is_of_kind : RegEvent → Answer → Bool
 is_of_kind (events.Open name write) (answers.Removing dev threads handles destruct) = false
 is_of_kind (events.Open name write) _ = true
-is_of_kind (events.BeginRemove name) (answers.Opened id dev) = false
+is_of_kind (events.BeginRemove name) (answers.Opened id dev blocks) = false
 is_of_kind (events.BeginRemove name) _ = true
-is_of_kind _ (answers.Opened id dev) = false
+is_of_kind _ (answers.Opened id dev blocks) = false
 is_of_kind _ (answers.Removing dev threads handles destruct) = false
 is_of_kind _ _ = true
 

@@ -37,6 +37,11 @@ fn copy_event(event: &RegEvent) -> Result<RegEvent, OutOfMemory>
             op: *op,
         },
         RegEvent::Destructed { dev } => RegEvent::Destructed { dev: *dev },
+        RegEvent::BeginResize { name, blocks } => RegEvent::BeginResize {
+            name: name.copy()?,
+            blocks: *blocks,
+        },
+        RegEvent::EndResize { dev } => RegEvent::EndResize { dev: *dev },
     })
 }
 
@@ -44,9 +49,14 @@ fn copy_answer(answer: &Answer) -> Result<Answer, OutOfMemory>
     ensures { IfOk result (λ a. a ≡ answer.now) }
 {
     Ok(match answer {
-        Answer::Opened { handle, dev } => Answer::Opened {
+        Answer::Opened {
+            handle,
+            dev,
+            blocks,
+        } => Answer::Opened {
             handle: *handle,
             dev: *dev,
+            blocks: *blocks,
         },
         Answer::Closed { destruct } => Answer::Closed {
             destruct: *destruct,
@@ -85,6 +95,19 @@ fn copy_answer(answer: &Answer) -> Result<Answer, OutOfMemory>
             decision: *decision,
         },
         Answer::Freed { close } => Answer::Freed { close: *close },
+        Answer::Resizing { dev, home } => Answer::Resizing {
+            dev: *dev,
+            home: *home,
+        },
+        Answer::Resized {
+            handles,
+            blocks,
+            destruct,
+        } => Answer::Resized {
+            handles: handles.copy()?,
+            blocks: *blocks,
+            destruct: *destruct,
+        },
         Answer::Refused(errno) => Answer::Refused(*errno),
     })
 }

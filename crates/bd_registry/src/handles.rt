@@ -1,5 +1,5 @@
 //! The open handles by device, and a device of each by its number.
-ghost use Rattle.std.specs.Prelude.{◌≡◌, ◌<◌, ◌+◌, ◌++◌, ◌∷◌, [], ℕ, List, Some, true, filter, length, slice_get, IfOk, OnOk, OnErr};
+ghost use Rattle.std.specs.Prelude.{◌≡◌, ◌<◌, ◌+◌, ◌++◌, ◌∷◌, [], ℕ, List, Some, true, filter, length, option_to_list, slice_get, IfOk, OnOk, OnErr};
 ghost use Rattle.bd_base.specs.declared.event.RegEvent.TheVariants.{Open};
 ghost use Rattle.bd_machine.specs.Changes.{handles_after, next_after};
 ghost use Rattle.bd_machine.specs.Registry.{handle_of, is_on};
@@ -115,6 +115,17 @@ impl Handles {
         }
     }
 
+    // All open handles, by rising number, or out of memory. It takes a step for each handle that was ever opened.
+    pub(crate) fn all(&self, alloc: Global) -> Result<Rows<Handle>, OutOfMemory>
+        ensures { (handles : List Handle) → Keeps self.now handles → IfOk result (λ all. all ≡ handles) }
+    {
+        let mut all = Rows::new(alloc);
+        for number in 0..self.next() {
+            push_found(&mut all, self.find(HandleId(number)))?;
+        }
+        Ok(all)
+    }
+
     // Puts a handle into the row of its device.
     fn put(&mut self, handle: Handle) -> Result<(), OutOfMemory>
         ensures ok { OnOk result (self.new ≡ record self.old { rows = with_row self.old.rows handle.dev (row_at self.old.rows handle.dev ++ handle ∷ []) }) }
@@ -168,12 +179,17 @@ impl Handles {
         ensures err { OnErr result (self.new ≡ self.old) }
     {
         match answer {
-            Answer::Opened { handle, dev } => self.add(Handle {
+            Answer::Opened {
+                handle,
+                dev,
+                blocks,
+            } => self.add(Handle {
                 id: *handle,
                 dev: *dev,
                 thread: ThreadId(thread),
                 write,
                 claim: None,
+                blocks: *blocks,
             }),
             _ => Ok(()),
         }
@@ -225,6 +241,16 @@ impl Handles {
             RegEvent::Claim { handle, .. } => self.change_by(alloc, *handle, thread, event, answer),
             _ => Ok(()),
         }
+    }
+}
+
+// Adds a handle that was found, if one was.
+fn push_found(all: &mut Rows<Handle>, found: Option<Handle>) -> Result<(), OutOfMemory>
+    ensures { OnOk result (all.new ≡ all.old ++ option_to_list found) }
+{
+    match found {
+        Some(handle) => all.push(handle),
+        None => Ok(()),
     }
 }
 

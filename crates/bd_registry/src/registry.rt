@@ -13,7 +13,7 @@ use crate::copies::event_row;
 use crate::names::Names;
 use crate::setups::rows_of;
 use crate::tables::Tables;
-use bd_base::{Act, Answer, DevId, Entry, HandleId, Journaled, OutOfMemory, RegEvent, Setup};
+use bd_base::{Act, Answer, DevId, Entry, HandleId, Journaled, OutOfMemory, RegEvent, Rows, Setup};
 use bd_machine::{Between, Device, Handle};
 use bd_rule_channels::counts_after;
 use bd_rule_registry::answer_by;
@@ -75,6 +75,10 @@ impl Records for Registry {
 
     fn handles_of(&self, dev: DevId) -> &[Handle] {
         self.tables.handles.on(dev)
+    }
+
+    fn open_handles(&self, alloc: Global) -> Result<Rows<Handle>, OutOfMemory> {
+        self.tables.handles.all(alloc)
     }
 
     fn references(&self, thread: u32, dev: DevId) -> Option<u128> {
@@ -178,7 +182,9 @@ impl Registry {
         ensures { result ≡ named_by self.now.setup event.now }
     {
         match event {
-            RegEvent::Open { name, .. } | RegEvent::BeginRemove { name } => self.names.find(name),
+            RegEvent::Open { name, .. }
+            | RegEvent::BeginRemove { name }
+            | RegEvent::BeginResize { name, .. } => self.names.find(name),
             _ => None,
         }
     }

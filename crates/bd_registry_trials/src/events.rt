@@ -2,6 +2,11 @@
 use bd_base::{ClaimKind, DevId, HandleId, Name, Op, OutOfMemory, RegEvent, ReqId};
 use std::alloc::Global;
 
+// A number in decimal digits; 0 where it is none.
+fn number(word: &str) -> u64 {
+    word.parse().unwrap_or(0)
+}
+
 /// A small number in decimal digits; 0 where it is none.
 pub(crate) fn small(word: &str) -> u32 {
     word.parse().unwrap_or(0)
@@ -78,6 +83,11 @@ pub(crate) fn event(
             req: request(thread, "0"),
             op: Op::Read,
         }),
+        ["grow", word, blocks] => Some(RegEvent::BeginResize {
+            name: name(alloc, word)?,
+            blocks: number(blocks),
+        }),
+        ["grown", word] => Some(RegEvent::EndResize { dev: dev(word) }),
         ["report", word] => Some(RegEvent::Destructed { dev: dev(word) }),
         _ => None,
     })

@@ -10,9 +10,27 @@ fn destructs(text: &mut String, dev: &Option<DevId>) -> Result<(), OutOfMemory> 
     Ok(())
 }
 
-fn opened(text: &mut String, handle: HandleId, dev: DevId) -> Result<(), OutOfMemory> {
-    write!(text, "handle {} on {}", handle.0, dev.0)?;
+// Handles with their threads.
+fn told_handles(text: &mut String, handles: &[(HandleId, ThreadId)]) -> Result<(), OutOfMemory> {
+    text.push_str(", handles")?;
+    for (handle, thread) in handles {
+        write!(text, " {} of {}", handle.0, thread.0)?;
+    }
     Ok(())
+}
+
+fn opened(text: &mut String, handle: HandleId, dev: DevId, blocks: u64) -> Result<(), OutOfMemory> {
+    write!(text, "handle {} on {}, {blocks} blocks", handle.0, dev.0)?;
+    Ok(())
+}
+
+fn resized(
+    text: &mut String,
+    handles: &[(HandleId, ThreadId)],
+    blocks: u64,
+) -> Result<(), OutOfMemory> {
+    write!(text, "resized, {blocks} blocks")?;
+    told_handles(text, handles)
 }
 
 fn got(text: &mut String, fresh: bool, frozen: &[DevId]) -> Result<(), OutOfMemory> {
@@ -46,11 +64,7 @@ fn removing(
             write!(text, " {thread}")?;
         }
     }
-    text.push_str(", handles")?;
-    for (handle, thread) in handles {
-        write!(text, " {} of {}", handle.0, thread.0)?;
-    }
-    Ok(())
+    told_handles(text, handles)
 }
 
 fn finished(text: &mut String, next: &Option<(ReqId, ThreadSet)>) -> Result<(), OutOfMemory> {
@@ -73,7 +87,11 @@ fn freed(text: &mut String, close: &Option<HandleId>) -> Result<(), OutOfMemory>
 pub(crate) fn told(alloc: Global, answer: &Answer) -> Result<String, OutOfMemory> {
     let mut text = String::new(alloc);
     match answer {
-        Answer::Opened { handle, dev } => opened(&mut text, *handle, *dev)?,
+        Answer::Opened {
+            handle,
+            dev,
+            blocks,
+        } => opened(&mut text, *handle, *dev, *blocks)?,
         Answer::Closed { destruct } => {
             text.push_str("closed")?;
             destructs(&mut text, destruct)?;
@@ -104,6 +122,17 @@ pub(crate) fn told(alloc: Global, answer: &Answer) -> Result<String, OutOfMemory
         Answer::ResetFinished { next } => finished(&mut text, next)?,
         Answer::Injected { decision } => write!(text, "{decision:?}")?,
         Answer::Freed { close } => freed(&mut text, close)?,
+        Answer::Resizing { dev, home } => {
+            write!(text, "resizing {}, home {}", dev.0, home.0)?;
+        }
+        Answer::Resized {
+            handles,
+            blocks,
+            destruct,
+        } => {
+            resized(&mut text, handles.as_slice(), *blocks)?;
+            destructs(&mut text, destruct)?;
+        }
         Answer::Refused(errno) => write!(text, "errno {}", errno.number())?,
     }
     Ok(text)

@@ -153,7 +153,7 @@ next_name scripts thread done = option_and_then (λ line. name_in line.job) (sli
 
 -- the number and the device's name of the handle that the act opens
 abbrev pub opened_in_act : Act → Option (ℕ × List ℕ)
-opened_in_act (acts.Reg (events.Open device write) (answers.Opened handle dev)) = Some (handle.0, device)
+opened_in_act (acts.Reg (events.Open device write) (answers.Opened handle dev blocks)) = Some (handle.0, device)
 opened_in_act _ = None
 
 -- a thread's handle with this number and device, if it has a name

@@ -1,6 +1,6 @@
 //! The devices in the registry after an event and its answer.
 ghost use Rattle.std.specs.Prelude.{◌≡◌, OnOk, OnErr};
-ghost use Rattle.bd_machine.specs.Changes.{devices_after, less_injection, with_reset, with_standing, with_waiting, without_next};
+ghost use Rattle.bd_machine.specs.Changes.{begun_growing, devices_after, grown_to, less_injection, with_reset, with_standing, with_waiting, without_next};
 ghost use Rattle.bd_machine.specs.Table.{change_at};
 
 use bd_base::{Answer, DevId, Op, OutOfMemory, RegEvent, ReqId, Rows};
@@ -71,6 +71,35 @@ fn take_injection(devices: &mut Rows<Device>, dev: DevId, op: Op)
     }
 }
 
+// A device is growing to this number of blocks.
+#[tactic(auto, using(crate::proofs::Places::set_at, crate::proofs::Places::none_at))]
+fn begin_growing(devices: &mut Rows<Device>, dev: DevId, blocks: u64)
+    ensures { devices.new ≡ change_at dev.0 (begun_growing blocks) devices.old }
+{
+    let place = dev.0 as usize;
+    if place < devices.len() {
+        devices.at_mut(place).growing = Some(blocks);
+    }
+}
+
+fn grow_one(device: &mut Device, blocks: u64)
+    ensures { device.new ≡ grown_to blocks device.old }
+{
+    device.blocks = blocks;
+    device.growing = None;
+}
+
+// A device has this number of blocks from now on.
+#[tactic(auto, using(crate::proofs::Places::set_at, crate::proofs::Places::none_at))]
+fn end_growing(devices: &mut Rows<Device>, dev: DevId, blocks: u64)
+    ensures { devices.new ≡ change_at dev.0 (grown_to blocks) devices.old }
+{
+    let place = dev.0 as usize;
+    if place < devices.len() {
+        grow_one(devices.at_mut(place), blocks);
+    }
+}
+
 /// The devices after an event and its answer. Out of memory leaves them as they were.
 pub fn change_devices(
     devices: &mut Rows<Device>,
@@ -102,6 +131,12 @@ pub fn change_devices(
         }
         (RegEvent::TakeInjection { dev, op, .. }, Answer::Injected { .. }) => {
             take_injection(devices, *dev, *op)
+        }
+        (RegEvent::BeginResize { blocks, .. }, Answer::Resizing { dev, .. }) => {
+            begin_growing(devices, *dev, *blocks)
+        }
+        (RegEvent::EndResize { dev }, Answer::Resized { blocks, .. }) => {
+            end_growing(devices, *dev, *blocks)
         }
         _ => {}
     }

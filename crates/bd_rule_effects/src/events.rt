@@ -81,6 +81,7 @@ pub fn destruct_of(answer: &Answer) -> Option<DevId>
         Answer::Closed { destruct } => *destruct,
         Answer::Dropped { destruct, .. } => *destruct,
         Answer::Removing { destruct, .. } => *destruct,
+        Answer::Resized { destruct, .. } => *destruct,
         _ => None,
     }
 }

@@ -98,6 +98,8 @@ pub fn news_of(what: &Token) -> Result<Option<News>, OutOfMemory>
         Token::Channel(dev) => Ok(Some(News::Channel(*dev))),
         Token::Device(dev) => Ok(Some(News::Device(*dev))),
         Token::Go(req, threads) => Ok(Some(News::Go(*req, *threads))),
+        Token::Grow(dev, blocks) => Ok(Some(News::Grow(*dev, *blocks))),
+        Token::Sized(handle, blocks) => Ok(Some(News::Sized(*handle, *blocks))),
         _ => Ok(None),
     }
 }

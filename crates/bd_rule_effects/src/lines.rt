@@ -19,6 +19,7 @@ pub fn decision_of(answer: &Answer) -> Option<Decided>
         Answer::Closed { .. } => Some(Decided::Closed),
         Answer::Claimed => Some(Decided::Done),
         Answer::Removing { .. } => Some(Decided::Done),
+        Answer::Resizing { .. } => Some(Decided::Done),
         Answer::Refused(errno) => Some(Decided::Refused(*errno)),
         _ => None,
     }

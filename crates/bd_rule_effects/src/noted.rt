@@ -3,11 +3,12 @@ ghost use Rattle.std.specs.Prelude.{◌≡◌};
 ghost use Rattle.bd_machine.specs.Events.{alone};
 ghost use Rattle.bd_machine.specs.Guards.{noted};
 
-use bd_machine::{Part, TakenInjection};
+use bd_machine::{Part, Prior};
 
-/// What an act took of an error device, if it did, is kept for the act that follows. So does every act.
-pub fn note_taken(part: &mut Part, taken: Option<TakenInjection>)
-    ensures { part.new ≡ (noted taken (alone part.old)).part }
+/// What an act was is kept for the act that follows, where that one may have to follow it directly. So does
+/// every act.
+pub fn note(part: &mut Part, prior: Option<Prior>)
+    ensures { part.new ≡ (noted prior (alone part.old)).part }
 {
-    part.injection = taken;
+    part.prior = prior;
 }

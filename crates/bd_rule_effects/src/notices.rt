@@ -1,7 +1,9 @@
 //! A notice is taken.
-ghost use Rattle.std.specs.Prelude.{◌≡◌, ◌++◌, IfOk, OnOk};
+ghost use Rattle.std.specs.Prelude.{◌≡◌, ◌++◌, position, IfOk, OnOk};
 ghost use Rattle.bd_machine.specs.Events.{alone};
 ghost use Rattle.bd_machine.specs.Messages.{removals_owed, told_part, told_walk, went};
+ghost use Rattle.bd_machine.specs.Same.{same_handle};
+ghost use Rattle.bd_machine.specs.Table.{write};
 ghost use Rattle.bd_machine.specs.Walks.{reset_of};
 ghost use Rattle.bd_machine.specs.declared.state.News.TheVariants as told;
 ghost use Rattle.bd_rule_effects.specs.Begun.{with_walk};
@@ -38,6 +40,32 @@ fn lose_handle(
     owe_removals(&mut part.owed, devs.as_slice())
 }
 
+fn size_place(sizes: &[(HandleId, u64)], handle: HandleId) -> Option<usize>
+    ensures { result ≡ position (λ row. same_handle row.0 handle) sizes.now }
+{
+    sizes.iter().position(|row| row.0.0 == handle.0)
+}
+
+// The device of a handle has so many blocks from now on.
+fn note_size(
+    sizes: &mut Rows<(HandleId, u64)>,
+    handle: HandleId,
+    blocks: u64,
+) -> Result<(), OutOfMemory>
+    ensures { OnOk result (sizes.new ≡ write same_handle sizes.old handle blocks) }
+{
+    match size_place(sizes.as_slice(), handle) {
+        Some(i) => {
+            sizes.set(i, (handle, blocks));
+            Ok(())
+        }
+        None => {
+            sizes.push((handle, blocks))?;
+            Ok(())
+        }
+    }
+}
+
 // What a notice tells is noted.
 fn note(alloc: Global, part: &mut Part, setup: &Setup, news: &News) -> Result<(), OutOfMemory>
     ensures { OnOk result (part.new ≡ told_part setup.now news.now part.old) }
@@ -48,6 +76,8 @@ fn note(alloc: Global, part: &mut Part, setup: &Setup, news: &News) -> Result<()
         News::Channel(dev) => part.owed.push(Owed::Drop(*dev)),
         News::Device(dev) => part.owed.push(Owed::Destruct(*dev)),
         News::Go(_, _) => Ok(()),
+        News::Grow(dev, blocks) => part.owed.push(Owed::Grow(*dev, *blocks)),
+        News::Sized(handle, blocks) => note_size(&mut part.sized, *handle, *blocks),
     }
 }
 
@@ -69,6 +99,7 @@ fn go(
         kind: WalkKind::Freeze,
         threads,
         request: Some(req),
+        time: reset.time,
     };
     begin_walk(part, thread, plan)
 }

@@ -68,12 +68,20 @@ pub fn change_handles(
     ensures err { OnErr result (handles.new ≡ handles.old) }
 {
     match (event, answer) {
-        (RegEvent::Open { write, .. }, Answer::Opened { handle, dev }) => handles.push(Handle {
+        (
+            RegEvent::Open { write, .. },
+            Answer::Opened {
+                handle,
+                dev,
+                blocks,
+            },
+        ) => handles.push(Handle {
             id: *handle,
             dev: *dev,
             thread: ThreadId(thread),
             write: *write,
             claim: None,
+            blocks: *blocks,
         }),
         (RegEvent::Close { handle }, Answer::Closed { .. }) => {
             release(alloc, handles, thread, *handle);

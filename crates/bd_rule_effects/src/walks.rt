@@ -2,7 +2,7 @@
 ghost use Rattle.std.specs.Prelude.{◌≡◌, ◌++◌, IfOk, OnOk};
 ghost use Rattle.bd_base.specs.declared.request.WalkKind.TheVariants.{Freeze};
 ghost use Rattle.bd_machine.specs.Events.{alone};
-ghost use Rattle.bd_machine.specs.Walks.{after_walk, begin_walk, drain_threads, is_at_end, numbered, over_nobody, walked};
+ghost use Rattle.bd_machine.specs.Walks.{after_walk, begin_walk_with, drain_threads, is_at_end, numbered, over_nobody, walked};
 ghost use Rattle.bd_rule_effects.specs.Begun.{begun, walk_moved, with_walk};
 
 use crate::resets::stage;
@@ -11,14 +11,15 @@ use bd_blocks::is_nobody;
 use bd_machine::{OpenWalk, Part, Stage};
 use bd_rule_requests::reset_of;
 
-/// A walk that is to begin: over these threads, for a device, and for a reset's request if it is one of
-/// a reset.
+/// A walk that is to begin: over these threads, for a device, for a reset's request if it is one of a reset, and
+/// for a freeze walk with the drain time of its reset (microseconds), else 0.
 #[derive(Clone, Copy, PartialEq, Eq)]
 pub struct Plan {
     pub dev: DevId,
     pub kind: WalkKind,
     pub threads: ThreadSet,
     pub request: Option<ReqId>,
+    pub time: u64,
 }
 
 // Numbers of walks are used up. A number past 128 bits counts as out of memory.
@@ -63,7 +64,7 @@ pub fn begin_walk(
     thread: u32,
     plan: Plan,
 ) -> Result<Option<(WalkId, OpenWalk)>, OutOfMemory>
-    ensures { IfOk result (λ walk. with_walk part.new walk ≡ begin_walk thread plan.kind plan.dev plan.threads plan.request (alone part.old)) }
+    ensures { IfOk result (λ walk. with_walk part.new walk ≡ begin_walk_with thread plan.kind plan.dev plan.threads plan.request plan.time (alone part.old)) }
 {
     if is_nobody(plan.threads) {
         begin_over_nobody(part, plan.kind, plan.request)?;
@@ -82,6 +83,7 @@ pub fn begin_walk(
             left: plan.threads,
             request: plan.request,
             taken: false,
+            time: plan.time,
         },
     )))
 }
@@ -115,6 +117,7 @@ fn drain(
         kind: WalkKind::Drain,
         threads,
         request: walk.request,
+        time: 0,
     };
     begin_walk(part, thread, plan)
 }

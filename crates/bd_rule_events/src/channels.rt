@@ -2,12 +2,12 @@
 ghost use Rattle.std.specs.Prelude.{◌≡◌, OnOk};
 ghost use Rattle.std.specs.List.{list_any};
 ghost use Rattle.bd_machine.specs.Events.{all_born, born, channel_due, device_due, destruct_of, dropped_by, paid, put_down_by, put_paid, with_due};
-ghost use Rattle.bd_machine.specs.Marks.{frozen_as, remarked};
+ghost use Rattle.bd_machine.specs.Marks.{born_as, remarked, with_frozen};
 ghost use Rattle.bd_machine.specs.Same.{same_dev};
 ghost use Rattle.bd_machine.specs.declared.state.Owed.TheVariants as owes;
 
 use bd_base::{Answer, DevId, Dropped, OutOfMemory, Setup};
-use bd_machine::{News, Owed, Part};
+use bd_machine::{FreezeMark, News, Owed, Part};
 use bd_rule_effects::{destruct_of, device_due, make_due, pay};
 use bd_rule_requests::marking_of;
 use bd_rule_walks::{remark, uncount};
@@ -21,19 +21,30 @@ fn is_among(devs: &[DevId], dev: DevId) -> bool
 }
 
 // The device's freeze mark on the thread is set so. Out of memory leaves the part unspecified.
-fn freeze_as(part: &mut Part, dev: DevId, frozen: bool) -> Result<(), OutOfMemory>
-    ensures { OnOk result (part.new ≡ remarked dev (frozen_as frozen) part.old) }
+fn freeze_as(part: &mut Part, dev: DevId, frozen: FreezeMark) -> Result<(), OutOfMemory>
+    ensures { OnOk result (part.new ≡ remarked dev (with_frozen frozen) part.old) }
 {
     let mut marking = marking_of(part, dev);
     marking.frozen = frozen;
     remark(part, dev, marking)
 }
 
+// The freeze mark that a channel is born with.
+fn born_as(frozen: bool) -> FreezeMark
+    ensures { result ≡ born_as frozen }
+{
+    if frozen {
+        FreezeMark::Hard
+    } else {
+        FreezeMark::Not
+    }
+}
+
 // A channel is made: frozen where the answer says so, and its delays count from 0.
 fn born(part: &mut Part, frozen: &[DevId], dev: DevId) -> Result<(), OutOfMemory>
     ensures { OnOk result (part.new ≡ born frozen.now dev part.old) }
 {
-    freeze_as(part, dev, is_among(frozen, dev))?;
+    freeze_as(part, dev, born_as(is_among(frozen, dev)))?;
     uncount(part, dev)
 }
 
@@ -96,7 +107,7 @@ fn dropped_by(part: &mut Part, thread: u32, dev: DevId, answer: &Answer) -> Resu
     };
     if !matches!(*what, Dropped::Kept) {
         // the freeze mark goes with the channel
-        freeze_as(part, dev, false)?;
+        freeze_as(part, dev, FreezeMark::Not)?;
     }
     channel_due(part, thread, *zero)
 }

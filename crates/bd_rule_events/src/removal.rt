@@ -77,6 +77,7 @@ pub fn removing(
         kind: WalkKind::Removal,
         threads: *threads,
         request: None,
+        time: 0,
     };
     begin_walk(part, thread, plan)
 }

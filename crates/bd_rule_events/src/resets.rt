@@ -1,18 +1,46 @@
 //! BeginReset, EndReset and FinishReset.
-ghost use Rattle.std.specs.Prelude.{◌≡◌, IfOk, OnOk};
+ghost use Rattle.std.specs.Prelude.{◌≡◌, find, IfOk, OnOk};
 ghost use Rattle.bd_machine.specs.Asked.{is_reset_at};
-ghost use Rattle.bd_machine.specs.Events.{first_req, go_due, reset_begun, reset_finishes, reset_thaws, with_due, with_reset};
+ghost use Rattle.bd_machine.specs.Events.{drain_time, first_req, go_due, reset_begun, reset_finishes, reset_thaws, time_of_op, with_due, with_reset};
+ghost use Rattle.bd_machine.specs.Same.{same_request};
 ghost use Rattle.bd_rule_effects.specs.Begun.{with_walk};
 
-use bd_base::{Answer, DevId, OutOfMemory, ReqId, ThreadSet, WalkId, WalkKind};
-use bd_machine::{News, OpenWalk, Part, Resetting, Stage};
+use bd_base::{Answer, DevId, Op, OutOfMemory, ReqId, ThreadSet, WalkId, WalkKind};
+use bd_machine::{News, Open, OpenList, OpenWalk, Part, Resetting, Stage};
 use bd_rule_effects::{Plan, advance, begin_walk, make_due};
-use bd_rule_view::same_stage;
+use bd_rule_view::{same_request, same_stage};
 
 fn is_reset_at(dev: DevId, stage: Stage, reset: &Resetting) -> bool
     ensures { result ≡ is_reset_at dev stage reset.now }
 {
     reset.dev.0 == dev.0 && same_stage(reset.stage, stage)
+}
+
+// The drain time that an open reset asks for; 0 for every other type.
+fn time_of_op(op: Op) -> u64
+    ensures { result ≡ time_of_op op }
+{
+    match op {
+        Op::Reset(time) => time,
+        _ => 0,
+    }
+}
+
+// The open request of this id.
+fn open_of(requests: &OpenList, req: ReqId) -> Option<Open>
+    ensures { result ≡ find (λ o. same_request o.id req) requests.now }
+{
+    requests.iter().copied().find(|o| same_request(o.id, req))
+}
+
+// The drain time of an open reset of the thread.
+fn drain_time(part: &Part, req: ReqId) -> u64
+    ensures { result ≡ drain_time part.now req }
+{
+    match open_of(&part.requests, req) {
+        Some(o) => time_of_op(o.op),
+        None => 0,
+    }
 }
 
 // A reset of the thread is kept.
@@ -25,11 +53,13 @@ fn keep(
 ) -> Result<(), OutOfMemory>
     ensures { OnOk result (part.new ≡ with_reset req dev stage threads part.old) }
 {
+    let time = drain_time(part, req);
     part.resets.push(Resetting {
         req,
         dev,
         stage,
         threads,
+        time,
     })
 }
 
@@ -52,6 +82,7 @@ pub fn reset_begun(
                 kind: WalkKind::Freeze,
                 threads: *threads,
                 request: Some(req),
+                time: drain_time(part, req),
             };
             begin_walk(part, thread, plan)
         }
@@ -94,6 +125,7 @@ pub fn reset_thaws(
         kind: WalkKind::Thaw,
         threads: *threads,
         request,
+        time: 0,
     };
     begin_walk(part, thread, plan)
 }

@@ -8,7 +8,7 @@ use bd_base::{AbortCause, DevId, Op, ReqId, Setup};
 use bd_blocks::is_below;
 use bd_machine::guard::{ABORT_CAUSE, MAY_ABORT};
 use bd_machine::{Hold, Open, OpenList, OpenRequest};
-use bd_rule_requests::{any_unsent, has_range, is_fail, is_frozen, is_removed, request_here};
+use bd_rule_requests::{any_unsent, freezes_here, has_range, is_fail, is_removed, request_here};
 use bd_rule_view::{Sees, same_request};
 
 fn is_held(hold: Hold) -> bool
@@ -74,7 +74,9 @@ fn is_cause<S: Sees>(
 {
     let part = seen.part();
     match cause {
-        AbortCause::Frozen(dev) => is_below(setup, r.dev, dev) && is_frozen(part, dev),
+        AbortCause::Frozen(dev) => {
+            is_below(setup, r.dev, dev) && freezes_here(part, r.late, dev)
+        }
         AbortCause::Removed(dev) => is_below(setup, r.dev, dev) && is_removed(part, dev),
         AbortCause::Named(by) => is_named(thread, req, r, by, &part.requests),
     }

@@ -5,22 +5,22 @@ ghost use Rattle.bd_machine.specs.Step.{first_failing};
 
 use bd_base::{Decision, DevId, OutOfMemory, ReqId};
 use bd_machine::guard::{INJECTION_TAKEN, MAY_PEND};
-use bd_machine::{Injected, OpenRequest, TakenInjection};
+use bd_machine::{Injected, OpenRequest, Prior};
 use bd_rule_requests::{is_at_own, request_here};
 use bd_rule_view::{Sees, same_decision, same_request};
 
 // ---- Inject
 
-fn is_taken(req: ReqId, dev: DevId, decision: Decision, taken: Option<TakenInjection>) -> bool
-    ensures { result ≡ is_taken req dev decision taken }
+fn is_taken(req: ReqId, dev: DevId, decision: Decision, prior: Option<Prior>) -> bool
+    ensures { result ≡ is_taken req dev decision prior }
 {
-    match taken {
-        Some(taken) => {
+    match prior {
+        Some(Prior::Injection(taken)) => {
             same_request(taken.req, req)
                 && taken.dev.0 == dev.0
                 && same_decision(taken.decision, decision)
         }
-        None => false,
+        _ => false,
     }
 }
 
@@ -28,7 +28,7 @@ fn is_taken(req: ReqId, dev: DevId, decision: Decision, taken: Option<TakenInjec
 pub fn refused_inject<S: Sees>(seen: &S, req: ReqId, dev: DevId, decision: Decision) -> Option<u32>
     ensures { result ≡ first_failing (guards_inject (S.view_of seen.now) req dev decision) }
 {
-    if is_taken(req, dev, decision, seen.part().injection) {
+    if is_taken(req, dev, decision, seen.part().prior) {
         None
     } else {
         Some(INJECTION_TAKEN)

@@ -135,7 +135,7 @@ fn is_next_in_line<S: Sees>(
         None => false,
     };
     let part = seen.part();
-    waits && is_next && is_head(req, waiting_for(part, dev)) && !is_marked(setup, part, r.dev)
+    waits && is_next && is_head(req, waiting_for(part, dev)) && !is_marked(setup, part, &r)
 }
 
 // Whether each limit that counts the request lets it through.

@@ -20,6 +20,7 @@ waits_for known jobs.Wait = where_holds (nat_lt 0 known.requests) reasons.Reques
 waits_for known (jobs.Sleep micros) = where_holds (not (known.has_slept micros)) reasons.Time
 waits_for known (jobs.Await mark) = where_holds (not (known.has_mark mark)) reasons.Mark
 waits_for known (jobs.Gone handle) = where_holds (known.awaits_removal handle) reasons.Gone
+waits_for known (jobs.Sized handle blocks) = where_holds (known.awaits_size handle blocks) reasons.Size
 waits_for known _ = None
 
 -- the command of the next line

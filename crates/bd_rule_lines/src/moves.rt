@@ -8,6 +8,8 @@ pub enum Why {
     Mark,
     /// The remove event of a handle.
     Gone,
+    /// A larger size of a handle's device.
+    Size,
     /// The end of all the thread's open requests.
     Requests,
     /// Room for one more request: 1,024 are open.

@@ -16,6 +16,8 @@ use std::marker::Model;
 /// - `await` waits for its `Mark` until the thread took it.
 /// - `gone` waits for `Gone` until the thread took the handle's remove event; on a name that
 ///   isn't bound it doesn't wait.
+/// - `sized` waits for `Size` while the thread knows of fewer blocks of the handle's device; on a name that isn't
+///   bound, and on one whose handle its thread closed by itself, it doesn't wait.
 /// - Nothing else waits.
 pub fn waits_for<K: Knows>(known: &K, job: &Job) -> Option<Why>
     ensures { result ≡ waits_for (K.known_of known.now) job.now }
@@ -26,10 +28,12 @@ pub fn waits_for<K: Knows>(known: &K, job: &Job) -> Option<Why>
         Job::Sleep(micros) => (!known.has_slept(*micros)).then_some(Why::Time),
         Job::Await(mark) => (!known.has_mark(mark)).then_some(Why::Mark),
         Job::Gone { handle } => known.awaits_removal(handle).then_some(Why::Gone),
+        Job::Sized { handle, blocks } => { known.awaits_size(handle, *blocks).then_some(Why::Size) }
         Job::Open { .. }
         | Job::Close { .. }
         | Job::Claim { .. }
         | Job::Remove { .. }
+        | Job::Resize { .. }
         | Job::Post(_) => None,
     }
 }

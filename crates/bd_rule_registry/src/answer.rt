@@ -10,17 +10,20 @@ use crate::devices::{
     remove_answer,
 };
 use crate::handles::{claim_answer, close_answer, open_answer};
+use crate::resize::{end_resize_answer, resize_answer};
 use bd_base::{Answer, OutOfMemory, RegEvent, Setup};
 use bd_blocks::device_named;
 use bd_rule_view::Records;
 use std::alloc::Global;
 
-// The place of the device that an open or a removal names.
+// The place of the device that an open, a removal or a resize names.
 fn named_by(setup: &Setup, event: &RegEvent) -> Option<usize>
     ensures { result ≡ named_by setup.now event.now }
 {
     match event {
-        RegEvent::Open { name, .. } | RegEvent::BeginRemove { name } => device_named(setup, name),
+        RegEvent::Open { name, .. }
+        | RegEvent::BeginRemove { name }
+        | RegEvent::BeginResize { name, .. } => device_named(setup, name),
         _ => None,
     }
 }
@@ -88,5 +91,7 @@ pub fn answer_by<R: Records>(
             Ok(injection_answer(setup, *dev, *op, registry.device(*dev)))
         }
         RegEvent::Destructed { dev } => destructed_answer(alloc, setup, registry, *dev),
+        RegEvent::BeginResize { blocks, .. } => resize_answer(setup, registry, *blocks, named),
+        RegEvent::EndResize { dev } => end_resize_answer(alloc, setup, registry, *dev),
     }
 }

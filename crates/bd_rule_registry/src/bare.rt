@@ -1,8 +1,9 @@
 //! What stands against a destruction: open handles and channels.
 ghost use Rattle.std.specs.Prelude.{◌≡◌, ◌==◌, filter, length, not, IfOk};
-ghost use Rattle.bd_machine.specs.Registry.{freed_by_close, handles_on, if_so, is_bare, is_free, is_own, is_removing_standing, other_threads_of, standing_of, threads_of};
+ghost use Rattle.bd_machine.specs.Registry.{freed_by_close, freed_by_resize, handles_on, if_so, is_bare, is_free, is_own, is_removing_standing, is_unused, other_threads_of, standing_of, threads_of};
 ghost use Rattle.bd_machine.specs.Threads.{is_nobody};
 
+use crate::sizes::is_growing;
 use crate::standing::standing_of;
 use bd_base::{DevId, HandleId, OutOfMemory, Setup, ThreadSet};
 use bd_blocks::with_thread;
@@ -103,13 +104,19 @@ fn is_removing<R: Records>(registry: &R, dev: DevId) -> bool
     matches!(standing_of(registry, dev), Standing::Removing)
 }
 
-/// Whether the device may be destructed: it is being removed, with neither handle nor channel.
+/// Whether the device has neither handle nor channel.
+pub(crate) fn is_unused<R: Records>(setup: &Setup, registry: &R, dev: DevId) -> bool
+    ensures { result ≡ is_unused (handles_on (R.registry_of registry.now) dev) (threads_of setup.now (R.registry_of registry.now) dev) }
+{
+    has_no_handle(registry, dev) && has_no_channel(setup, registry, dev)
+}
+
+/// Whether the device may be destructed: it is being removed, with neither handle nor channel, and no resize
+/// of it is under way.
 pub fn is_free<R: Records>(setup: &Setup, registry: &R, dev: DevId) -> bool
     ensures { result ≡ is_free setup.now (R.registry_of registry.now) dev }
 {
-    is_removing(registry, dev)
-        && has_no_handle(registry, dev)
-        && has_no_channel(setup, registry, dev)
+    is_removing(registry, dev) && is_unused(setup, registry, dev) && !is_growing(registry, dev)
 }
 
 /// The device, where the close of this thread's handle of it leaves it to be destructed.
@@ -124,7 +131,8 @@ pub(crate) fn freed_by_close<R: Records>(
 {
     let is_bare = is_removing(registry, dev)
         && has_no_other_handle(registry, thread, id, dev)
-        && has_no_channel(setup, registry, dev);
+        && has_no_channel(setup, registry, dev)
+        && !is_growing(registry, dev);
     if_so(is_bare, dev)
 }
 
@@ -139,8 +147,19 @@ pub(crate) fn freed_by_drop<R: Records>(
 {
     let is_bare = is_removing(registry, dev)
         && has_no_handle(registry, dev)
-        && has_no_other_channel(setup, registry, thread, dev);
+        && has_no_other_channel(setup, registry, thread, dev)
+        && !is_growing(registry, dev);
     if_so(is_bare, dev)
+}
+
+/// The device, where the end of its resize leaves it to be destructed.
+pub(crate) fn freed_by_resize<R: Records>(setup: &Setup, registry: &R, dev: DevId) -> Option<DevId>
+    ensures { result ≡ freed_by_resize setup.now (R.registry_of registry.now) dev }
+{
+    if_so(
+        is_removing(registry, dev) && is_unused(setup, registry, dev),
+        dev,
+    )
 }
 
 pub(crate) fn if_so(so: bool, dev: DevId) -> Option<DevId>

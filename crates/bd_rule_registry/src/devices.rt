@@ -4,7 +4,8 @@ ghost use Rattle.bd_machine.specs.Registry.{begin_reset_answer, destructed_answe
 ghost use Rattle.bd_machine.specs.Users.{base_handle};
 ghost use Rattle.bd_machine.specs.declared.state.Standing.TheVariants as standings;
 
-use crate::bare::{has_no_channel, has_no_handle, if_so, is_free, threads_of};
+use crate::bare::{if_so, is_free, is_unused, threads_of};
+use crate::sizes::is_growing;
 use crate::standing::standing_of;
 use bd_base::{
     Answer, DevId, Errno, HandleId, HandleList, Op, OutOfMemory, ReqId, Rows, Setup, ThreadSet,
@@ -43,7 +44,7 @@ fn removing<R: Records>(
 {
     let threads = threads_of(setup, registry, dev)?;
     let handles = openers_of(alloc, registry, dev)?;
-    let is_bare = has_no_handle(registry, dev) && has_no_channel(setup, registry, dev);
+    let is_bare = is_unused(setup, registry, dev) && !is_growing(registry, dev);
     Ok(Answer::Removing {
         dev,
         threads,

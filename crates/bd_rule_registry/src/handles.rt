@@ -3,13 +3,15 @@ ghost use Rattle.std.specs.Prelude.{◌≡◌, IfOk};
 ghost use Rattle.bd_machine.specs.Registry.{claim_answer, close_answer, open_answer, refused_or};
 
 use crate::bare::freed_by_close;
+use crate::sizes::size_now;
 use crate::standing::{are_live, is_live};
 use bd_base::{Answer, ClaimKind, DevId, Errno, HandleId, OutOfMemory, Setup};
 use bd_machine::Handle;
 use bd_rule_claims::{claim_refusal, open_refusal};
 use bd_rule_view::Records;
 
-fn refused_or(errno: Option<Errno>, answer: Answer) -> Answer
+/// The refusal, where there is one, or else the answer.
+pub(crate) fn refused_or(errno: Option<Errno>, answer: Answer) -> Answer
     ensures { result ≡ refused_or errno answer }
 {
     match errno {
@@ -39,7 +41,12 @@ pub(crate) fn open_answer<R: Records>(
         return Ok(Answer::Refused(Errno::NoDev));
     }
     let handle = HandleId(registry.next());
-    let opened = Answer::Opened { handle, dev };
+    let blocks = size_now(setup, registry, dev);
+    let opened = Answer::Opened {
+        handle,
+        dev,
+        blocks,
+    };
     Ok(refused_or(open_refusal(registry.handles_of(dev), dev, write), opened))
 }
 

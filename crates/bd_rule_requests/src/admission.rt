@@ -1,13 +1,13 @@
 //! Which submissions are refused, and why.
 ghost use Rattle.std.specs.Prelude.{◌≡◌, IfErr, IfOk, None, Some, true};
-ghost use Rattle.bd_machine.specs.Admission.{has_range, is_gone, is_on_removed, is_outside, is_removed_handle, is_unmap, refusal_of, refusal_on, writes};
+ghost use Rattle.bd_machine.specs.Admission.{has_range, is_gone, is_on_removed, is_outside, is_removed_handle, is_unmap, refusal_of, refusal_on, size_of_handle, writes};
 ghost use Rattle.bd_machine.specs.Asked.{is_handle_on};
 ghost use Rattle.bd_machine.specs.Registry.{handle_of};
 ghost use Rattle.bd_machine.specs.Requests.{is_device_of};
 
 use crate::marks::is_removed_below;
 use bd_base::{DevId, Errno, HandleId, Op, Setup};
-use bd_blocks::{blocks_of, is_aio, size_of};
+use bd_blocks::{is_aio, size_of};
 use bd_machine::{Handle, Part};
 use bd_rule_view::{Sees, Submission};
 
@@ -24,7 +24,7 @@ fn writes(op: Op) -> bool
 pub fn has_range(op: Op) -> bool
     ensures { result ≡ has_range op }
 {
-    !matches!(op, Op::Reset | Op::Abort(_))
+    !matches!(op, Op::Reset(_) | Op::Abort(_))
 }
 
 fn is_unmap(op: Op) -> bool
@@ -33,17 +33,30 @@ fn is_unmap(op: Op) -> bool
     matches!(op, Op::Unmap)
 }
 
-// Whether no request may have the range.
-fn is_outside(setup: &Setup, dev: DevId, lba: u64, count: u64) -> bool
-    ensures { result ≡ is_outside setup.now dev lba count }
+/// How many blocks a handle's device has, as far as the thread was told: the last number that it was told of since
+/// the open, or that at the open.
+pub fn size_of_handle(part: &Part, handle: &Handle) -> u64
+    ensures { result ≡ size_of_handle part.now handle.now }
+{
+    for row in part.sized.as_slice() {
+        if row.0.0 == handle.id.0 {
+            return row.1;
+        }
+    }
+    handle.blocks
+}
+
+// Whether no request on a device of so many blocks may have the range.
+fn is_outside(setup: &Setup, dev: DevId, blocks: u64, lba: u64, count: u64) -> bool
+    ensures { result ≡ is_outside setup.now dev blocks lba count }
 {
     count == 0
         || MAX_BYTES < count as u128 * size_of(setup, dev) as u128
-        || (blocks_of(setup, dev) as u128) < lba as u128 + count as u128
+        || (blocks as u128) < lba as u128 + count as u128
 }
 
-fn refusal_on(setup: &Setup, handle: Option<Handle>, what: Submission) -> Option<Errno>
-    ensures { result ≡ refusal_on setup.now handle what.op what.lba what.count }
+fn refusal_on(setup: &Setup, part: &Part, handle: Option<Handle>, what: Submission) -> Option<Errno>
+    ensures { result ≡ refusal_on setup.now part.now handle what.op what.lba what.count }
 {
     let Some(h) = handle else {
         return Some(Errno::BadDesc);
@@ -52,7 +65,9 @@ fn refusal_on(setup: &Setup, handle: Option<Handle>, what: Submission) -> Option
         Some(Errno::BadDesc)
     } else if is_unmap(what.op) && is_aio(setup, h.dev) {
         Some(Errno::NotSup)
-    } else if has_range(what.op) && is_outside(setup, h.dev, what.lba, what.count) {
+    } else if has_range(what.op)
+        && is_outside(setup, h.dev, size_of_handle(part, &h), what.lba, what.count)
+    {
         Some(Errno::Inval)
     } else {
         None
@@ -88,7 +103,7 @@ fn is_removed_handle<S: Sees>(seen: &S, setup: &Setup, id: HandleId) -> bool
 /// handle's remove event was taken, or a device below its own carries a removal mark; then `BadDesc`
 /// where the handle isn't open, or for a write, zeroes, unmap or flush where it is open for reading;
 /// then `NotSup` for an unmap over a file; then `Inval` for no block, more than 262,144 bytes, or a
-/// range past the device's end. The order is this project's choice.
+/// range past the end of the device, as far as the thread was told of its size. The order is this project's choice.
 pub fn refusal_of<S: Sees>(
     seen: &S,
     setup: &Setup,
@@ -103,7 +118,7 @@ pub fn refusal_of<S: Sees>(
     if is_removed_handle(seen, setup, id) {
         Some(Errno::NoDev)
     } else {
-        refusal_on(setup, seen.handle(id), what)
+        refusal_on(setup, seen.part(), seen.handle(id), what)
     }
 }
 
@@ -133,7 +148,7 @@ pub fn admit<S: Sees>(
         return Err(Errno::NoDev);
     }
     let found = seen.handle(handle);
-    match refusal_on(setup, found, what) {
+    match refusal_on(setup, seen.part(), found, what) {
         Some(errno) => Err(errno),
         None => match found {
             Some(h) => Ok(h.dev),

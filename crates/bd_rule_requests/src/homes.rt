@@ -1,16 +1,16 @@
-//! What a home may do: apply a piece, refuse one, and destruct a device.
+//! What a home may do: apply a piece, refuse one, destruct a device, and let one grow.
 ghost use Rattle.std.specs.Prelude.{◌≡◌, ◌==◌, ◌&&◌, option_copied};
 ghost use Rattle.std.specs.List.{list_any};
 ghost use Rattle.bd_machine.specs.BlockMap.{depth_of, is_aio};
-ghost use Rattle.bd_machine.specs.Homes.{base_here, holds_at_most, is_digest_due, is_done_or, is_first, is_first_at, is_last, is_on_base, is_told, is_too_many, may_destruct};
-ghost use Rattle.bd_machine.specs.Same.{same_dev, same_request};
-ghost use Rattle.bd_rule_requests.specs.Homes.{may_apply, may_refuse};
+ghost use Rattle.bd_machine.specs.Homes.{base_here, holds_at_most, is_digest_due, is_done_or, is_first, is_first_at, is_last, is_on_base, is_told, is_told_to_grow, is_too_many, may_destruct};
+ghost use Rattle.bd_machine.specs.Same.{same_dev, same_owed, same_request};
+ghost use Rattle.bd_rule_requests.specs.Homes.{may_apply, may_grow, may_refuse};
 ghost use Rattle.bd_rule_view.specs.Came.{came_free};
 
 use crate::kept::piece_here;
 use bd_base::{ApplyEnd, DevId, ReqId, Setup};
 use bd_blocks::{depth_of, find_base, home, is_aio, is_home};
-use bd_machine::{Base, OpenPiece, Owed};
+use bd_machine::{Base, OpenPiece, Owed, Part};
 use bd_rule_view::{PieceId, Sees, same_owed, same_request};
 
 /// A base device whose home the thread is.
@@ -128,16 +128,36 @@ pub fn has_destructed(destructed: &[DevId], dev: DevId) -> bool
     destructed.iter().any(|d| dev.0 == d.0)
 }
 
+// Whether the thread still has to do this once.
+fn owes(part: &Part, due: Owed) -> bool
+    ensures { result ≡ list_any (same_owed due) part.now.owed }
+{
+    part.owed
+        .as_slice()
+        .iter()
+        .any(|owed| same_owed(due, *owed))
+}
+
 /// Whether the thread was told to destruct the device, and didn't yet.
 pub fn is_told<S: Sees>(seen: &S, dev: DevId) -> bool
     ensures { result ≡ is_told (S.view_of seen.now) dev }
 {
-    let due = Owed::Destruct(dev);
-    seen.part()
-        .owed
-        .as_slice()
-        .iter()
-        .any(|owed| same_owed(due, *owed))
+    owes(seen.part(), Owed::Destruct(dev))
+}
+
+// Whether the thread was told to let the device's content grow to this number of blocks, and didn't yet.
+fn is_told_to_grow<S: Sees>(seen: &S, dev: DevId, blocks: u64) -> bool
+    ensures { result ≡ is_told_to_grow (S.view_of seen.now) dev blocks }
+{
+    owes(seen.part(), Owed::Grow(dev, blocks))
+}
+
+/// Whether the thread may let a device's content grow to this number of blocks: it is the device's home, and was told
+/// to and didn't yet.
+pub fn may_grow<S: Sees>(seen: &S, setup: &Setup, thread: u32, dev: DevId, blocks: u64) -> bool
+    ensures { result ≡ may_grow setup.now thread (S.view_of seen.now) dev blocks }
+{
+    home(setup, dev) == thread && is_told_to_grow(seen, dev, blocks)
 }
 
 /// Whether the thread may destruct a device: it is the device's home, it was told to and didn't yet,

@@ -40,7 +40,7 @@ pub fn is_at_own(thread: u32, req: ReqId, r: OpenRequest) -> bool
 }
 
 /// Whether a request of a type with a range goes on to its cut: it is on its own thread, neither cut nor
-/// aborted nor marked, has every Let, and no decision so far stops it.
+/// aborted nor stopped by a mark, has every Let, and no decision so far stops it.
 pub fn is_under_way<S: Sees>(
     seen: &S,
     setup: &Setup,
@@ -51,7 +51,7 @@ pub fn is_under_way<S: Sees>(
     ensures { result ≡ is_under_way setup.now thread (S.view_of seen.now) req r }
 {
     let is_whole = is_at_own(thread, req, r) && has_range(r.op) && r.pieces.is_none();
-    let is_free = r.aborted.is_none() && !is_marked(setup, seen.part(), r.dev);
+    let is_free = r.aborted.is_none() && !is_marked(setup, seen.part(), &r);
     is_whole && is_free && next_limited(setup, r).is_none() && goes_on(r.injected.last)
 }
 

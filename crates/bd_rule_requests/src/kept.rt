@@ -3,8 +3,9 @@ ghost use Rattle.std.specs.Prelude.{◌≡◌, option_copied};
 ghost use Rattle.bd_machine.specs.Kept.{piece_here, request_here, walk_here};
 ghost use Rattle.bd_machine.specs.Requests.{new_request};
 
-use bd_base::{Decision, DevId, HandleId, ReqId, WalkId};
-use bd_machine::{Hold, Id, Injected, OpenPiece, OpenRequest, OpenWalk, Trip};
+use crate::marks::late_of;
+use bd_base::{Decision, DevId, HandleId, ReqId, Setup, WalkId};
+use bd_machine::{Hold, Id, Injected, OpenPiece, OpenRequest, OpenWalk, Part, Trip};
 use bd_rule_view::{PieceId, Sees, Submission, as_piece, as_request, as_walk};
 
 /// What is kept of a request that is on the thread.
@@ -28,9 +29,15 @@ pub fn walk_here<S: Sees>(seen: &S, walk: WalkId) -> Option<OpenWalk>
     as_walk(seen.kept(Id::Walk(walk)))
 }
 
-/// What is kept of a request at its acceptance.
-pub fn new_request(handle: HandleId, dev: DevId, what: Submission) -> OpenRequest
-    ensures { result ≡ new_request handle dev what.op what.lba what.count }
+/// What is kept of a request at its acceptance on a thread with this part.
+pub fn new_request(
+    setup: &Setup,
+    part: &Part,
+    handle: HandleId,
+    dev: DevId,
+    what: Submission,
+) -> OpenRequest
+    ensures { result ≡ new_request setup.now part.now handle dev what.op what.lba what.count }
 {
     OpenRequest {
         handle,
@@ -50,5 +57,6 @@ pub fn new_request(handle: HandleId, dev: DevId, what: Submission) -> OpenReques
         aborted: None,
         pieces: None,
         hold: Hold::Before,
+        late: late_of(setup, part, dev),
     }
 }

@@ -52,6 +52,8 @@ pub fn tells(news: &News, what: &Token) -> bool
         (News::Channel(a), Token::Channel(b)) => a.0 == b.0,
         (News::Device(a), Token::Device(b)) => a.0 == b.0,
         (News::Go(a, s), Token::Go(b, t)) => same_request(*a, *b) && s.0 == t.0,
+        (News::Grow(a, m), Token::Grow(b, n)) => a.0 == b.0 && m == n,
+        (News::Sized(a, m), Token::Sized(b, n)) => a.0 == b.0 && m == n,
         _ => false,
     }
 }

@@ -12,7 +12,7 @@ use bd_rule_view::same_request;
 pub fn is_reset(op: Op) -> bool
     ensures { result ≡ is_reset op }
 {
-    matches!(op, Op::Reset)
+    matches!(op, Op::Reset(_))
 }
 
 /// Whether this is the reset of the request.

@@ -44,7 +44,7 @@ fn is_success_due<S: Sees>(seen: &S, req: ReqId, r: OpenRequest) -> bool
     ensures { result ≡ is_success_due (S.view_of seen.now) req r r.op }
 {
     match r.op {
-        Op::Reset => is_finished(reset_of(seen.part(), req)),
+        Op::Reset(_) => is_finished(reset_of(seen.part(), req)),
         Op::Abort(seq) => has_stopped(
             seen,
             ReqId {

@@ -1,7 +1,7 @@
 //! Which events are asked of the registry.
 ghost use Rattle.std.specs.Prelude.{◌≡◌, ◌&&◌, ◌==◌, is_some, not};
 ghost use Rattle.std.specs.List.{list_any};
-ghost use Rattle.bd_machine.specs.Asked.{asks_between, asks_event, asks_freely, has_reset_at, is_asked_remove, is_close_on, is_get_of, is_handle_on, is_new_reset, may_close, may_close_on, open_on, owes_it, owes_removal};
+ghost use Rattle.bd_machine.specs.Asked.{asks_between, asks_event, asks_freely, has_grown, has_reset_at, is_asked_remove, is_close_on, is_get_of, is_handle_on, is_new_reset, may_close, may_close_on, open_on, owes_it, owes_removal};
 ghost use Rattle.bd_machine.specs.Registry.{handle_of};
 ghost use Rattle.bd_machine.specs.Same.{same_dev, same_owed, same_request};
 ghost use Rattle.bd_machine.specs.Users.{is_base_handle};
@@ -9,11 +9,11 @@ ghost use Rattle.bd_machine.specs.Walks.{is_reset};
 ghost use Rattle.bd_machine.specs.declared.state.Owed.TheVariants as owes;
 ghost use Rattle.bd_rule_view.specs.Came.{came_between, came_shut};
 
-use crate::jobs::{claims, closes, opens, removes};
+use crate::jobs::{claims, closes, opens, removes, resizes};
 use crate::lines::{job_now, open_on};
 use bd_base::{DevId, HandleId, Name, RegEvent, ReqId, Setup};
 use bd_blocks::{device_named, is_base_handle};
-use bd_machine::{Between, OpenList, Owed, Part, Stage};
+use bd_machine::{Between, OpenList, Owed, Part, Prior, Stage};
 use bd_rule_requests::{asks_injection, is_gone, is_reset, reset_of};
 use bd_rule_view::{Sees, same_owed, same_request, same_stage};
 
@@ -120,6 +120,16 @@ fn has_reset_at(part: &Part, dev: DevId, stage: Stage) -> bool
         .any(|r| r.dev.0 == dev.0 && same_stage(r.stage, stage))
 }
 
+// Whether the thread's entry before let the content of this device grow.
+fn has_grown(part: &Part, dev: DevId) -> bool
+    ensures { result ≡ has_grown dev part.now.prior }
+{
+    match part.prior {
+        Some(Prior::Growth(grown)) => grown.0 == dev.0,
+        _ => false,
+    }
+}
+
 // Whether an event is asked where nothing else has to follow.
 fn asks_freely<S: Sees>(seen: &S, setup: &Setup, thread: u32, shut: bool, event: &RegEvent) -> bool
     ensures { result ≡ asks_freely setup.now thread (S.view_of seen.now) (came_shut shut) event.now }
@@ -151,6 +161,12 @@ fn asks_freely<S: Sees>(seen: &S, setup: &Setup, thread: u32, shut: bool, event:
             asks_injection(seen, setup, thread, *dev, *req, *op)
         }
         RegEvent::Destructed { dev } => owes_it(part, Owed::Report(*dev)),
+        RegEvent::BeginResize { name, blocks } => {
+            resizes(name, *blocks, job_now(seen, setup, thread, shut))
+        }
+        RegEvent::EndResize { dev } => {
+            has_grown(part, *dev) && owes_it(part, Owed::EndResize(*dev))
+        }
     }
 }
 

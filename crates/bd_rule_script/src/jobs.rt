@@ -1,6 +1,6 @@
 //! What the next line asks: an open, a close, a claim, a removal or a submission.
 ghost use Rattle.std.specs.Prelude.{◌≡◌, find, option_copied};
-ghost use Rattle.bd_machine.specs.Asked.{asks_submission, bound_to, is_job_claim, is_job_close, is_job_open, is_job_remove, is_job_submit, is_submitted_at, op_asked, seq_if_any};
+ghost use Rattle.bd_machine.specs.Asked.{asks_submission, bound_to, is_job_claim, is_job_close, is_job_open, is_job_remove, is_job_resize, is_job_submit, is_submitted_at, op_asked, seq_if_any};
 ghost use Rattle.bd_machine.specs.Requests.{is_new};
 ghost use Rattle.bd_machine.specs.Same.{is_the, same_handle};
 ghost use Rattle.bd_rule_view.specs.Came.{came_shut};
@@ -68,6 +68,16 @@ pub(crate) fn removes(name: &Name, job: Option<&Job>) -> bool
 {
     match job {
         Some(Job::Remove { dev }) => dev.is(name),
+        _ => false,
+    }
+}
+
+// Whether the job resizes the device of this name to this number of blocks.
+pub(crate) fn resizes(name: &Name, blocks: u64, job: Option<&Job>) -> bool
+    ensures { result ≡ is_job_resize name.now blocks (option_copied job.entry) }
+{
+    match job {
+        Some(Job::Resize { dev, blocks: n }) => dev.is(name) && *n == blocks,
         _ => false,
     }
 }

@@ -1,7 +1,7 @@
 //! How a script's line ends, and when it waits.
-ghost use Rattle.std.specs.Prelude.{◌≡◌, false, IfOk, None, Some};
-ghost use Rattle.bd_rule_script.specs.Waits.{awaits_removal, known_by};
-ghost use Rattle.bd_machine.specs.Asked.{busy_outcome, claim_outcome, close_outcome, decided_outcome, gone_outcome, is_script_blocked, outcome_by, outcome_due, undecided_outcome};
+ghost use Rattle.std.specs.Prelude.{◌≡◌, ℕ, false, IfOk, None, Some};
+ghost use Rattle.bd_rule_script.specs.Waits.{awaits_removal, awaits_size, known_by};
+ghost use Rattle.bd_machine.specs.Asked.{busy_outcome, claim_outcome, close_outcome, decided_outcome, gone_outcome, is_script_blocked, outcome_by, outcome_due, sized_outcome, undecided_outcome};
 ghost use Rattle.bd_machine.specs.declared.state.Part.{Part};
 ghost use Rattle.bd_rule_lines.specs.Moves.{waits_for};
 
@@ -78,9 +78,23 @@ fn gone_outcome(handle: Option<HandleId>) -> Outcome
     }
 }
 
+// How a line ends that waited for a size of a handle's device.
+fn sized_outcome<S: Sees>(seen: &S, handle: Option<HandleId>) -> Outcome
+    ensures { (blocks : ℕ) → awaits_size (S.view_of seen.now) handle blocks ≡ false → sized_outcome (S.view_of seen.now) blocks handle ≡ Some result }
+{
+    let Some(id) = handle else {
+        return Outcome::Errno(Errno::BadDesc);
+    };
+    if seen.handle(id).is_some() {
+        Outcome::Done
+    } else {
+        Outcome::Errno(Errno::NoDev)
+    }
+}
+
 // How a line ends that waits for nothing and that no entry decided.
 fn outcome_now<S: Sees>(seen: &S, job: &Job) -> Result<Option<Outcome>, OutOfMemory>
-    requires { waits_for (known_by (S.view_of seen.now).part) job.now ≡ None }
+    requires { waits_for (known_by (S.view_of seen.now)) job.now ≡ None }
     ensures { IfOk result (λ o. o ≡ undecided_outcome (S.view_of seen.now) job.now) }
 {
     let part = seen.part();
@@ -94,9 +108,10 @@ fn outcome_now<S: Sees>(seen: &S, job: &Job) -> Result<Option<Outcome>, OutOfMem
         }
         Job::Close { handle } => close_outcome(seen, bound_to(part, handle)),
         Job::Claim { handle, .. } => Ok(claim_outcome(seen, bound_to(part, handle))),
-        Job::Submit { .. } | Job::Remove { .. } => Ok(None),
+        Job::Submit { .. } | Job::Remove { .. } | Job::Resize { .. } => Ok(None),
         Job::Wait | Job::Sleep(_) | Job::Post(_) | Job::Await(_) => Ok(Some(Outcome::Done)),
         Job::Gone { handle } => Ok(Some(gone_outcome(bound_to(part, handle)))),
+        Job::Sized { handle, .. } => Ok(Some(sized_outcome(seen, bound_to(part, handle)))),
     }
 }
 
@@ -105,7 +120,7 @@ fn outcome_now<S: Sees>(seen: &S, job: &Job) -> Result<Option<Outcome>, OutOfMem
 fn undecided_outcome<S: Sees>(seen: &S, job: &Job) -> Result<Option<Outcome>, OutOfMemory>
     ensures { IfOk result (λ o. o ≡ undecided_outcome (S.view_of seen.now) job.now) }
 {
-    match waits_for(seen.part(), job) {
+    match waits_for(seen, job) {
         Some(_) => Ok(None),
         None => outcome_now(seen, job),
     }
@@ -143,7 +158,7 @@ pub fn is_script_blocked<S: Sees>(seen: &S, setup: &Setup, thread: u32) -> bool
     ensures { result ≡ is_script_blocked setup.now thread (S.view_of seen.now) }
 {
     let part = seen.part();
-    match next_move(part, next_line(setup, thread, part)) {
+    match next_move(seen, next_line(setup, thread, part)) {
         Move::End => true,
         Move::Blocked(_) => part.decided.is_none(),
         Move::Do(_) => false,

@@ -54,12 +54,16 @@ fn same_next_reset(a: Option<(ReqId, ThreadSet)>, b: Option<(ReqId, ThreadSet)>)
     }
 }
 
-// Whether the answer opened this handle of this device.
-fn is_opened(b: &Answer, handle: HandleId, dev: DevId) -> bool
-    ensures { result ≡ same_answer (answers.Opened handle dev) b.now }
+// Whether the answer opened this handle of this device, which has this number of blocks.
+fn is_opened(b: &Answer, handle: HandleId, dev: DevId, blocks: u64) -> bool
+    ensures { result ≡ same_answer (answers.Opened handle dev blocks) b.now }
 {
     match b {
-        Answer::Opened { handle: h, dev: d } => handle.0 == h.0 && dev.0 == d.0,
+        Answer::Opened {
+            handle: h,
+            dev: d,
+            blocks: n,
+        } => handle.0 == h.0 && dev.0 == d.0 && blocks == *n,
         _ => false,
     }
 }
@@ -186,6 +190,34 @@ fn is_freed(b: &Answer, close: Option<HandleId>) -> bool
     }
 }
 
+// Whether the answer began a resize of this device, which this thread carries out.
+fn is_resizing(b: &Answer, dev: DevId, home: ThreadId) -> bool
+    ensures { result ≡ same_answer (answers.Resizing dev home) b.now }
+{
+    match b {
+        Answer::Resizing { dev: d, home: t } => dev.0 == d.0 && home.0 == t.0,
+        _ => false,
+    }
+}
+
+// Whether the answer to the end of a resize says this.
+fn is_resized(b: &Answer, handles: &HandleList, blocks: u64, destruct: Option<DevId>) -> bool
+    ensures { result ≡ same_answer (answers.Resized handles.now blocks destruct) b.now }
+{
+    match b {
+        Answer::Resized {
+            handles: hs,
+            blocks: n,
+            destruct: d,
+        } => {
+            same_holders(handles.as_slice(), hs.as_slice())
+                && blocks == *n
+                && same_dev_if_any(destruct, *d)
+        }
+        _ => false,
+    }
+}
+
 fn is_refused(b: &Answer, errno: Errno) -> bool
     ensures { result ≡ same_answer (answers.Refused errno) b.now }
 {
@@ -200,7 +232,11 @@ pub fn same_answer(a: &Answer, b: &Answer) -> bool
     ensures { result ≡ same_answer a.now b.now }
 {
     match a {
-        Answer::Opened { handle, dev } => is_opened(b, *handle, *dev),
+        Answer::Opened {
+            handle,
+            dev,
+            blocks,
+        } => is_opened(b, *handle, *dev, *blocks),
         Answer::Closed { destruct } => is_closed(b, *destruct),
         Answer::Claimed => matches!(b, Answer::Claimed),
         Answer::Got { fresh, frozen } => is_got(b, *fresh, frozen),
@@ -222,6 +258,12 @@ pub fn same_answer(a: &Answer, b: &Answer) -> bool
         Answer::ResetFinished { next } => is_reset_finished(b, *next),
         Answer::Injected { decision } => is_injected(b, *decision),
         Answer::Freed { close } => is_freed(b, *close),
+        Answer::Resizing { dev, home } => is_resizing(b, *dev, *home),
+        Answer::Resized {
+            handles,
+            blocks,
+            destruct,
+        } => is_resized(b, handles, *blocks, *destruct),
         Answer::Refused(errno) => is_refused(b, *errno),
     }
 }

@@ -15,7 +15,8 @@ pub use names::{PieceId, Submission};
 pub use records::Records;
 pub use same::{
     same_decision, same_errno, same_handle_if_any, same_id, same_kind, same_news, same_op,
-    same_outcome, same_owed, same_request, same_stage, same_status, same_threads, same_walk_kind,
+    same_outcome, same_owed, same_request, same_stage, same_status, same_threads, same_walk,
+    same_walk_kind,
 };
 pub use sees::Sees;
 pub use tokens::{as_piece, as_request, as_walk, look_up};

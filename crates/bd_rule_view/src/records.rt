@@ -1,12 +1,13 @@
 //! What the registry has, whoever keeps it.
 use crate::handles::{handle_of, own_handle};
-use bd_base::{DevId, HandleId};
+use bd_base::{DevId, HandleId, OutOfMemory, Rows};
 use bd_blocks::references;
 use bd_machine::{Between, Device, Handle, Registry};
+use std::alloc::Global;
 
 /// What one may ask of a registry. Contracts see it as the machine's own registry, however it is kept.
 pub trait Records {
-    ghost use Rattle.std.specs.Prelude.{◌≡◌, filter, slice_get};
+    ghost use Rattle.std.specs.Prelude.{◌≡◌, filter, slice_get, IfOk};
     ghost use Rattle.std.specs.Option.{option_copied};
     ghost use Rattle.bd_machine.specs.Registry.{handle_of, handles_on, is_on, references};
     ghost use Rattle.bd_machine.specs.View.{is_of};
@@ -33,6 +34,10 @@ pub trait Records {
     /// Handles that are open, among them all of the device, in order of opening.
     fn handles_of(&self, dev: DevId) -> &[Handle]
         ensures { filter (is_on dev) result.now ≡ handles_on (registry_of self.now) dev };
+
+    /// All open handles, in order of opening, or out of memory.
+    fn open_handles(&self, alloc: Global) -> Result<Rows<Handle>, OutOfMemory>
+        ensures { IfOk result (λ hs. hs ≡ (registry_of self.now).handles) };
 
     /// How many references a thread has to a device; none where it has no channel.
     fn references(&self, thread: u32, dev: DevId) -> Option<u128>
@@ -64,6 +69,10 @@ impl Records for Registry {
 
     fn handles_of(&self, _dev: DevId) -> &[Handle] {
         self.handles.as_slice()
+    }
+
+    fn open_handles(&self, _alloc: Global) -> Result<Rows<Handle>, OutOfMemory> {
+        self.handles.copy()
     }
 
     fn references(&self, thread: u32, dev: DevId) -> Option<u128> {

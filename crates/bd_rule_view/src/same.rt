@@ -31,7 +31,8 @@ pub fn same_request(a: ReqId, b: ReqId) -> bool
     a.thread == b.thread && a.seq == b.seq
 }
 
-fn same_walk(a: WalkId, b: WalkId) -> bool
+/// Whether the ids name the same walk.
+pub fn same_walk(a: WalkId, b: WalkId) -> bool
     ensures { result ≡ same_walk a b }
 {
     a.thread == b.thread && a.seq == b.seq
@@ -77,6 +78,8 @@ pub fn same_news(a: &News, b: &News) -> bool
         (News::Channel(x), News::Channel(y)) => x.0 == y.0,
         (News::Device(x), News::Device(y)) => x.0 == y.0,
         (News::Go(x, ts), News::Go(y, us)) => same_request(*x, *y) && same_threads(*ts, *us),
+        (News::Grow(x, m), News::Grow(y, n)) => x.0 == y.0 && m == n,
+        (News::Sized(x, m), News::Sized(y, n)) => x.0 == y.0 && m == n,
         _ => false,
     }
 }
@@ -92,6 +95,8 @@ pub fn same_owed(a: Owed, b: Owed) -> bool
         (Owed::Close(x), Owed::Close(y)) => x.0 == y.0,
         (Owed::Put(x), Owed::Put(y)) => x.0 == y.0,
         (Owed::Remove(x), Owed::Remove(y)) => x.0 == y.0,
+        (Owed::Grow(x, m), Owed::Grow(y, n)) => x.0 == y.0 && m == n,
+        (Owed::EndResize(x), Owed::EndResize(y)) => x.0 == y.0,
         _ => false,
     }
 }
@@ -157,7 +162,7 @@ pub fn same_op(a: Op, b: Op) -> bool
         (Op::Zeroes, Op::Zeroes) => true,
         (Op::Unmap, Op::Unmap) => true,
         (Op::Flush, Op::Flush) => true,
-        (Op::Reset, Op::Reset) => true,
+        (Op::Reset(x), Op::Reset(y)) => x == y,
         (Op::Abort(x), Op::Abort(y)) => x == y,
         _ => false,
     }

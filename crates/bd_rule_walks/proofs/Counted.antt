@@ -18,7 +18,7 @@ work_is (ops.Write f) = refl
 work_is ops.Zeroes = refl
 work_is ops.Unmap = refl
 work_is ops.Flush = refl
-work_is ops.Reset = refl
+work_is (ops.Reset time) = refl
 work_is (ops.Abort n) = refl
 
 unequal : {k : ℕ} → k ≡ 0 → (k == 0) ≡ false → ⊥

@@ -4,5 +4,7 @@
 mod visit;
 mod waits;
 
-pub use visit::{mark, refused_visit, remark, uncount, visited};
+pub use visit::{
+    Visiting, hardened, mark, refused_visit, remark, softens, time_of_walk, uncount, visited,
+};
 pub use waits::{any_waits, is_drained, is_kept_waiting};

@@ -1,17 +1,19 @@
 //! Visit: a walk is at a thread, and sets or takes its marks.
 ghost use Rattle.std.specs.Prelude.{◌≡◌, ◌+◌, IfOk, OnOk};
 ghost use Rattle.bd_machine.specs.Delays.{uncounted};
+ghost use Rattle.bd_machine.specs.Guards.{softens};
 ghost use Rattle.bd_machine.specs.Same.{same_dev};
 ghost use Rattle.bd_machine.specs.Step.{first_failing};
 ghost use Rattle.bd_machine.specs.Table.{write};
-ghost use Rattle.bd_machine.specs.Walks.{guards_visit, is_next_visit, marked_by, put_owed, visited};
+ghost use Rattle.bd_machine.specs.Marks.{freeze_set, hardened};
+ghost use Rattle.bd_machine.specs.Walks.{guards_visit, is_next_visit, marked_by, put_owed, time_of_walk, visited};
 ghost use Rattle.bd_rule_walks.specs.Walking.{with_channel};
 
 use crate::waits::is_drained;
 use bd_base::{DevId, OutOfMemory, Setup, WalkId, WalkKind};
 use bd_blocks::{first_of, home, is_limited, without, write_row};
 use bd_machine::guard::{DRAINED, NEXT_VISIT};
-use bd_machine::{Delayed, Marking, OpenWalk, Owed, Part};
+use bd_machine::{Delayed, FreezeMark, Marking, OpenWalk, Owed, Part};
 use bd_rule_requests::{marking_of, walk_here};
 use bd_rule_view::{Sees, same_walk_kind};
 
@@ -91,31 +93,89 @@ fn owe_put(part: &mut Part, setup: &Setup, thread: u32, dev: DevId) -> Result<()
     Ok(())
 }
 
-/// A visit sets the freeze mark where the thread has a channel, or the removal mark, or takes the
-/// freeze mark. A count past 128 bits is out of memory, which leaves the part unspecified.
+/// A mark that is hard from now on. A count past 128 bits is out of memory.
+pub fn hardened(marking: Marking) -> Result<Marking, OutOfMemory>
+    ensures { IfOk result (λ m. m ≡ hardened marking) }
+{
+    let times = once_more(marking.times)?;
+    Ok(Marking {
+        frozen: FreezeMark::Hard,
+        removed: marking.removed,
+        times,
+    })
+}
+
+// The mark that a freeze walk's visit sets: hard, or soft where the reset has a drain time (microseconds).
+fn freeze_set(walk: WalkId, time: u64, marking: Marking) -> Result<Marking, OutOfMemory>
+    ensures { IfOk result (λ m. m ≡ freeze_set walk time marking) }
+{
+    if time == 0 {
+        return hardened(marking);
+    }
+    let until = None;
+    Ok(Marking {
+        frozen: FreezeMark::Soft { walk, time, until },
+        removed: marking.removed,
+        times: marking.times,
+    })
+}
+
+/// The drain time that a walk brings (microseconds); 0 where there is no walk.
+pub fn time_of_walk(here: Option<OpenWalk>) -> u64
+    ensures { result ≡ time_of_walk here }
+{
+    match here {
+        Some(w) => w.time,
+        None => 0,
+    }
+}
+
+/// Whether a visit of this walk sets a soft mark: it is a freeze walk with a drain time, and the thread has the
+/// device's channel.
+pub fn softens<S: Sees>(seen: &S, walk: WalkId, dev: DevId, kind: WalkKind) -> bool
+    ensures { result ≡ softens (S.view_of seen.now) walk dev kind }
+{
+    match kind {
+        WalkKind::Freeze => {
+            seen.channels(dev).is_some() && 0 < time_of_walk(walk_here(seen, walk))
+        }
+        _ => false,
+    }
+}
+
+/// A walk that visits a thread: its device and kind, and the drain time that it brings (microseconds).
+#[derive(Clone, Copy, PartialEq, Eq)]
+pub struct Visiting {
+    pub walk: WalkId,
+    pub dev: DevId,
+    pub kind: WalkKind,
+    pub time: u64,
+}
+
+/// A visit sets the freeze mark where the thread has a channel, hard or soft by the drain time, or the removal mark,
+/// or takes the freeze mark. A count past 128 bits is out of memory, which leaves the part unspecified.
 pub fn mark(
     part: &mut Part,
     setup: &Setup,
     thread: u32,
     channel: Option<u128>,
-    dev: DevId,
-    kind: WalkKind,
+    visit: Visiting,
 ) -> Result<(), OutOfMemory>
-    ensures { OnOk result (part.new ≡ marked_by setup.now thread (with_channel part.old channel) dev kind) }
+    ensures { OnOk result (part.new ≡ marked_by setup.now thread (with_channel part.old channel visit.time) visit.walk visit.dev visit.kind) }
 {
+    let dev = visit.dev;
     let mut marking = marking_of(part, dev);
-    match kind {
+    match visit.kind {
         WalkKind::Freeze => {
             if channel.is_none() {
                 return Ok(());
             }
-            marking.frozen = true;
-            marking.times = once_more(marking.times)?;
-            remark(part, dev, marking)
+            let frozen = freeze_set(visit.walk, visit.time, marking)?;
+            remark(part, dev, frozen)
         }
         WalkKind::Drain => Ok(()),
         WalkKind::Thaw => {
-            marking.frozen = false;
+            marking.frozen = FreezeMark::Not;
             remark(part, dev, marking)
         }
         WalkKind::Removal => {

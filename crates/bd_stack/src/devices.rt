@@ -7,6 +7,8 @@ ghost use Rattle.bd_machine.specs.BlockMap.{
   is_delay,
   is_error,
   is_malloc,
+  is_null,
+  is_whole_kind,
   row_of,
   shift_of_kind,
   shift_of_row,
@@ -123,6 +125,23 @@ pub fn is_malloc(setup: &Setup, dev: DevId) -> bool
         Some(row) => matches!(row.kind, Kind::Malloc),
         None => false,
     }
+}
+
+/// Whether it is a null device of the setup.
+pub fn is_null(setup: &Setup, dev: DevId) -> bool
+    ensures { result ≡ is_null setup.now dev }
+{
+    match row_of(setup, dev) {
+        Some(row) => matches!(row.kind, Kind::Null),
+        None => false,
+    }
+}
+
+/// Whether a device of this kind has just the blocks of the one that it stands on.
+pub(crate) fn is_whole_kind(kind: Kind) -> bool
+    ensures { result ≡ is_whole_kind kind }
+{
+    matches!(kind, Kind::Passthru | Kind::Delay { .. } | Kind::Error)
 }
 
 /// Whether requests on it take injected errors.

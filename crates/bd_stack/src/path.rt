@@ -3,10 +3,10 @@ ghost use Rattle.std.specs.Prelude.{◌≡◌, ◌+◌, IfOk, IfSome, suc};
 ghost use Rattle.std.specs.Option.{option_map};
 ghost use Rattle.std.specs.Iterator.{YieldsFirst, item_count};
 ghost use Rattle.bd_machine.specs.Aborts.{is_below};
-ghost use Rattle.bd_machine.specs.BlockMap.{at, base_of, below, home, is_aio, last_of, path_within, row_of, shift_of_row, stands_on};
+ghost use Rattle.bd_machine.specs.BlockMap.{at, base_of, below, home, is_aio, is_over, is_whole_or, last_of, path_within, row_of, shift_of_row, stands_on};
 ghost use Rattle.bd_machine.specs.Homes.{is_home};
 
-use crate::devices::{row_of, shift_of, stands_on};
+use crate::devices::{is_whole_kind, row_of, shift_of, stands_on};
 use bd_base::{DevId, Kind, OutOfMemory, Setup};
 use std::marker::Model;
 
@@ -109,6 +109,32 @@ pub fn is_aio(setup: &Setup, dev: DevId) -> bool
         Some(row) => matches!(row.kind, Kind::Aio),
         None => false,
     }
+}
+
+// Whether it is this base device, or has just the blocks of the one that it stands on.
+fn is_whole_or(setup: &Setup, base: DevId, dev: DevId) -> bool
+    ensures { result ≡ is_whole_or setup.now base dev }
+{
+    match row_of(setup, dev) {
+        Some(row) => dev.0 == base.0 || is_whole_kind(row.kind),
+        None => dev.0 == base.0,
+    }
+}
+
+/// Whether a device is this base device, or has just its blocks: each device on the way down to it is a passthru, a
+/// delay or an error device.
+pub fn is_over(setup: &Setup, base: DevId, dev: DevId) -> bool
+    ensures { result ≡ is_over setup.now base dev }
+{
+    if base_of(setup, dev).0 != base.0 {
+        return false;
+    }
+    for d in below(setup, dev) {
+        if !is_whole_or(setup, base, d) {
+            return false;
+        }
+    }
+    true
 }
 
 /// The block under a block of a device that stands on another; none for a base device. A number that

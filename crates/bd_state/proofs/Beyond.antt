@@ -6,7 +6,7 @@ use Rattle.bd_base.specs.declared.setup.Setup.{Setup}
 use Rattle.bd_machine.specs.declared.state.Part.{Part}
 use Rattle.bd_machine.specs.declared.state.State.{State}
 use Rattle.bd_machine.specs.BlockMap.{below}
-use Rattle.bd_machine.specs.Marks.{has_mark, is_marked}
+use Rattle.bd_machine.specs.Marks.{has_any_mark, has_mark}
 use Rattle.bd_machine.specs.View.{blank_part, part_of}
 
 beyond : {X : Type 0} (xs : List X) (i : ℕ) (d : X) → length xs ≤ i → get_or xs i d ≡ d
@@ -22,5 +22,5 @@ none_marked [] = refl
 none_marked (d ∷ ds) = none_marked ds
 
 -- and no device carries a mark there
-pub unmarked_beyond : (setup : Setup) (s : State) (t : ℕ) (dev : DevId) → length s.parts ≤ t → is_marked setup (part_of s t) dev ≡ false
-unmarked_beyond setup s t dev h = ap (λ (part : Part). is_marked setup part dev) (part_beyond s t h) ∙ none_marked (below setup dev)
+pub unmarked_beyond : (setup : Setup) (s : State) (t : ℕ) (dev : DevId) → length s.parts ≤ t → has_any_mark setup (part_of s t) dev ≡ false
+unmarked_beyond setup s t dev h = ap (λ (part : Part). has_any_mark setup part dev) (part_beyond s t h) ∙ none_marked (below setup dev)

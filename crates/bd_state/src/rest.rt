@@ -1,7 +1,7 @@
 //! When a run is at rest.
 ghost use Rattle.std.specs.Prelude.{◌≡◌};
 ghost use Rattle.std.specs.List.{list_any};
-ghost use Rattle.bd_machine.specs.Marks.{is_marked};
+ghost use Rattle.bd_machine.specs.Marks.{has_any_mark};
 ghost use Rattle.bd_machine.specs.Rest.{are_all_done, are_all_pended, are_all_put, are_gone_closed, is_at_rest, is_idle_owed, is_in_ring, is_left_open, is_nothing_owed, is_open_request, is_open_walk, is_pended, is_resting_token};
 ghost use Rattle.bd_machine.specs.View.{part_of};
 
@@ -9,7 +9,7 @@ use bd_base::Setup;
 use bd_blocks::is_base_handle;
 use bd_machine::{Handle, Id, Kept, OpenRequest, Owed, Part, Place, Registry, State, Tracked};
 use bd_rule_registry::is_live;
-use bd_rule_requests::{is_gone, is_marked};
+use bd_rule_requests::{has_any_mark, is_gone};
 use bd_rule_script::open_on;
 
 /// A message is in a ring.
@@ -102,15 +102,15 @@ fn are_gone_closed(setup: &Setup, state: &State) -> bool
     true
 }
 
-// Whether a device below carries a mark on the thread; a thread that there isn't has none.
+// Whether a device below carries a mark on the thread, a soft one too; a thread that there isn't has none.
 #[tactic(auto, using(crate::proofs::Beyond::unmarked_beyond))]
 fn is_marked_on(setup: &Setup, state: &State, thread: u32, r: OpenRequest) -> bool
-    ensures { result ≡ is_marked setup.now (part_of state.now thread) r.dev }
+    ensures { result ≡ has_any_mark setup.now (part_of state.now thread) r.dev }
 {
     if state.parts.len() <= thread as usize {
         return false;
     }
-    is_marked(setup, &state.parts.as_slice()[thread as usize], r.dev)
+    has_any_mark(setup, &state.parts.as_slice()[thread as usize], r.dev)
 }
 
 // Whether a request is kept without an answer, and nothing stops it.

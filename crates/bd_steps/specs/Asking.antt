@@ -14,12 +14,13 @@ abbrev pub is_base_if_any : Setup → Option HandleId → Bool
 is_base_if_any setup None = false
 is_base_if_any setup (Some id) = is_base_handle setup id
 
--- a line that asks the registry: it opens, claims or removes, or it closes what is no base handle (a script closes none)
+-- a line that asks the registry: it opens, claims, removes or resizes, or it closes what is no base handle (a script closes none)
 abbrev pub asks_registry : Setup → Part → Option Job → Bool
 asks_registry setup part (Some (jobs.Open handle dev write)) = true
 asks_registry setup part (Some (jobs.Close handle)) = not (is_base_if_any setup (bound_to part handle))
 asks_registry setup part (Some (jobs.Claim handle kind)) = true
 asks_registry setup part (Some (jobs.Remove dev)) = true
+asks_registry setup part (Some (jobs.Resize dev blocks)) = true
 asks_registry setup part _ = false
 
 -- the device of this number is neither being removed nor destructed

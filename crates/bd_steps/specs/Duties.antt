@@ -12,10 +12,29 @@ use Rattle.bd_machine.specs.declared.state.Registry.{Registry}
 use Rattle.bd_machine.specs.BlockMap.{row_of}
 use Rattle.bd_machine.specs.Registry.{is_live}
 
--- an event does it: any but the end of a device
+-- an event does it: any but the end of a device, and its growth
 abbrev pub is_duty : Owed → Bool
 is_duty (owes.Destruct dev) = false
+is_duty (owes.Grow dev blocks) = false
 is_duty _ = true
+
+-- the registry is wanted for it: an event does it, or follows it
+abbrev pub is_pending : Owed → Bool
+is_pending (owes.Destruct dev) = false
+is_pending _ = true
+
+-- a device's content is to grow
+abbrev pub is_growth : Owed → Bool
+is_growth (owes.Grow dev blocks) = true
+is_growth _ = false
+
+abbrev pub growth_of : Option Owed → Option (DevId × ℕ)
+growth_of (Some (owes.Grow dev blocks)) = Some (dev, blocks)
+growth_of _ = None
+
+-- the first device whose content is to grow, and to how many blocks
+abbrev pub growth_owed : List Owed → Option (DevId × ℕ)
+growth_owed owed = growth_of (find is_growth owed)
 
 abbrev pub removal_of : Option DevRow → Option RegEvent
 removal_of None = None
@@ -36,7 +55,9 @@ event_of setup (owes.Put dev) = Some (events.PutChannel dev false)
 event_of setup (owes.Close id) = Some (events.Close id)
 event_of setup (owes.Remove dev) = removal_of (row_of setup dev)
 event_of setup (owes.Report dev) = Some (events.Destructed dev)
+event_of setup (owes.EndResize dev) = Some (events.EndResize dev)
 event_of setup (owes.Destruct dev) = None
+event_of setup (owes.Grow dev blocks) = None
 
 abbrev pub duty_of : Setup → Option Owed → Option RegEvent
 duty_of setup None = None

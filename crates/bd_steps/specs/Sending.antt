@@ -47,6 +47,8 @@ token_of (news.Gone handle) = tokens.Gone handle
 token_of (news.Channel dev) = tokens.Channel dev
 token_of (news.Device dev) = tokens.Device dev
 token_of (news.Go req threads) = tokens.Go req threads
+token_of (news.Grow dev blocks) = tokens.Grow dev blocks
+token_of (news.Sized handle blocks) = tokens.Sized handle blocks
 
 -- the first message that is due, and where it is to go, while the queue there isn't full
 abbrev pub first_due : List (List Message) → List Due → Option (ℕ × Token)

@@ -21,12 +21,13 @@ fn is_base_if_any(setup: &Setup, handle: Option<HandleId>) -> bool
     }
 }
 
-/// Whether the line asks the registry: it opens, claims or removes, or it closes what is no base handle.
+/// Whether the line asks the registry: it opens, claims, removes or resizes, or it closes what is no base handle.
 pub fn asks_registry(setup: &Setup, part: &Part, job: Option<&Job>) -> bool
     ensures { result ≡ asks_registry setup.now part.now (option_copied job.entry) }
 {
     match job {
-        Some(Job::Open { .. } | Job::Claim { .. } | Job::Remove { .. }) => true,
+        Some(Job::Open { .. } | Job::Claim { .. } | Job::Remove { .. } | Job::Resize { .. }) =>
+            true,
         Some(Job::Close { handle }) => !is_base_if_any(setup, bound_to(part, handle)),
         _ => false,
     }

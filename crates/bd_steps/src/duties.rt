@@ -4,7 +4,7 @@
 ghost use Rattle.std.specs.Prelude.{◌≡◌, find, IfOk};
 ghost use Rattle.std.specs.List.{list_any};
 ghost use Rattle.bd_machine.specs.BlockMap.{row_of};
-ghost use Rattle.bd_steps.specs.Duties.{duty_owed, event_of, is_duty, owes_nothing, removal_after, removal_of};
+ghost use Rattle.bd_steps.specs.Duties.{duty_owed, event_of, growth_of, growth_owed, is_duty, is_growth, is_pending, owes_nothing, removal_after, removal_of};
 
 use bd_base::{DevId, OutOfMemory, RegEvent, Setup};
 use bd_blocks::row_of;
@@ -12,11 +12,11 @@ use bd_machine::{Owed, Part};
 use bd_rule_registry::is_live;
 use bd_rule_view::Records;
 
-// Whether an event does it: any but the end of a device.
+// Whether an event does it: any but the end of a device, and its growth.
 fn is_duty(owed: &Owed) -> bool
     ensures { result ≡ is_duty owed.now }
 {
-    !matches!(owed, Owed::Destruct(_))
+    !matches!(owed, Owed::Destruct(_) | Owed::Grow(_, _))
 }
 
 fn first_duty(owed: &[Owed]) -> Option<Owed>
@@ -25,11 +25,46 @@ fn first_duty(owed: &[Owed]) -> Option<Owed>
     owed.iter().copied().find(|o| is_duty(o))
 }
 
-/// Whether the thread owes something that an event does.
-pub fn has_duty(owed: &[Owed]) -> bool
-    ensures { result ≡ list_any is_duty owed.now }
+// Whether the registry is wanted for it: an event does it, or follows it.
+fn is_pending(owed: &Owed) -> bool
+    ensures { result ≡ is_pending owed.now }
 {
-    owed.iter().any(|o| is_duty(o))
+    !matches!(owed, Owed::Destruct(_))
+}
+
+/// Whether the thread owes something that an event does, or that one follows.
+pub fn has_duty(owed: &[Owed]) -> bool
+    ensures { result ≡ list_any is_pending owed.now }
+{
+    owed.iter().any(|o| is_pending(o))
+}
+
+fn is_growth(owed: &Owed) -> bool
+    ensures { result ≡ is_growth owed.now }
+{
+    matches!(owed, Owed::Grow(_, _))
+}
+
+fn first_growth(owed: &[Owed]) -> Option<Owed>
+    ensures { result ≡ find is_growth owed.now }
+{
+    owed.iter().copied().find(|o| is_growth(o))
+}
+
+fn growth_of(owed: Option<Owed>) -> Option<(DevId, u64)>
+    ensures { result ≡ growth_of owed }
+{
+    match owed {
+        Some(Owed::Grow(dev, blocks)) => Some((dev, blocks)),
+        _ => None,
+    }
+}
+
+/// The first device whose content the thread is to let grow, and to how many blocks.
+pub fn growth_owed(owed: &[Owed]) -> Option<(DevId, u64)>
+    ensures { result ≡ growth_owed owed.now }
+{
+    growth_of(first_growth(owed))
 }
 
 /// Whether a thread owes nothing, and it took no remove event.
@@ -68,8 +103,8 @@ pub fn removal_after<R: Records>(
     removal_of(setup, dev)
 }
 
-// The event by which a thread does a pending action. None for the end of a device, and for the removal of one
-// that isn't in the setup.
+// The event by which a thread does a pending action. None for the end of a device, for its growth, and for the
+// removal of one that isn't in the setup.
 fn event_of(setup: &Setup, owed: Owed) -> Result<Option<RegEvent>, OutOfMemory>
     ensures { IfOk result (λ event. event ≡ event_of setup.now owed) }
 {
@@ -82,7 +117,8 @@ fn event_of(setup: &Setup, owed: Owed) -> Result<Option<RegEvent>, OutOfMemory>
         Owed::Close(handle) => Ok(Some(RegEvent::Close { handle })),
         Owed::Remove(dev) => removal_of(setup, dev),
         Owed::Report(dev) => Ok(Some(RegEvent::Destructed { dev })),
-        Owed::Destruct(_) => Ok(None),
+        Owed::EndResize(dev) => Ok(Some(RegEvent::EndResize { dev })),
+        Owed::Destruct(_) | Owed::Grow(_, _) => Ok(None),
     }
 }
 

@@ -24,7 +24,7 @@ mod visiting;
 pub use answering::{made_by, removal_answered};
 pub use asking::{asks_registry, is_any_live};
 pub use completion::{Ending, Showing, drop_request, ending_of, shown_now};
-pub use duties::{duty_owed, has_duty, owes_nothing, removal_after};
+pub use duties::{duty_owed, growth_owed, has_duty, owes_nothing, removal_after};
 pub use following::{close_due, get_due};
 pub use naming::named_by;
 pub use pieces::{hold_pieces, piece_count, send_cut};

@@ -113,6 +113,8 @@ pub fn copy_of(what: &Token) -> Result<Token, OutOfMemory>
         Token::Channel(dev) => Ok(Token::Channel(*dev)),
         Token::Device(dev) => Ok(Token::Device(*dev)),
         Token::Mark(mark) => Ok(Token::Mark(mark.copy()?)),
+        Token::Grow(dev, blocks) => Ok(Token::Grow(*dev, *blocks)),
+        Token::Sized(handle, blocks) => Ok(Token::Sized(*handle, *blocks)),
     }
 }
 
@@ -126,6 +128,8 @@ fn token_of(news: &News) -> Result<Token, OutOfMemory>
         News::Channel(dev) => Ok(Token::Channel(*dev)),
         News::Device(dev) => Ok(Token::Device(*dev)),
         News::Go(req, threads) => Ok(Token::Go(*req, *threads)),
+        News::Grow(dev, blocks) => Ok(Token::Grow(*dev, *blocks)),
+        News::Sized(handle, blocks) => Ok(Token::Sized(*handle, *blocks)),
     }
 }
 

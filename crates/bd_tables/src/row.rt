@@ -60,7 +60,7 @@ impl Row {
     fn is_waiting(&self) -> bool
         ensures { result ≡ is_waiting self.now }
     {
-        let ranged = !matches!(self.request.op, Op::Reset | Op::Abort(_));
+        let ranged = !matches!(self.request.op, Op::Reset(_) | Op::Abort(_));
         ranged && !matches!(self.place, Place::Away | Place::Out | Place::ResetQueue)
     }
 
@@ -75,7 +75,7 @@ impl Row {
     pub fn holds_up(&self, dev: DevId) -> bool
         ensures { result ≡ holds_up dev self.now }
     {
-        self.under.has(dev) && !matches!(self.request.op, Op::Reset)
+        self.under.has(dev) && !matches!(self.request.op, Op::Reset(_))
     }
 
     /// Whether it holds up a drain of the device at this thread.

@@ -27,6 +27,7 @@ use Rattle.bd_machine.specs.declared.state.OpenWalk.{OpenWalk}
 use Rattle.bd_machine.specs.declared.state.Progress.{Progress}
 use Rattle.bd_machine.specs.declared.state.Progress.TheVariants.{Held, Out, Served}
 use Rattle.bd_machine.specs.BlockMap.{is_malloc}
+use Rattle.bd_machine.specs.Grace.{may_grace}
 use Rattle.bd_machine.specs.Homes.{is_base}
 use Rattle.bd_machine.specs.Kept.{as_piece, request_here}
 use Rattle.bd_tokens.specs.Tokens.{here_in}
@@ -49,6 +50,7 @@ use Rattle.bd_thread.specs.Cuts.{may_cut_now, Cuts, CutsBy}
 use Rattle.bd_thread.specs.Destructs.{may_device_go, DestructAdded, Destructs}
 use Rattle.bd_thread.specs.Lines.{outcome_now, EndsBy, EndsLine}
 use Rattle.bd_thread.specs.Delays.{hold_due, HoldsOrCompletes, HoldsOrCompletesBy}
+use Rattle.bd_thread.specs.Grace.{grace_until, next_due, Graces, GracesBy, Hardens, HardensBy}
 use Rattle.bd_thread.specs.Moves.{Comes, ComesAs, ComesOwn, ComesPiece}
 use Rattle.bd_thread.specs.Refusals.{refusal_now, SendsBack, SendsBackBy}
 use Rattle.bd_thread.specs.Requests.{accept_act, refuse_act, IsAccepted, IsRefused}
@@ -157,6 +159,23 @@ each_alone : (reqs : List ReqId) (cause : AbortCause) (o : Thread) (a : Links) (
 each_alone [] cause o a n c h = alone_same a c h.1
 each_alone (x ∷ xs) cause o a n c h = alone_then a h.shared c (stops_alone x cause o a h.middle h.shared h.first) (each_alone xs cause h.middle h.shared n c h.second)
 
+graces_alone : (walk : WalkId) (time : ℕ) (o : Thread) (a : Links) (n : Thread) (c : Links) → Graces walk time o a n c → AsksNothing a c
+graces_alone walk time o a n c h = go (may_grace o.part walk (grace_until o time)) h
+  where
+    go : (b : Bool) → GracesBy walk (grace_until o time) o a n c b → AsksNothing a c
+    go false k = alone_same a c k.1
+    go true k = alone_by o.me a c (acts.Grace walk (grace_until o time)) refl k.links
+
+-- a mark became hard, and then what waits for its device was stopped
+pub hardens_alone : (o : Thread) (a : Links) (n : Thread) (c : Links) (done : Bool) → Hardens o a n c done → AsksNothing a c
+hardens_alone o a n c done h = go (next_due o.part o.time.moment) h
+  where
+    go : (due : Option (DevId × WalkId)) → HardensBy due o a n c done → AsksNothing a c
+    go None k = alone_same a c k.2
+    go (Some due) k =
+        alone_then a k.1.shared c (alone_by o.me a k.1.shared (acts.Due due.1 o.time.moment) refl k.1.first.links)
+        (each_alone (stoppable k.1.middle.setup.now due.0 k.1.middle.part) (Frozen due.0) k.1.middle k.1.shared n c k.1.second)
+
 for_alone : (kind : WalkKind) (dev : DevId) (o : Thread) (a : Links) (n : Thread) (c : Links) → StopsFor kind dev o a n c → AsksNothing a c
 for_alone kinds.Removal dev o a n c h = each_alone (stoppable o.setup.now dev o.part) (Removed dev) o a n c h
 for_alone kinds.Freeze dev o a n c h = each_alone (stoppable o.setup.now dev o.part) (Frozen dev) o a n c h
@@ -169,7 +188,9 @@ visits_alone walk o a n c made h = go (visit_due o a walk) h
     go : (w : Option OpenWalk) → VisitsBy walk o a n c made w → AsksNothing a c
     go None k = alone_same a c k.2
     go (Some w) k =
-        alone_then a k.1.shared c (alone_by o.me a k.1.shared (acts.Visit walk w.dev w.kind) refl k.1.first.links) (for_alone w.kind w.dev k.1.middle k.1.shared n c k.1.second)
+        let then = k.1.second in
+        alone_then a k.1.shared c (alone_by o.me a k.1.shared (acts.Visit walk w.dev w.kind) refl k.1.first.links)
+        (alone_then k.1.shared then.shared c (graces_alone walk w.time k.1.middle k.1.shared then.middle then.shared then.first) (for_alone w.kind w.dev then.middle then.shared n c then.second))
 
 pub sends_back_alone : (dev : DevId) (o : Thread) (a : Links) (n : Thread) (c : Links) (done : Bool) → SendsBack dev o a n c done → AsksNothing a c
 sends_back_alone dev o a n c done h = go (refusal_now dev o a) h
@@ -203,7 +224,7 @@ came_alone req k o a n c (Some p) h = by_progress p.progress h
 pub comes_alone : (id : Id) (o : Thread) (a : Links) (n : Thread) (c : Links) → Comes id o a n c → AsksNothing a c
 comes_alone (ids.Piece req k) o a n c h = came_alone req k o a n c (as_piece (here_in o.held.items (ids.Piece req k))) h
 comes_alone (ids.Walk walk) o a n c h = visits_alone walk o a h.middle c h.made h.visits
-comes_alone (ids.Request req) o a n c h = h
+comes_alone (ids.Request req) o a n c h = h.alone
 comes_alone (ids.Notice sender receiver number) o a n c h = alone_same a c h.1
 
 pub accepted_alone : (req : ReqId) (handle : HandleId) (asked : Submission) (o : Thread) (a : Links) (n : Thread) (c : Links) → IsAccepted req handle asked o a n c → AsksNothing a c

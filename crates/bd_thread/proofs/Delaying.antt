@@ -42,6 +42,7 @@ use Rattle.bd_turns.specs.Local.{Local}
 use Rattle.bd_links.specs.Queues.{queues_of}
 use Rattle.bd_steps.specs.Completions.{ending_in, ending_of, ends_as}
 use Rattle.bd_tokens.specs.Tokens.{here_in}
+use Rattle.bd_law_held.specs.Held.{held_if, most_at, most_latency, most_of_kind, most_of_row, EndInTime, EndsInTime}
 use Rattle.bd_thread.specs.declared.links.Links.{Links}
 use Rattle.bd_thread.specs.declared.thread.Thread.{Thread}
 use Rattle.bd_thread.specs.Acted.{Acted}
@@ -50,7 +51,6 @@ use Rattle.bd_thread.specs.Delays.{hold_due, hold_due_of, is_release_due, may_ho
 use Rattle.bd_thread.specs.Requests.{KeepsTickets}
 use Rattle.bd_thread.specs.Resting.{is_own}
 use Rattle.bd_thread.specs.Seen.{local_at, untaken, view_of}
-use Rattle.bd_thread.specs.Timely.{most_at, most_latency, most_of_kind, most_of_row, EndsInTime}
 use Rattle.bd_thread.specs.Waits.{Idles, IsIdle}
 use Rattle.bd_thread.specs.Work.{AsksNothing}
 use Rattle.bd_thread.proofs.Alone.{alone_by, alone_same, alone_then, completes_alone}
@@ -154,20 +154,16 @@ row_most (Some row) way c = kind_most row.kind way c
 at_most : (setup : Setup) (part : Part) (way : Way) (dev : DevId) → latency_at setup part way dev ≤ most_at setup way dev
 at_most setup part way dev = row_most (row_of setup dev) way (delayed_of part dev)
 
+most : (setup : Setup) (part : Part) (dev : DevId) (way : Option Way) → latency setup part dev way ≤ most_latency setup dev way
+most setup part dev None = omega arith
+most setup part dev (Some way) = sum_by-le-sum_by (latency_at setup part way) (most_at setup way) (below setup dev) (at_most setup part way)
+
 -- a hold ends in time from the turn's moment on
-pub in_time : (t : Thread) (r : OpenRequest) (until : ℕ) → until ≡ until_of t r → EndsInTime t.setup.now t.time.moment until
-in_time t r until is = go (way_of r.op) is
+pub in_time : (t : Thread) (r : OpenRequest) (until : ℕ) → until ≡ until_of t r → EndsInTime t.setup.now t.time.moment (record { dev = r.dev; op = r.op; until = until })
+in_time t r until is = below_last t.time.moment (latency t.setup.now t.part r.dev (way_of r.op)) (most_latency t.setup.now r.dev (way_of r.op)) (most t.setup.now t.part r.dev (way_of r.op)) is
   where
     below_last : (moment short long : ℕ) → short ≤ long → until ≡ min (moment + short) last_moment → until ≤ min (moment + long) last_moment
     below_last moment short long le e = omega arith
-
-    go : (way : Option Way) → until ≡ min (t.time.moment + latency t.setup.now t.part r.dev way) last_moment → EndsInTime t.setup.now t.time.moment until
-    go None e = record { dev = r.dev; way = Read; by = below_last t.time.moment 0 (most_latency t.setup.now r.dev Read) (omega arith) e }
-    go (Some way) e = record {
-      dev = r.dev;
-      way = way;
-      by = below_last t.time.moment (latency t.setup.now t.part r.dev (Some way)) (most_latency t.setup.now r.dev way) (sum_by-le-sum_by (latency_at t.setup.now t.part way) (most_at t.setup.now way) (below t.setup.now r.dev) (at_most t.setup.now t.part way)) e;
-    }
 
 -- ---- by the local rules
 
@@ -206,7 +202,7 @@ held_acted old before new after req r until due is =
     acted_into old before new after (acts.Hold req until) _ _
     (ap (λ (t : Thread). t.me) is.thread) (ap (λ (t : Thread). t.setup) is.thread) (ap (λ (t : Thread). t.part) is.thread) is.held is.links
     (hold_steps old.setup.now old.me old.part (here_in old.held.items) before.registry.state before.shut (length before.entries) (queues_of before.queues.items) req until r may.here may.passes) refl
-    (record { time = time_stays old.time new.time (ap (λ (t : Thread). t.time) is.thread); named = tt; held = in_time old r until may.until_is; fits = λ dev. tt })
+    (record { time = time_stays old.time new.time (ap (λ (t : Thread). t.time) is.thread); named = tt; held = subst (λ (o : Option OpenRequest). EndInTime old.setup.now old.time.moment (held_if until o)) (sym may.here) (in_time old r until may.until_is, tt); fits = λ dev. tt })
 
 pub held_tickets : (old : Thread) (before : Links) (new : Thread) (after : Links) (req : ReqId) (r : OpenRequest) (until : ℕ)
     → IsHeld req r until old before new after

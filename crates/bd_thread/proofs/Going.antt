@@ -25,6 +25,10 @@ use Rattle.bd_machine.specs.View.{is_of}
 use Rattle.bd_machine.proofs.Laws.{channels-own, filter_map_commutes, filter_twice}
 use Rattle.bd_turns.specs.Local.{Local, Leads, came_local, change_local, refusal_local, carried_local, local_after}
 use Rattle.bd_turns.proofs.Going.{leads_on}
+use Rattle.bd_law_held.specs.Held.{held_by, held_led, EndInTime}
+use Rattle.bd_law_held.proofs.Ends.{both_end}
+use Rattle.bd_law_held.proofs.Over.{led_on}
+use Rattle.bd_moment.specs.declared.time.Time.{Time}
 use Rattle.bd_links.specs.Entries.{entry_at, longer}
 use Rattle.bd_links.specs.Queues.{queues_of}
 use Rattle.bd_tokens.specs.Tokens.{here_in}
@@ -67,8 +71,8 @@ claim_keeps t id kind h = go (is_own t id h)
 
 -- the registry's handles that are the thread's, after an event, are the thread's handles after it
 pub handles_own : (t : ℕ) (hs : List Handle) (event : RegEvent) (answer : Answer) → filter (is_of t) (handles_after t hs event answer) ≡ handles_after t (filter (is_of t) hs) event answer
-handles_own t hs (events.Open name write) (answers.Opened id dev) =
-    let h : Handle = record { id = id; dev = dev; thread = record { 0 = t }; write = write; claim = None } in
+handles_own t hs (events.Open name write) (answers.Opened id dev blocks) =
+    let h : Handle = record { id = id; dev = dev; thread = record { 0 = t }; write = write; claim = None; blocks = blocks } in
     filter-append (is_of t) hs (h ∷ []) ∙ ap (λ b. filter (is_of t) hs ++ cond b (h ∷ []) []) (eq-eqb t t refl)
 handles_own t hs (events.Close id) (answers.Closed destruct) = filter_twice (is_of t) (λ h. not (is_own t id h)) hs
 handles_own t hs (events.Claim id kind) answers.Claimed = filter_map_commutes (is_of t) (λ h. cond (is_own t id h) (with_claim kind h) h) (claim_keeps t id kind) hs
@@ -139,6 +143,7 @@ acted_still old before new after me setup queues rows added same time = record {
   acts = tt;
   leads = same;
   timely = timely_none old new time (λ dev. ap (λ (l : Local). slices_at l.view.part dev) (sym same));
+  held = tt;
 }
 
 pub acted_none : {may : Setup → Act → Bool} (t : Thread) (links : Links) → ActedBy may t links t links
@@ -158,7 +163,12 @@ acted_then {may} o a m b n c g h =
       leads = leads_on o.setup.now o.me (local o a) (local m b) (local n c) g.entries h.entries g.leads
           (subst (λ (t : ℕ). Leads o.setup.now t (local m b) h.entries (local n c)) g.me
           (subst (λ (s : Setup). Leads s m.me (local m b) h.entries (local n c)) setup-is h.leads));
-      timely = timely_then g.entries h.entries o m n setup-is g.timely h.timely;
+      timely = timely_then g.entries h.entries o m n g.timely h.timely;
+      held = subst (EndInTime o.setup.now o.time.moment) (sym (led_on o.setup.now o.me (local o a) (local m b) g.entries h.entries g.leads))
+          (both_end o.setup.now o.time.moment (held_led o.setup.now o.me (local o a) g.entries) (held_led o.setup.now o.me (local m b) h.entries) g.held
+          (subst (λ (k : ℕ). EndInTime o.setup.now k (held_led o.setup.now o.me (local m b) h.entries)) (ap (λ (t : Time). t.moment) g.timely.time)
+          (subst (λ (t : ℕ). EndInTime o.setup.now m.time.moment (held_led o.setup.now t (local m b) h.entries)) g.me
+          (subst (λ (s : Setup). EndInTime s m.time.moment (held_led s m.me (local m b) h.entries)) setup-is h.held))));
     }
 
 pub acted_one : {may : Setup → Act → Bool} (old : Thread) (before : Links) (new : Thread) (after : Links) (act : Act)
@@ -183,6 +193,7 @@ acted_one old before new after act me setup queues rows added still allowed lead
   acts = (own, tt);
   leads = (refl, still, allowed, leads);
   timely = timely_one old new old.setup.now old.me (local old before) (local new after) (entry_at old.me (length before.entries + 1) act) refl refl allowed leads timely;
+  held = both_end old.setup.now old.time.moment (held_by (here_in old.held.items) act) [] timely.held tt;
 }
 
 pub acted_step : {may : Setup → Act → Bool} (old : Thread) (before : Links) (new : Thread) (after : Links) (act : Act)

@@ -11,6 +11,7 @@ use Rattle.bd_base.specs.declared.event.RegEvent.{RegEvent}
 use Rattle.bd_base.specs.declared.event.RegEvent.TheVariants as events
 use Rattle.bd_base.specs.declared.id.DevId.{DevId}
 use Rattle.bd_base.specs.declared.id.ReqId.{ReqId}
+use Rattle.bd_base.specs.declared.id.WalkId.{WalkId}
 use Rattle.bd_base.specs.declared.request.AbortCause.{AbortCause}
 use Rattle.bd_base.specs.declared.request.AbortCause.TheVariants.{Frozen, Removed}
 use Rattle.bd_base.specs.declared.request.WalkKind.{WalkKind}
@@ -20,6 +21,7 @@ use Rattle.bd_machine.specs.declared.state.Handle.{Handle}
 use Rattle.bd_machine.specs.declared.state.Id.{Id}
 use Rattle.bd_machine.specs.declared.state.OpenRequest.{OpenRequest}
 use Rattle.bd_machine.specs.BlockMap.{is_malloc}
+use Rattle.bd_machine.specs.Grace.{may_grace}
 use Rattle.bd_machine.specs.Homes.{is_base}
 use Rattle.bd_machine.specs.Kept.{request_here}
 use Rattle.bd_machine.specs.Messages.{count_at}
@@ -31,17 +33,19 @@ use Rattle.bd_steps.specs.declared.completion.Ending.{Ending}
 use Rattle.bd_thread.specs.declared.links.Links.{Links}
 use Rattle.bd_thread.specs.declared.thread.Thread.{Thread}
 use Rattle.bd_steps.specs.Stopping.{stoppable}
-use Rattle.bd_thread.specs.Aborts.{abort_due, Stops, StopsBy, StopsEach}
+use Rattle.bd_thread.specs.Aborts.{abort_due, Stops, StopsAll, StopsBy, StopsEach, Then}
 use Rattle.bd_thread.specs.Acted.{Acted, ActedBy}
 use Rattle.bd_steps.specs.Completions.{ending_of}
 use Rattle.bd_thread.specs.Completions.{Completes, CompletesBy, MayComplete}
 use Rattle.bd_thread.specs.Cuts.{may_cut_now, Cuts, CutsBy}
 use Rattle.bd_blocks.specs.Digests.{digest_due}
 use Rattle.bd_thread.specs.Destructs.{may_device_go, DestructAdded, Destructs}
-use Rattle.bd_thread.specs.Duties.{duty_asked, Discharges, NoDuty}
+use Rattle.bd_thread.specs.Duties.{duty_asked, Discharges}
+use Rattle.bd_thread.specs.Growing.{growth_due, Grows, GrowsBy, IsGrown}
 use Rattle.bd_thread.specs.Endings.{left_on, removal_due, ClosesLeft, RemovesLeft}
 use Rattle.bd_steps.specs.Following.{close_due, get_due}
-use Rattle.bd_thread.specs.Lines.{claim_asked, close_asked, open_asked, outcome_now, remove_asked, AsksBy, Claims, Closes, ClosesBy, EndsBy, EndsLine, Follows, IsFollowed, Opens, OpensBy, Removes}
+use Rattle.bd_thread.specs.Grace.{grace_until, Graces, GracesBy}
+use Rattle.bd_thread.specs.Lines.{change_asked, claim_asked, close_asked, open_asked, outcome_now, AsksBy, ChangesDevice, Claims, Closes, ClosesBy, EndsBy, EndsLine, Follows, IsAnswered, IsFollowed, Opens, OpensBy}
 use Rattle.bd_thread.specs.Seen.{view_of}
 use Rattle.bd_steps.specs.Sending.{first_brought}
 use Rattle.bd_thread.specs.Sent.{may_put, Puts, PutsBy, Takes, TakesBy}
@@ -195,6 +199,16 @@ each_grows : (reqs : List ReqId) (cause : AbortCause) (old : Thread) (before : L
 each_grows [] cause old before new after h = same_grows before after h.1
 each_grows (req ∷ reqs) cause old before new after h = omega (arith, stop_grows req cause old before h.middle h.shared h.first, each_grows reqs cause h.middle h.shared new after h.second)
 
+pub graces_grows : (walk : WalkId) (time : ℕ) (old : Thread) (before : Links) (new : Thread) (after : Links) → Graces walk time old before new after → length before.entries ≤ length after.entries
+graces_grows walk time old before new after h = go (may_grace old.part walk (grace_until old time)) h
+  where
+    go : (b : Bool) → GracesBy walk (grace_until old time) old before new after b → length before.entries ≤ length after.entries
+    go false k = same_grows before after k.1
+    go true k = longer_grows old.me before after (acts.Grace walk (grace_until old time)) k.links
+
+pub all_grows : (dev : DevId) (cause : AbortCause) (old : Thread) (before : Links) (new : Thread) (after : Links) → StopsAll dev cause old before new after → length before.entries ≤ length after.entries
+all_grows dev cause old before new after h = each_grows (stoppable old.setup.now dev old.part) cause old before new after h
+
 pub for_grows : (kind : WalkKind) (dev : DevId) (old : Thread) (before : Links) (new : Thread) (after : Links) → StopsFor kind dev old before new after → length before.entries ≤ length after.entries
 for_grows kinds.Removal dev old before new after h = each_grows (stoppable old.setup.now dev old.part) (Removed dev) old before new after h
 for_grows kinds.Freeze dev old before new after h = each_grows (stoppable old.setup.now dev old.part) (Frozen dev) old before new after h
@@ -241,14 +255,41 @@ closes_idle old before new after closed h = closes_by_idle old before new after 
 pub claims_idle : (old : Thread) (before : Links) (new : Thread) (after : Links) (claimed : Bool) → Claims old before new after claimed → Idles (λ t links. claim_asked t links ≡ None) old before new after
 claims_idle old before new after claimed h = asks_idle old before new after claimed (claim_asked old before) (λ e. e) h
 
-pub removes_idle : (old : Thread) (before : Links) (new : Thread) (after : Links) (removed : Bool) → Removes old before new after removed → Idles (λ t links. remove_asked t links ≡ None) old before new after
-removes_idle old before new after removed h = asks_idle old before new after removed (remove_asked old before) (λ e. e) h
+pub changes_idle : (old : Thread) (before : Links) (new : Thread) (after : Links) (changed : Bool) → ChangesDevice old before new after changed → Idles (λ t links. change_asked t links ≡ None) old before new after
+changes_idle old before new after changed h = asks_idle old before new after changed (change_asked old before) (λ e. e) h
 
 pub removes_left_idle : (old : Thread) (before : Links) (new : Thread) (after : Links) (dev : DevId) (removed : Bool) → RemovesLeft old before new after dev removed → Idles (NoRemovalOn dev) old before new after
 removes_left_idle old before new after dev removed h = asks_idle old before new after removed (removal_due dev old before) (λ e. e) h
 
-pub discharges_idle : (old : Thread) (before : Links) (new : Thread) (after : Links) (asked : Bool) → Discharges old before new after asked → Idles NoDuty old before new after
+pub discharges_idle : (old : Thread) (before : Links) (new : Thread) (after : Links) (asked : Bool) → Discharges old before new after asked → Idles (λ t links. duty_asked t links ≡ None) old before new after
 discharges_idle old before new after asked h = asks_idle old before new after asked (duty_asked old before) (λ e. e) h
+
+true_false : true ≡ false → ⊥
+true_false e = cc
+
+-- a device grew, and then the end of the resize was answered
+grew_more : (dev : DevId) (blocks : ℕ) (old : Thread) (before : Links) (new : Thread) (after : Links)
+    → Then (λ t links. IsGrown dev blocks old before t links) (λ t links. IsAnswered (events.EndResize dev) t links new after)
+    → length after.entries ≤ length before.entries
+    → ⊥
+grew_more dev blocks old before new after h few =
+    let one = ap (λ (l : Links). length l.entries) h.first.links ∙ length-longer old.me before.entries (acts.Grow dev blocks) in
+    let two = ap (λ (l : Links). length l.entries) h.second.links ∙ length-longer h.middle.me h.shared.entries (acts.Reg (events.EndResize dev) h.second.answer) in
+    omega (arith, one, two, few)
+
+pub grows_more : (old : Thread) (before : Links) (new : Thread) (after : Links) → Grows old before new after true → length after.entries ≤ length before.entries → ⊥
+grows_more old before new after h few = go (growth_due old before) h
+  where
+    go : (o : Option (DevId × ℕ)) → GrowsBy old before new after true o → ⊥
+    go None k = true_false k.0
+    go (Some due) k = grew_more due.0 due.1 old before new after k.1 few
+
+pub grows_idle : (old : Thread) (before : Links) (new : Thread) (after : Links) (grew : Bool) → Grows old before new after grew → Idles (λ t links. growth_due t links ≡ None) old before new after
+grows_idle old before new after grew h few = go (growth_due old before) refl h
+  where
+    go : (o : Option (DevId × ℕ)) → growth_due old before ≡ o → GrowsBy old before new after grew o → IsIdle (λ t links. growth_due t links ≡ None) old before new after
+    go None e k = record { thread = k.1; links = k.2; waits = e }
+    go (Some due) e k = absurd (grew_more due.0 due.1 old before new after k.1 few)
 
 ends_by_idle : {P : Thread → Links → Type 0} (old : Thread) (before : Links) (new : Thread) (after : Links) (ended : Bool) (o : Option Outcome) → (o ≡ None → P old before) → EndsBy old before new after ended o → Idles P old before new after
 ends_by_idle old before new after ended None so h few = record { thread = h.1; links = h.2; waits = so refl }
@@ -268,24 +309,24 @@ pub line_idle : (o : Thread) (a : Links) (p : Thread) (b : Links) (q : Thread) (
     → Idles (λ t links. open_asked t links ≡ None) o a p b
     → Idles (λ t links. close_asked t links ≡ None) p b q d
     → Idles (λ t links. claim_asked t links ≡ None) q d r e
-    → Idles (λ t links. remove_asked t links ≡ None) r e u k
+    → Idles (λ t links. change_asked t links ≡ None) r e u k
     → Idles NoSubmission u k s f
     → Idles (λ t links. outcome_now t links ≡ None) s f n g
     → Idles NoLine o a n g
-line_idle o a p b q d r e u k s f n g open-acted close-acted claim-acted remove-acted submit-acted end-acted opens closes claims removes submits ends =
+line_idle o a p b q d r e u k s f n g open-acted close-acted claim-acted change-acted submit-acted end-acted opens closes claims changes submits ends =
     let two : Idles (λ t links. (open_asked t links ≡ None) × (close_asked t links ≡ None)) o a q d =
     idle_then o a p b q d open-acted close-acted (λ opening closing. (opening, closing)) opens closes in
     let two-acted = acted_then o a p b q d open-acted close-acted in
     let three : Idles (λ t links. (open_asked t links ≡ None) × (close_asked t links ≡ None) × (claim_asked t links ≡ None)) o a r e =
     idle_then o a q d r e two-acted claim-acted (λ asked claiming. (asked.0, asked.1, claiming)) two claims in
     let three-acted = acted_then o a q d r e two-acted claim-acted in
-    let four : Idles (λ t links. (open_asked t links ≡ None) × (close_asked t links ≡ None) × (claim_asked t links ≡ None) × (remove_asked t links ≡ None)) o a u k =
-    idle_then o a r e u k three-acted remove-acted (λ asked removing. (asked.0, asked.1, asked.2, removing)) three removes in
-    let four-acted = acted_then o a r e u k three-acted remove-acted in
-    let five : Idles (λ t links. (open_asked t links ≡ None) × (close_asked t links ≡ None) × (claim_asked t links ≡ None) × (remove_asked t links ≡ None) × NoSubmission t links) o a s f =
+    let four : Idles (λ t links. (open_asked t links ≡ None) × (close_asked t links ≡ None) × (claim_asked t links ≡ None) × (change_asked t links ≡ None)) o a u k =
+    idle_then o a r e u k three-acted change-acted (λ asked changing. (asked.0, asked.1, asked.2, changing)) three changes in
+    let four-acted = acted_then o a r e u k three-acted change-acted in
+    let five : Idles (λ t links. (open_asked t links ≡ None) × (close_asked t links ≡ None) × (claim_asked t links ≡ None) × (change_asked t links ≡ None) × NoSubmission t links) o a s f =
     idle_then o a u k s f four-acted submit-acted (λ asked submission. (asked.0, asked.1, asked.2, asked.3, submission)) four submits in
     idle_then o a s f n g (acted_then o a u k s f four-acted submit-acted) end-acted
-    (λ asked outcome. record { opening = asked.0; closing = asked.1; claiming = asked.2; removing = asked.3; submission = asked.4; outcome = outcome }) five ends
+    (λ asked outcome. record { opening = asked.0; closing = asked.1; claiming = asked.2; changing = asked.3; submission = asked.4; outcome = outcome }) five ends
 
 pub leaves_idle : (old : Thread) (before : Links) (new : Thread) (after : Links) (dev : DevId) (closed : Bool) → ClosesLeft old before new after dev closed → Idles (NoHandleOn dev) old before new after
 leaves_idle old before new after dev closed h = closes_by_idle old before new after closed (left_on dev old before) (λ e. e) h

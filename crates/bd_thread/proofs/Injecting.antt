@@ -15,6 +15,7 @@ use Rattle.bd_base.specs.declared.setup.Setup.{Setup}
 use Rattle.bd_flight.specs.declared.next.Step.{Step}
 use Rattle.bd_flight.specs.declared.next.Step.TheVariants as steps_of
 use Rattle.bd_flight.specs.Next.{may_take, may_take_of, next_step}
+use Rattle.bd_machine.specs.declared.state.Prior.TheVariants.{Injection}
 use Rattle.bd_machine.specs.declared.state.Between.{Between}
 use Rattle.bd_machine.specs.declared.state.Id.{Id}
 use Rattle.bd_machine.specs.declared.state.Id.TheVariants as ids
@@ -69,7 +70,7 @@ dev_self d = eq-eqb d.0 d.0 refl
 decision_self : (d : Decision) → same_decision d d ≡ true
 decision_self d = answer_self (answers.Injected d)
 
-taken_self : (req : ReqId) (dev : DevId) (decision : Decision) → is_taken req dev decision (Some (taken req dev decision)) ≡ true
+taken_self : (req : ReqId) (dev : DevId) (decision : Decision) → is_taken req dev decision (Some (Injection (taken req dev decision))) ≡ true
 taken_self req dev decision =
     and_from (same_request req req && same_dev dev dev) (same_decision decision decision)
     (and_from (same_request req req) (same_dev dev dev) (request_same.same_self req) (dev_self dev)) (decision_self decision)
@@ -90,12 +91,12 @@ module _ (setup : Setup) (me : ℕ) (part : Part) (here : Id → Option Kept) (r
       → answer_to setup registry me (asked_of req dev r) ≡ answers.Injected decision
       → asks_event setup me old.view (came_between registry.between shut) (asked_of req dev r) ≡ true
       → Steps setup me old (acts.Reg (asked_of req dev r) (answers.Injected decision))
-      (local_at me (record part { injection = Some (taken req dev decision) }) (with_request req (asked_once_more r)) (answered_by (asked_of req dev r) (answers.Injected decision)) shut (stamp + 1) queues)
+      (local_at me (record part { prior = Some (Injection (taken req dev decision)) }) (with_request req (asked_once_more r)) (answered_by (asked_of req dev r) (answers.Injected decision)) shut (stamp + 1) queues)
   told_steps req dev r decision is given asks =
       let event : RegEvent = asked_of req dev r in
       let answer : Answer = answers.Injected decision in
       steps setup me old
-      (local_at me (record part { injection = Some (taken req dev decision) }) (with_request req (asked_once_more r)) (answered_by event answer) shut (stamp + 1) queues)
+      (local_at me (record part { prior = Some (Injection (taken req dev decision)) }) (with_request req (asked_once_more r)) (answered_by event answer) shut (stamp + 1) queues)
       (acts.Reg event answer) refl refl
       (ap (λ (a : Answer). same_answer answer a) given ∙ answer_self answer, (asked_local setup me old event answer asks, tt))
       (local_eq _ _ refl
@@ -107,7 +108,7 @@ module _ (setup : Setup) (me : ℕ) (part : Part) (here : Id → Option Kept) (r
   -- the request has the decision that the entry before told
   pub inject_steps : (req : ReqId) (dev : DevId) (decision : Decision) (r : OpenRequest)
       → as_request (here (ids.Request req)) ≡ Some r
-      → part.injection ≡ Some (taken req dev decision)
+      → part.prior ≡ Some (Injection (taken req dev decision))
       → Steps setup me old (acts.Inject req dev decision) (local_at me (untaken part) (with_request req (injected decision r)) registry shut (stamp + 1) queues)
   inject_steps req dev decision r is told =
       let after : Bool → Option OpenRequest → Local = λ b o. local_at me (untaken part) (held_after (edited req (injected decision) o) here) registry b (stamp + 1) queues in
@@ -183,7 +184,7 @@ decided_acted old before new after req dev r decision here asks given is =
     let queues = queues_of before.queues.items in
     let answer : Answer = answers.Injected decision in
     let asked : OpenRequest = asked_once_more r in
-    let middle : Thread = record old { part = record old.part { injection = Some (taken req dev decision) }; held = record { items = (ids.Request req, keeps.Request asked) ∷ old.held.items; room = 0 } } in
+    let middle : Thread = record old { part = record old.part { prior = Some (Injection (taken req dev decision)) }; held = record { items = (ids.Request req, keeps.Request asked) ∷ old.held.items; room = 0 } } in
     let shared : Links = decided_registry old before req dev r answer in
     let first : Acted old before middle shared =
     asked_into old before middle shared req dev r answer refl refl refl refl
@@ -252,7 +253,7 @@ takes_acted old before new after req dev r here asks takes = go takes.answer tak
 
     go : (answer : Answer) → answer_to old.setup.now before.registry.state old.me (asked_of req dev r) ≡ answer → DecidedBy req dev r old before new after answer → Acted old before new after
     go (answers.Injected decision) given is = decided_acted old before new after req dev r decision here asks given is
-    go (answers.Opened h d) given is = other (answers.Opened h d) refl given is
+    go (answers.Opened h d n) given is = other (answers.Opened h d n) refl given is
     go (answers.Closed d) given is = other (answers.Closed d) refl given is
     go answers.Claimed given is = other answers.Claimed refl given is
     go (answers.Got f ds) given is = other (answers.Got f ds) refl given is
@@ -264,6 +265,8 @@ takes_acted old before new after req dev r here asks takes = go takes.answer tak
     go (answers.ResetEnded ts) given is = other (answers.ResetEnded ts) refl given is
     go (answers.ResetFinished n) given is = other (answers.ResetFinished n) refl given is
     go (answers.Freed h) given is = other (answers.Freed h) refl given is
+    go (answers.Resizing d t) given is = other (answers.Resizing d t) refl given is
+    go (answers.Resized hs n d) given is = other (answers.Resized hs n d) refl given is
     go (answers.Refused e) given is = other (answers.Refused e) refl given is
 
 pub takes_tickets : (old : Thread) (before : Links) (new : Thread) (after : Links) (req : ReqId) (dev : DevId) (r : OpenRequest)

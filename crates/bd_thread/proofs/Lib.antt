@@ -11,6 +11,7 @@ pub mod Took
 pub mod Timing
 pub mod OnTime
 pub mod Going
+pub mod Growing
 pub mod Left
 pub mod Ends
 pub mod Registering
@@ -21,7 +22,9 @@ pub mod Leftovers
 pub mod Idle
 pub mod Carried
 pub mod Waiting
+pub mod Gracing
 pub mod Walking
+pub mod Noted
 pub mod Aborting
 pub mod Naming
 pub mod Begun

@@ -43,6 +43,7 @@ use Rattle.bd_steps.specs.Naming.{named_in, number_in}
 use Rattle.bd_thread.specs.Delays.{hold_due_of, may_release_now, NoFirstRelease}
 use Rattle.bd_steps.specs.Resetting.{reset_event}
 use Rattle.bd_thread.specs.Calls.{asks_reset, may_ask_freely}
+use Rattle.bd_thread.specs.Grace.{NoDue}
 use Rattle.bd_thread.specs.Injections.{is_inject}
 use Rattle.bd_thread.specs.Walking.{NoVisit}
 use Rattle.bd_thread.specs.Limits.{head_of, head_stop, head_stop_of, stop_by, let_due, let_due_of, may_let, may_tick, slices_now, tick_due, tick_due_of, with_id, IsLet, IsTicked, Lets, LetsBy, NoLimit, NoWayOut, Ticks, TicksBy, way_by}
@@ -325,25 +326,32 @@ progress_more P old before new after h few = omega (arith, h, few)
 
 -- ---- the lines of a thread
 
--- after the pieces of its stores a thread serves its lines, releases what it holds, and then tries the walks that are here
-pub then_served : (o : Thread) (a : Links) (m : Thread) (b : Links) (p : Thread) (d : Links) (q : Thread) (e : Links) (n : Thread) (c : Links)
-    → Acted o a m b
+-- after the pieces of its stores a thread makes marks hard, serves its lines, releases what it holds, and then tries the walks that are here
+pub then_served : (o : Thread) (a : Links) (h : Thread) (f : Links) (m : Thread) (b : Links) (p : Thread) (d : Links) (q : Thread) (e : Links) (n : Thread) (c : Links)
+    → Acted o a h f
+    → Acted h f m b
     → Acted m b p d
     → Acted p d q e
     → Acted q e n c
-    → Idles NoPiece o a m b
+    → Idles NoPiece o a h f
+    → Idles NoDue h f m b
     → Idles NoLimit m b p d
     → Idles NoFirstRelease p d q e
     → Idles NoVisit q e n c
     → Idles NothingToServe o a n c
-then_served o a m b p d q e n c first next after last piece limit release walk =
-    let both = acted_then o a m b p d first next in
-    let limited : Idles (λ t links. NoPiece t links × NoLimit t links) o a p d =
-    idle_then {P = NoPiece} {Q = NoLimit} {R = λ t links. NoPiece t links × NoLimit t links} o a m b p d first next (λ none none_on. (none, none_on)) piece limit in
-    let released : Idles (λ t links. NoPiece t links × NoLimit t links) o a q e =
-    idle_then {P = λ t links. NoPiece t links × NoLimit t links} {Q = NoFirstRelease} {R = λ t links. NoPiece t links × NoLimit t links} o a p d q e both after (λ none none_first. none) limited release in
-    idle_then {P = λ t links. NoPiece t links × NoLimit t links} {Q = NoVisit} {R = NothingToServe} o a q e n c (acted_then o a p d q e both after) last
-    (λ none none_visits. record { piece = none.0; limit = none.1; walk = none_visits }) released walk
+then_served o a h f m b p d q e n c begun first next after last piece mark limit release walk =
+    let served = acted_then o a h f m b begun first in
+    let both = acted_then o a m b p d served next in
+    let hardened : Idles (λ t links. NoPiece t links × NoDue t links) o a m b =
+    idle_then {P = NoPiece} {Q = NoDue} {R = λ t links. NoPiece t links × NoDue t links} o a h f m b begun first (λ none none_due. (none, none_due)) piece mark in
+    let limited : Idles (λ t links. NoPiece t links × NoDue t links × NoLimit t links) o a p d =
+    idle_then {P = λ t links. NoPiece t links × NoDue t links} {Q = NoLimit} {R = λ t links. NoPiece t links × NoDue t links × NoLimit t links} o a m b p d served next
+    (λ none none_on. (none.0, none.1, none_on)) hardened limit in
+    let released : Idles (λ t links. NoPiece t links × NoDue t links × NoLimit t links) o a q e =
+    idle_then {P = λ t links. NoPiece t links × NoDue t links × NoLimit t links} {Q = NoFirstRelease} {R = λ t links. NoPiece t links × NoDue t links × NoLimit t links} o a p d q e both after
+    (λ none none_first. none) limited release in
+    idle_then {P = λ t links. NoPiece t links × NoDue t links × NoLimit t links} {Q = NoVisit} {R = NothingToServe} o a q e n c (acted_then o a p d q e both after) last
+    (λ none none_visits. record { piece = none.0; mark = none.1; limit = none.2; walk = none_visits }) released walk
 
 -- ---- a request that goes to a limited device's home
 

@@ -84,7 +84,7 @@ none_named (ops.Write fill) h = refl
 none_named ops.Zeroes h = refl
 none_named ops.Unmap h = refl
 none_named ops.Flush h = refl
-none_named ops.Reset h = cc
+none_named (ops.Reset time) h = cc
 none_named (ops.Abort seq) h = cc
 
 no_reset : (op : Op) → has_range op ≡ true → is_reset op ≡ false
@@ -93,7 +93,7 @@ no_reset (ops.Write fill) h = refl
 no_reset ops.Zeroes h = refl
 no_reset ops.Unmap h = refl
 no_reset ops.Flush h = refl
-no_reset ops.Reset h = cc
+no_reset (ops.Reset time) h = cc
 no_reset (ops.Abort seq) h = refl
 
 -- what is held until a moment that hasn't come is held still

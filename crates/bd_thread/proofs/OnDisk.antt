@@ -155,6 +155,7 @@ served_as_over old before new after req k dev end read s home aio holds first he
             ),
           );
           timely = timely_plain old new (entry_at old.me (n + 1) (acts.Apply req k dev end)) refl (ap (λ (t : Thread). t.time) s.thread) (λ d. ap (λ (p : Part). slices_at p d) part);
+          held = tt;
         }
 
 -- the same, of the piece that is next on the device's disk

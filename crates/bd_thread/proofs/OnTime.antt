@@ -17,7 +17,7 @@ use Rattle.bd_moment.specs.Time.{begun}
 use Rattle.bd_thread.specs.declared.thread.Thread.{Thread}
 use Rattle.bd_thread.specs.Asleep.{begun_at}
 use Rattle.bd_thread.specs.Starts.{IsNew}
-use Rattle.bd_thread.specs.Timely.{moment_named, slices_at, slices_if, slices_in, until_named, AreTimely, EndsInTime, HasBegun, IsBetween, IsOnTime}
+use Rattle.bd_thread.specs.Timely.{moment_named, slices_at, slices_if, slices_in, AreTimely, HasBegun, IsBetween, IsOnTime}
 use Rattle.bd_thread.proofs.Timing.{fits_both, slices_both}
 
 -- ---- entries
@@ -58,32 +58,10 @@ pub none_sliced : (dev : DevId) (es : List Entry) → NameNone es → slices_in 
 none_sliced dev [] h = refl
 none_sliced dev (e ∷ es) h = let first : slices_of dev e.act ≡ 0 = (act_untold dev 0 0 e.act h.0).1 in let rest : slices_in dev es ≡ 0 = none_sliced dev es h.1 in omega arith
 
--- ---- holds
-
--- what each moment until which a request is held satisfies
-abbrev pub AreHeld : (ℕ → Type 0) → List Entry → Type 0
-AreHeld P entries = AllByRecursion (λ e. IfSome (until_named e.act) P) entries
-
-pub held_weaker : (P Q : ℕ → Type 0) → ((n : ℕ) → P n → Q n) → (es : List Entry) → AreHeld P es → AreHeld Q es
-held_weaker P Q f [] h = tt
-held_weaker P Q f (e ∷ es) h = (go (until_named e.act) h.0, held_weaker P Q f es h.1)
-  where
-    go : (o : Option ℕ) → IfSome o P → IfSome o Q
-    go None k = tt
-    go (Some n) k = f n k
-
-held_both : (P : ℕ → Type 0) (xs ys : List Entry) → AreHeld P xs → AreHeld P ys → AreHeld P (xs ++ ys)
-held_both P [] ys f s = s
-held_both P (x ∷ xs) ys f s = (f.0, held_both P xs ys f.1 s)
-
--- what ends in time from a moment on does so from a later one
-pub ends_later : (setup : Setup) (m n until : ℕ) → m ≤ n → EndsInTime setup m until → EndsInTime setup n until
-ends_later setup m n until le e = record { dev = e.dev; way = e.way; by = (let by = e.by in omega arith) }
-
 -- ---- before any entry
 
 pub on_time_new : (t : Thread) → t.time.start ≤ t.time.moment → ((dev : DevId) → slices_at t.part dev ≡ 0) → IsOnTime t []
-on_time_new t order none = record { order = order; named = tt; held = tt; fits = λ dev. tt; slices = none; none = λ e. tt }
+on_time_new t order none = record { order = order; named = tt; fits = λ dev. tt; slices = none; none = λ e. tt }
 
 -- ---- a turn begins
 
@@ -116,11 +94,9 @@ begins time now es order named fits none = go time.given refl
 pub on_time_begun : (t : Thread) (now : ℕ) (es : List Entry) → IsOnTime t es → IsOnTime (begun_at now t) es
 on_time_begun t now es h =
     let x = begins t.time now es h.order h.named h.fits h.none in
-    let later : t.time.moment ≤ max t.time.moment now = later_moment t.time.moment now t.time.moment (omega arith) in
     record {
       order = x.0;
       named = x.1.0;
-      held = held_weaker (EndsInTime t.setup.now t.time.moment) (EndsInTime t.setup.now (max t.time.moment now)) (λ n. ends_later t.setup.now t.time.moment (max t.time.moment now) n later) es h.held;
       fits = x.1.1;
       slices = h.slices;
       none = λ e. cc;
@@ -132,8 +108,8 @@ on_time_begun t now es h =
 at_moment : (time : Time) → time.start ≤ time.moment → (n : ℕ) → n ≡ time.moment → IsBetween time n
 at_moment time order n e = (omega (arith, order, e), omega (arith, e))
 
-pub on_time_then : (es added : List Entry) (old new : Thread) → new.setup.now ≡ old.setup.now → IsOnTime old es → HasBegun old → AreTimely added old new → IsOnTime new (es ++ added)
-on_time_then es added old new setup h begun timely =
+pub on_time_then : (es added : List Entry) (old new : Thread) → IsOnTime old es → HasBegun old → AreTimely added old new → IsOnTime new (es ++ added)
+on_time_then es added old new h begun timely =
     let kept : Time = record old.time { met = new.time.met } in
     let named : AreNamed (IsBetween kept) (es ++ added) =
     named_both (IsBetween kept) es added h.named (all_weaker (λ n. n ≡ old.time.moment) (IsBetween kept) (at_moment old.time h.order) added timely.named) in
@@ -143,9 +119,6 @@ on_time_then es added old new setup h begun timely =
     record {
       order = subst (λ (t : Time). t.start ≤ t.moment) (sym timely.time) h.order;
       named = subst (λ (t : Time). AreNamed (IsBetween t) (es ++ added)) (sym timely.time) named;
-      held = subst (λ (s : Setup). AreHeld (EndsInTime s new.time.moment) (es ++ added)) (sym setup)
-          (subst (λ (t : Time). AreHeld (EndsInTime old.setup.now t.moment) (es ++ added)) (sym timely.time)
-          (held_both (EndsInTime old.setup.now old.time.moment) es added h.held timely.held));
       fits = λ dev. subst (λ (t : Time). Fits dev t.start 0 (es ++ added)) (sym timely.time) (fits dev);
       slices = λ dev.
           let first : slices_at old.part dev ≡ slices_in dev es = h.slices dev in
@@ -155,13 +128,12 @@ on_time_then es added old new setup h begun timely =
       none = λ e. let still : new.time.given ≡ old.time.given = ap (λ (t : Time). t.given) timely.time in let no : true ≡ false = sym begun ∙ sym still ∙ e in cc;
     }
 
--- an entry that names no moment and holds nothing
-pub on_time_still : (t : Thread) (es : List Entry) (e : Entry) → IsOnTime t es → moment_named e.act ≡ None → until_named e.act ≡ None → IsOnTime t (es ++ e ∷ [])
-on_time_still t es e h none unheld =
+-- an entry that names no moment
+pub on_time_still : (t : Thread) (es : List Entry) (e : Entry) → IsOnTime t es → moment_named e.act ≡ None → IsOnTime t (es ++ e ∷ [])
+on_time_still t es e h none =
     record {
       order = h.order;
       named = named_both (IsBetween t.time) es (e ∷ []) h.named (none_named (IsBetween t.time) (e ∷ []) (none, tt));
-      held = held_both (EndsInTime t.setup.now t.time.moment) es (e ∷ []) h.held (subst (λ (o : Option ℕ). IfSome o (EndsInTime t.setup.now t.time.moment)) (sym unheld) tt, tt);
       fits = λ dev. fits_both dev t.time.start 0 es (e ∷ []) (h.fits dev) (none_told dev t.time.start (0 + slices_in dev es) (e ∷ []) (none, tt));
       slices = λ dev.
           let first : slices_at t.part dev ≡ slices_in dev es = h.slices dev in

@@ -13,6 +13,10 @@ use Rattle.bd_law_logs.specs.Journals.{events}
 use Rattle.bd_law_disks.specs.Over.{LeadsOver}
 use Rattle.bd_law_disks.specs.Told.{is_on_disk}
 use Rattle.bd_law_disks.proofs.Over.{over_goes_on, own_is_over}
+use Rattle.bd_law_held.specs.Held.{held_over, EndInTime}
+use Rattle.bd_law_held.proofs.Ends.{both_end}
+use Rattle.bd_law_held.proofs.Over.{over_on, own_held_over}
+use Rattle.bd_moment.specs.declared.time.Time.{Time}
 use Rattle.bd_thread.specs.declared.links.Links.{Links}
 use Rattle.bd_thread.specs.declared.thread.Thread.{Thread}
 use Rattle.bd_thread.specs.Acted.{is_own, Acted, AreOf}
@@ -46,6 +50,7 @@ acted_over contents o a n c g = record {
   added = g.added;
   leads = own_is_over o.setup.now contents o.me (local o a) g.entries (local n c) (none_on_disk o.setup.now g.entries g.acts) g.leads;
   timely = g.timely;
+  held = subst (EndInTime o.setup.now o.time.moment) (own_held_over o.setup.now contents o.me (local o a) g.entries (local n c) (none_on_disk o.setup.now g.entries g.acts) g.leads) g.held;
 }
 
 pub over_none : (contents : DevId → Content) (t : Thread) (links : Links) → WentOver contents contents t links t links
@@ -58,6 +63,7 @@ over_none contents t links = record {
   added = sym (append-nil links.entries);
   leads = (refl, refl);
   timely = timely_none t t refl (λ dev. refl);
+  held = tt;
 }
 
 pub over_then : (x y z : DevId → Content) (o : Thread) (a : Links) (m : Thread) (b : Links) (n : Thread) (c : Links) → WentOver x y o a m b → WentOver y z m b n c → WentOver x z o a n c
@@ -73,7 +79,12 @@ over_then x y z o a m b n c g h =
       leads = over_goes_on o.setup.now o.me x y z (local o a) (local m b) (local n c) g.entries h.entries g.leads
           (subst (λ (t : ℕ). LeadsOver o.setup.now t y (local m b) h.entries z (local n c)) g.me
           (subst (λ (s : Setup). LeadsOver s m.me y (local m b) h.entries z (local n c)) setup-is h.leads));
-      timely = timely_then g.entries h.entries o m n setup-is g.timely h.timely;
+      timely = timely_then g.entries h.entries o m n g.timely h.timely;
+      held = subst (EndInTime o.setup.now o.time.moment) (sym (over_on o.setup.now o.me x y (local o a) (local m b) g.entries h.entries g.leads))
+          (both_end o.setup.now o.time.moment (held_over o.setup.now o.me x (local o a) g.entries) (held_over o.setup.now o.me y (local m b) h.entries) g.held
+          (subst (λ (k : ℕ). EndInTime o.setup.now k (held_over o.setup.now o.me y (local m b) h.entries)) (ap (λ (t : Time). t.moment) g.timely.time)
+          (subst (λ (t : ℕ). EndInTime o.setup.now m.time.moment (held_over o.setup.now t y (local m b) h.entries)) g.me
+          (subst (λ (s : Setup). EndInTime s m.time.moment (held_over s m.me y (local m b) h.entries)) setup-is h.held))));
     }
 
 -- it adds entries only

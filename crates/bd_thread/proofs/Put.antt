@@ -61,6 +61,8 @@ sent_some setup t v to number (tokens.Go req threads) h = refl
 sent_some setup t v to number (tokens.Gone handle) h = refl
 sent_some setup t v to number (tokens.Channel dev) h = refl
 sent_some setup t v to number (tokens.Device dev) h = refl
+sent_some setup t v to number (tokens.Grow dev blocks) h = refl
+sent_some setup t v to number (tokens.Sized handle blocks) h = refl
 
 -- and what has to be here is
 pub sent_here : (setup : Setup) (t : ℕ) (v : View) (to : ℕ) (what : Token) → may_go setup t v to what ≡ true → is_token_here v what ≡ true
@@ -84,6 +86,8 @@ sent_here setup t v to (tokens.Go req threads) h = refl
 sent_here setup t v to (tokens.Gone handle) h = refl
 sent_here setup t v to (tokens.Channel dev) h = refl
 sent_here setup t v to (tokens.Device dev) h = refl
+sent_here setup t v to (tokens.Grow dev blocks) h = refl
+sent_here setup t v to (tokens.Sized handle blocks) h = refl
 
 -- ---- the one move of a Put
 
@@ -111,6 +115,8 @@ put_moves t v to number (tokens.Go req threads) kept h = news_moves t to number 
 put_moves t v to number (tokens.Gone handle) kept h = news_moves t to number kept (news.Gone handle) h
 put_moves t v to number (tokens.Channel dev) kept h = news_moves t to number kept (news.Channel dev) h
 put_moves t v to number (tokens.Device dev) kept h = news_moves t to number kept (news.Device dev) h
+put_moves t v to number (tokens.Grow dev blocks) kept h = news_moves t to number kept (news.Grow dev blocks) h
+put_moves t v to number (tokens.Sized handle blocks) kept h = news_moves t to number kept (news.Sized handle blocks) h
 
 pub put_steps : (setup : Setup) (t : ℕ) (p new : Part) (here here' : Id → Option Kept) (registry : Registry) (shut : Bool) (stamp : ℕ) (queues queues' : ℕ → List Message) (to number : ℕ) (what : Token) (kept : Kept)
     → number ≡ count_at p.put to

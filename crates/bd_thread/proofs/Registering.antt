@@ -35,7 +35,7 @@ use Rattle.bd_machine.specs.Alone.{held_after}
 use Rattle.bd_machine.specs.Asked.{asks_between, asks_event, bound_to}
 use Rattle.bd_machine.specs.Changes.{between_after, registry_after}
 use Rattle.bd_machine.specs.Events.{change_reg}
-use Rattle.bd_machine.specs.Guards.{taken_injection}
+use Rattle.bd_machine.specs.Guards.{prior_by}
 use Rattle.bd_steps.specs.Resetting.{is_asked_alone}
 use Rattle.bd_machine.specs.Registry.{answer_to}
 use Rattle.bd_machine.specs.Same.{same_answer, same_dev, same_dropped, same_decision, same_holder, same_if_any, same_next_reset}
@@ -51,7 +51,7 @@ use Rattle.bd_thread.specs.declared.links.Links.{Links}
 use Rattle.bd_thread.specs.declared.thread.Thread.{Thread}
 use Rattle.bd_thread.specs.Acted.{Acted}
 use Rattle.bd_steps.specs.Following.{close_due, get_due}
-use Rattle.bd_thread.specs.Lines.{answered, asked_registry, change_by, claim_if_bound, claim_of, close_asked, close_of, handle_if_any, if_asked, if_closable, job_now, may_ask, may_ask_after, may_close, open_of, remove_of, AsksBy, IsAnswered, IsFollowed, OpensBy}
+use Rattle.bd_thread.specs.Lines.{answered, asked_registry, change_by, change_of, claim_if_bound, claim_of, close_asked, close_of, handle_if_any, if_asked, if_closable, job_now, may_ask, may_ask_after, may_close, open_of, AsksBy, IsAnswered, IsFollowed, OpensBy}
 use Rattle.bd_thread.specs.Requests.{KeepsTickets}
 use Rattle.bd_thread.specs.Seen.{local, local_at, untaken, view_of}
 use Rattle.bd_links.proofs.Longer.{length-longer}
@@ -100,7 +100,8 @@ decision_self decisions.Pend = refl
 decision_self decisions.Corrupt = refl
 
 pub answer_self : (a : Answer) → same_answer a a ≡ true
-answer_self (answers.Opened h d) = and_from (h.0 == h.0) (d.0 == d.0) (eq-eqb h.0 h.0 refl) (eq-eqb d.0 d.0 refl)
+answer_self (answers.Opened h d n) =
+    and_from ((h.0 == h.0) && (d.0 == d.0)) (n == n) (and_from (h.0 == h.0) (d.0 == d.0) (eq-eqb h.0 h.0 refl) (eq-eqb d.0 d.0 refl)) (eq-eqb n n refl)
 answer_self (answers.Closed d) = if_any_self same_dev dev_self d
 answer_self answers.Claimed = refl
 answer_self (answers.Got f ds) = and_from (beq f f) (pointwise same_dev ds ds) (flag_self f) (all_self same_dev dev_self ds)
@@ -119,6 +120,10 @@ answer_self (answers.ResetEnded ts) = eq-eqb ts.0 ts.0 refl
 answer_self (answers.ResetFinished n) = if_any_self same_next_reset next_self n
 answer_self (answers.Injected d) = decision_self d
 answer_self (answers.Freed h) = if_any_self (λ a b. a.0 == b.0) (λ (x : HandleId). eq-eqb x.0 x.0 refl) h
+answer_self (answers.Resizing d t) = and_from (same_dev d d) (t.0 == t.0) (dev_self d) (eq-eqb t.0 t.0 refl)
+answer_self (answers.Resized hs n d) =
+    and_from (pointwise same_holder hs hs && (n == n)) (same_if_any same_dev d d)
+    (and_from (pointwise same_holder hs hs) (n == n) (all_self same_holder holder_self hs) (eq-eqb n n refl)) (if_any_self same_dev dev_self d)
 answer_self (answers.Refused e) = eq-eqb (number_of e) (number_of e) refl
 
 -- ---- an event that is asked alone
@@ -139,20 +144,22 @@ module _ (setup : Setup) (me : ℕ) where
   asked_local l event answer asks =
       sym (asked_between l.view l.shared.registry l.shared.shut (Some (answer_to setup l.shared.registry me event)) event l.shared.registry.between) ∙ asks
 
-  -- it takes no injection
-  untaken_by : (event : RegEvent) (answer : Answer) → is_asked_alone event ≡ true → taken_injection (acts.Reg event answer) ≡ None
-  untaken_by (events.Open name write) answer built = refl
-  untaken_by (events.Close id) answer built = refl
-  untaken_by (events.Claim id kind) answer built = refl
-  untaken_by (events.GetChannel dev) answer built = refl
-  untaken_by (events.PutChannel dev closing) answer built = refl
-  untaken_by (events.DropChannel dev) answer built = refl
-  untaken_by (events.BeginRemove name) answer built = refl
-  untaken_by (events.Destructed dev) answer built = refl
-  untaken_by (events.BeginReset dev req) answer built = refl
-  untaken_by (events.EndReset dev) answer built = refl
-  untaken_by (events.FinishReset dev) answer built = refl
-  untaken_by (events.TakeInjection dev req op) answer built = not_built built
+  -- it takes no injection, and asks for nothing directly after it
+  untaken_by : (v : View) (event : RegEvent) (answer : Answer) → is_asked_alone event ≡ true → prior_by v (acts.Reg event answer) ≡ None
+  untaken_by v (events.Open name write) answer built = refl
+  untaken_by v (events.Close id) answer built = refl
+  untaken_by v (events.Claim id kind) answer built = refl
+  untaken_by v (events.GetChannel dev) answer built = refl
+  untaken_by v (events.PutChannel dev closing) answer built = refl
+  untaken_by v (events.DropChannel dev) answer built = refl
+  untaken_by v (events.BeginRemove name) answer built = refl
+  untaken_by v (events.Destructed dev) answer built = refl
+  untaken_by v (events.BeginReset dev req) answer built = refl
+  untaken_by v (events.EndReset dev) answer built = refl
+  untaken_by v (events.FinishReset dev) answer built = refl
+  untaken_by v (events.BeginResize name blocks) answer built = refl
+  untaken_by v (events.EndResize dev) answer built = refl
+  untaken_by v (events.TakeInjection dev req op) answer built = not_built built
 
   -- of what came, what it changes goes by the Shutdown alone
   change_by_shut : (v : View) (came : Came) (event : RegEvent) (answer : Answer) → is_asked_alone event ≡ true
@@ -168,6 +175,8 @@ module _ (setup : Setup) (me : ℕ) where
   change_by_shut v came (events.BeginReset dev req) answer built = refl
   change_by_shut v came (events.EndReset dev) answer built = refl
   change_by_shut v came (events.FinishReset dev) answer built = refl
+  change_by_shut v came (events.BeginResize name blocks) answer built = refl
+  change_by_shut v came (events.EndResize dev) answer built = refl
   change_by_shut v came (events.TakeInjection dev req op) answer built = not_built built
 
 module _ (setup : Setup) (me : ℕ) (part : Part) (here : Id → Option Kept) (registry : Registry) (shut : Bool) (stamp : ℕ) (queues : ℕ → List Message) where
@@ -190,7 +199,7 @@ module _ (setup : Setup) (me : ℕ) (part : Part) (here : Id → Option Kept) (r
       (acts.Reg event answer) refl refl
       (ap (λ (a : Answer). same_answer answer a) given ∙ answer_self answer, (asked_local setup me old event answer asks, tt))
       (local_eq _ _
-      (ap (λ o. let p : Part = record (change_reg setup me old.view came event answer).part { injection = o } in p) (untaken_by setup me event answer built) ∙ ap (λ (c : Change). untaken c.part) same)
+      (ap (λ o. let p : Part = record (change_reg setup me old.view came event answer).part { prior = o } in p) (untaken_by setup me old.view event answer built) ∙ ap (λ (c : Change). untaken c.part) same)
       (ap (λ (c : Change). held_after c.moves here) same ∙ sym held)
       (sym (handles_own me registry.handles event answer))
       (sym (channels_own setup me registry (Some (record { event = event; answer = answer }))))
@@ -263,9 +272,9 @@ unopened_by t before event o is may = subst (OpensBy t before t before false) (s
 pub open_named : (handle dev : List ℕ) (write shut : Bool) (o : Option Job) → shut ≡ false → o ≡ Some (jobs.Open handle dev write) → open_of (cond shut None o) ≡ Some (events.Open dev write)
 open_named handle dev write shut o unshut line = ap (λ b. open_of (cond b None o)) unshut ∙ ap open_of line
 
--- the removal that the line names
-pub remove_named : (dev : List ℕ) (shut : Bool) (o : Option Job) → shut ≡ false → o ≡ Some (jobs.Remove dev) → remove_of (cond shut None o) ≡ Some (events.BeginRemove dev)
-remove_named dev shut o unshut line = ap (λ b. remove_of (cond b None o)) unshut ∙ ap remove_of line
+-- the change of a device that the line names
+pub change_named : (event : RegEvent) (shut : Bool) (o : Option Job) → shut ≡ false → change_of o ≡ Some event → change_of (cond shut None o) ≡ Some event
+change_named event shut o unshut named = ap (λ b. change_of (cond b None o)) unshut ∙ named
 
 -- the claim that the line names
 pub claim_named : (part : Part) (handle : List ℕ) (kind : ClaimKind) (id : HandleId) (shut : Bool) (o : Option Job)

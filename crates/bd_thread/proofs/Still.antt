@@ -111,7 +111,7 @@ pub each_rests : EachRests
 each_rests t links own h = at_rest t own (and_parts (before && list_all is_idle t.retries) (is_bare t || not (has_going t)) all_but_last).1
   where
     before : Bool
-    before = (length t.outbox.items == 0) && (length t.part.due == 0) && (length t.part.owed == 0) && is_none t.part.injection
+    before = (length t.outbox.items == 0) && (length t.part.due == 0) && (length t.part.owed == 0) && is_none t.part.prior
 
     all_but_last : before && list_all is_idle t.retries && (is_bare t || not (has_going t)) ≡ true
     all_but_last = (and_parts (before && list_all is_idle t.retries && (is_bare t || not (has_going t))) (list_all (is_settled t links) t.part.gone) h).0

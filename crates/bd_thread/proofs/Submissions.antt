@@ -76,10 +76,10 @@ module _ (setup : Setup) (me : ℕ) (part : Part) (here : Id → Option Kept) (r
       → is_handle_on dev (found handle) ≡ true
       → req.thread ≡ me → part.next_request ≤ req.seq → length part.requests < most_requests → req.seq < no_request
       → Steps setup me (local_at me part here registry shut stamp queues) (accept_act req dev handle asked)
-      (local_at me (accepted setup me part req dev handle asked) (λ j. cond (same_id (ids.Request req) j) (Some (opened dev handle asked)) (here j)) registry shut (stamp + 1) queues)
+      (local_at me (accepted setup me part req dev handle asked) (λ j. cond (same_id (ids.Request req) j) (Some (opened setup part dev handle asked)) (here j)) registry shut (stamp + 1) queues)
   accept_steps req dev handle line admitted on own above room names =
       steps setup me (local_at me part here registry shut stamp queues)
-      (local_at me (accepted setup me part req dev handle asked) (λ j. cond (same_id (ids.Request req) j) (Some (opened dev handle asked)) (here j)) registry shut (stamp + 1) queues)
+      (local_at me (accepted setup me part req dev handle asked) (λ j. cond (same_id (ids.Request req) j) (Some (opened setup part dev handle asked)) (here j)) registry shut (stamp + 1) queues)
       (accept_act req dev handle asked) refl refl (
         and_from (not shut && is_job_submit part (Some handle) asked.op asked.lba asked.count (undecided_job setup me part)) (is_device_of dev (found handle)) (asks (Some handle) line) (device_of dev (found handle) on),
         (
@@ -94,7 +94,7 @@ module _ (setup : Setup) (me : ℕ) (part : Part) (here : Id → Option Kept) (r
           ),
         ),
       )
-      (ap (λ b. local_at me (accepted setup me part req dev handle asked) (λ j. cond (same_id (ids.Request req) j) (Some (opened dev handle asked)) (here j)) registry b (stamp + 1) queues) (still_shut shut))
+      (ap (λ b. local_at me (accepted setup me part req dev handle asked) (λ j. cond (same_id (ids.Request req) j) (Some (opened setup part dev handle asked)) (here j)) registry b (stamp + 1) queues) (still_shut shut))
 
   -- **Refuse**
   pub refuse_steps : (handle : Option HandleId) (errno : Errno)

@@ -30,10 +30,12 @@ use Rattle.bd_machine.specs.View.{Came, View}
 use Rattle.bd_machine.proofs.Acts.{passed}
 use Rattle.bd_machine.proofs.Parts.{Core, is_plain, plain_grows}
 use Rattle.bd_machine.proofs.Tables.{dev_exact}
+use Rattle.bd_law_held.specs.Held.{held_by, EndInTime}
 use Rattle.bd_moment.specs.declared.time.Time.{Time}
+use Rattle.bd_tokens.specs.Tokens.{here_in}
 use Rattle.bd_turns.specs.Local.{came_local, local_after, refusal_local, Local}
 use Rattle.bd_thread.specs.declared.thread.Thread.{Thread}
-use Rattle.bd_thread.specs.Timely.{moment_named, slices_at, slices_if, slices_in, until_named, AreTimely, EndsInTime, IsTimely, KeepsTime}
+use Rattle.bd_thread.specs.Timely.{moment_named, slices_at, slices_if, slices_in, AreTimely, IsTimely, KeepsTime}
 
 -- ---- a thread's time
 
@@ -50,12 +52,13 @@ is_untimed (acts.Let req dev now) = false
 is_untimed (acts.Tick dev now slices) = false
 is_untimed (acts.Release req now) = false
 is_untimed (acts.Hold req until) = false
+is_untimed (acts.Due walk now) = false
 is_untimed _ = true
 
 pub untimed : (act : Act) (old new : Thread) → is_untimed act ≡ true → new.time ≡ old.time → IsTimely act old new
 untimed act old new plain is = record { time = time_stays old.time new.time is; named = names act plain; held = holds act plain; fits = λ dev. told act plain dev }
   where
-    holds : (act : Act) → is_untimed act ≡ true → IfSome (until_named act) (EndsInTime old.setup.now old.time.moment)
+    holds : (act : Act) → is_untimed act ≡ true → EndInTime old.setup.now old.time.moment (held_by (here_in old.held.items) act)
     holds (acts.Hold req until) h = cc
     holds _ h = tt
 
@@ -63,6 +66,7 @@ untimed act old new plain is = record { time = time_stays old.time new.time is; 
     names (acts.Let req dev now) h = cc
     names (acts.Tick dev now slices) h = cc
     names (acts.Release req now) h = cc
+    names (acts.Due walk now) h = cc
     names _ h = tt
 
     told : (act : Act) → is_untimed act ≡ true → (dev : DevId) → FitsAct dev old.time.start (slices_at old.part dev) act
@@ -139,6 +143,7 @@ slices_after setup t v act came dev h = go (is_plain act) refl
     others (acts.Put to number what) g e = none
     others (acts.Accept d lba handle req op count) g e = none
     others (acts.Destruct d digest) g e = none
+    others (acts.Grow d blocks) g e = none
     others (acts.Apply req k d end) g e = applied req k d end (size_of setup d) (piece_here v req k) (base_here v d) ∙ none
     others (acts.Tick d now slices) g e =
         let due = (passed (guards setup t v (acts.Tick d now slices) came) g).0 in
@@ -174,7 +179,7 @@ local_slices setup t l e dev allowed =
 -- ---- entries
 
 pub timely_none : (old new : Thread) → new.time ≡ old.time → ((dev : DevId) → slices_at new.part dev ≡ slices_at old.part dev) → AreTimely [] old new
-timely_none old new is same = record { time = time_stays old.time new.time is; named = tt; held = tt; fits = λ dev. tt; slices = λ dev. same dev ∙ and_none (slices_at old.part dev) }
+timely_none old new is same = record { time = time_stays old.time new.time is; named = tt; fits = λ dev. tt; slices = λ dev. same dev ∙ and_none (slices_at old.part dev) }
 
 -- one entry, by what the thread sees before and after it
 pub timely_one : (old new : Thread) (setup : Setup) (t : ℕ) (l l' : Local) (e : Entry)
@@ -187,7 +192,6 @@ pub timely_one : (old new : Thread) (setup : Setup) (t : ℕ) (l l' : Local) (e 
 timely_one old new setup t l l' e was is allowed leads timely = record {
   time = timely.time;
   named = (timely.named, tt);
-  held = (timely.held, tt);
   fits = λ dev. (timely.fits dev, tt);
   slices = λ dev.
       ap (λ (p : Part). slices_at p dev) (sym is)
@@ -204,7 +208,6 @@ timely_plain old new e plain is same =
     record {
       time = one.time;
       named = (one.named, tt);
-      held = (one.held, tt);
       fits = λ dev. (one.fits dev, tt);
       slices = λ dev. same dev ∙ and_none (slices_at old.part dev) ∙ ap (λ n. slices_at old.part dev + n) (sym (untold e.act plain dev));
     }
@@ -220,11 +223,6 @@ names_both : (moment : ℕ) (xs ys : List Entry) → AllByRecursion (λ e. IfSom
 names_both moment [] ys f s = s
 names_both moment (x ∷ xs) ys f s = (f.0, names_both moment xs ys f.1 s)
 
-holds_both : (setup : Setup) (moment : ℕ) (xs ys : List Entry) → AllByRecursion (λ e. IfSome (until_named e.act) (EndsInTime setup moment)) xs → AllByRecursion (λ e. IfSome (until_named e.act) (EndsInTime setup moment)) ys
-    → AllByRecursion (λ e. IfSome (until_named e.act) (EndsInTime setup moment)) (xs ++ ys)
-holds_both setup moment [] ys f s = s
-holds_both setup moment (x ∷ xs) ys f s = (f.0, holds_both setup moment xs ys f.1 s)
-
 pub slices_both : (dev : DevId) (xs ys : List Entry) → slices_in dev (xs ++ ys) ≡ slices_in dev xs + slices_in dev ys
 slices_both dev [] ys = omega arith
 slices_both dev (x ∷ xs) ys = let ih : slices_in dev (xs ++ ys) ≡ slices_in dev xs + slices_in dev ys = slices_both dev xs ys in omega arith
@@ -235,16 +233,13 @@ fits_both dev start before (x ∷ xs) ys f s =
     let more : before + (slices_of dev x.act + slices_in dev xs) ≡ before + slices_of dev x.act + slices_in dev xs = omega arith in
     (f.0, fits_both dev start (before + slices_of dev x.act) xs ys f.1 (subst (λ (n : ℕ). Fits dev start n ys) more s))
 
-pub timely_then : (xs ys : List Entry) (a b c : Thread) → b.setup.now ≡ a.setup.now → AreTimely xs a b → AreTimely ys b c → AreTimely (xs ++ ys) a c
-timely_then xs ys a b c setup f s =
+pub timely_then : (xs ys : List Entry) (a b c : Thread) → AreTimely xs a b → AreTimely ys b c → AreTimely (xs ++ ys) a c
+timely_then xs ys a b c f s =
     let moment : b.time.moment ≡ a.time.moment = ap (λ (t : Time). t.moment) f.time in
     let start : b.time.start ≡ a.time.start = ap (λ (t : Time). t.start) f.time in
     record {
       time = time_then a.time b.time c.time f.time s.time;
       named = names_both a.time.moment xs ys f.named (subst (λ (n : ℕ). AllByRecursion (λ e. IfSome (moment_named e.act) (λ m. m ≡ n)) ys) moment s.named);
-      held = holds_both a.setup.now a.time.moment xs ys f.held
-          (subst (λ (n : ℕ). AllByRecursion (λ e. IfSome (until_named e.act) (EndsInTime a.setup.now n)) ys) moment
-          (subst (λ (u : Setup). AllByRecursion (λ e. IfSome (until_named e.act) (EndsInTime u b.time.moment)) ys) setup s.held));
       fits = λ dev.
           fits_both dev a.time.start (slices_at a.part dev) xs ys (f.fits dev)
           (subst (λ (n : ℕ). Fits dev n (slices_at a.part dev + slices_in dev xs) ys) start (subst (λ (n : ℕ). Fits dev b.time.start n ys) (f.slices dev) (s.fits dev)));

@@ -99,6 +99,12 @@ brought_kind (tokens.Device dev) (keeps.Walk w) h = cc
 brought_kind (tokens.Mark name) (keeps.Request r) h = cc
 brought_kind (tokens.Mark name) (keeps.Piece p) h = cc
 brought_kind (tokens.Mark name) (keeps.Walk w) h = cc
+brought_kind (tokens.Grow dev blocks) (keeps.Request r) h = cc
+brought_kind (tokens.Grow dev blocks) (keeps.Piece p) h = cc
+brought_kind (tokens.Grow dev blocks) (keeps.Walk w) h = cc
+brought_kind (tokens.Sized handle blocks) (keeps.Request r) h = cc
+brought_kind (tokens.Sized handle blocks) (keeps.Piece p) h = cc
+brought_kind (tokens.Sized handle blocks) (keeps.Walk w) h = cc
 brought_kind (tokens.Request req) (keeps.Notice told) h = refl
 brought_kind (tokens.Piece req k) (keeps.Notice told) h = refl
 brought_kind (tokens.Walk walk) (keeps.Notice told) h = refl
@@ -107,6 +113,8 @@ brought_kind (tokens.Gone handle) (keeps.Notice told) h = refl
 brought_kind (tokens.Channel dev) (keeps.Notice told) h = refl
 brought_kind (tokens.Device dev) (keeps.Notice told) h = refl
 brought_kind (tokens.Mark name) (keeps.Notice told) h = refl
+brought_kind (tokens.Grow dev blocks) (keeps.Notice told) h = refl
+brought_kind (tokens.Sized handle blocks) (keeps.Notice told) h = refl
 
 -- some moves after others
 pub held_then : (first second : List Move) (here : Id → Option Kept) → held_after (first ++ second) here ≡ held_after second (held_after first here)

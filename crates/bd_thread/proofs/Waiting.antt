@@ -31,7 +31,7 @@ use Rattle.bd_machine.specs.declared.state.News.TheVariants as news
 use Rattle.bd_machine.specs.declared.state.Owed.{Owed}
 use Rattle.bd_machine.specs.Admission.{is_gone}
 use Rattle.bd_machine.specs.Asked.{may_close as closes}
-use Rattle.bd_machine.specs.Asked.{bound_to, busy_outcome, claim_outcome, close_outcome, is_handle_on, is_job_claim, is_job_close, is_job_open, is_job_remove, owes_removal, is_open_handle, is_script_blocked, is_waiting_job, is_waiting_line, job_of, most_requests, next_line, open_on, outcome_by, outcome_due, undecided_job, undecided_outcome}
+use Rattle.bd_machine.specs.Asked.{bound_to, busy_outcome, claim_outcome, close_outcome, is_handle_on, is_job_claim, is_job_close, is_job_open, is_job_remove, is_job_resize, owes_removal, is_open_handle, is_script_blocked, is_waiting_job, is_waiting_line, job_of, most_requests, next_line, open_on, outcome_by, outcome_due, undecided_job, undecided_outcome}
 use Rattle.bd_machine.specs.Claims.{same_kind}
 use Rattle.bd_machine.specs.Messages.{is_due, is_due_to, may_go}
 use Rattle.bd_machine.specs.Registry.{device_named, handle_of}
@@ -48,13 +48,14 @@ use Rattle.bd_thread.specs.declared.turn.Turned.TheVariants.{Moved, Quiet}
 use Rattle.bd_thread.specs.Acted.{Acted}
 use Rattle.bd_thread.specs.Asleep.{is_asleep}
 use Rattle.bd_steps.specs.Asking.{is_base_if_any}
-use Rattle.bd_steps.specs.Duties.{duty_owed}
+use Rattle.bd_steps.specs.Duties.{duty_owed, growth_owed}
 use Rattle.bd_steps.specs.Sending.{first_due, token_of}
 use Rattle.bd_thread.specs.Duties.{NoDuty}
+use Rattle.bd_thread.specs.Growing.{if_growable}
 use Rattle.bd_thread.specs.Calls.{StandsAsked}
 use Rattle.bd_touched.specs.Reach.{Touches}
 use Rattle.bd_thread.specs.Looking.{LooksAt}
-use Rattle.bd_thread.specs.Lines.{claim_if_bound, claim_of, close_of, handle_if_any, if_asked, if_closable, may_ask, may_ask_after, may_close, open_of, remove_of}
+use Rattle.bd_thread.specs.Lines.{change_of, claim_if_bound, claim_of, close_of, handle_if_any, if_asked, if_closable, may_ask, may_ask_after, may_close, open_of}
 use Rattle.bd_thread.specs.Moves.{turned_of}
 use Rattle.bd_thread.specs.Requests.{KeepsTickets}
 use Rattle.bd_thread.specs.Sent.{may_put, may_send}
@@ -81,6 +82,8 @@ news_self (news.Mark mark) = name_self mark
 news_self (news.Gone handle) = eq-eqb handle.0 handle.0 refl
 news_self (news.Channel dev) = eq-eqb dev.0 dev.0 refl
 news_self (news.Device dev) = eq-eqb dev.0 dev.0 refl
+news_self (news.Grow dev blocks) = and_from (same_dev dev dev) (blocks == blocks) (eq-eqb dev.0 dev.0 refl) (eq-eqb blocks blocks refl)
+news_self (news.Sized handle blocks) = and_from (same_handle handle handle) (blocks == blocks) (eq-eqb handle.0 handle.0 refl) (eq-eqb blocks blocks refl)
 news_self (news.Go req threads) = and_from (same_request req req) (threads.0 == threads.0) (request_same.same_self req) (eq-eqb threads.0 threads.0 refl)
 
 some_same : {X : Type 0} {x y : X} → Some x ≡ Some y → x ≡ y
@@ -181,10 +184,10 @@ module _ (t : Thread) (links : Links) where
           false_true (sym (not_asked (events.Claim id kind) (may_ask t free (events.Claim id kind)) c) ∙ may)
 
   -- a removal is asked
-  remove_waits : (dev : List ℕ) → asked ≡ Some (jobs.Remove dev) → if_asked t free (remove_of asked) ≡ None → ⊥
+  remove_waits : (dev : List ℕ) → asked ≡ Some (jobs.Remove dev) → if_asked t free (change_of asked) ≡ None → ⊥
   remove_waits dev is r =
       let event : RegEvent = events.BeginRemove dev in
-      let unasked : cond (may_ask t free event) (Some event) None ≡ None = ap (λ (j : Option Job). if_asked t free (remove_of j)) (sym is) ∙ r in
+      let unasked : cond (may_ask t free event) (Some event) None ≡ None = ap (λ (j : Option Job). if_asked t free (change_of j)) (sym is) ∙ r in
       let may : may_ask t free event ≡ true =
       or_middle (owes_removal t.part (device_named t.setup.now dev)) (is_job_remove dev asked) ((t.me == 0) && false) (ap (is_job_remove dev) is ∙ name_self dev) in
       false_true (sym (not_asked event (may_ask t free event) unasked) ∙ may)
@@ -193,6 +196,14 @@ module _ (t : Thread) (links : Links) where
       or_middle true b c e = refl
       or_middle false true c e = refl
       or_middle false false c e = false_true e
+
+  -- a resize is asked
+  resize_waits : (dev : List ℕ) (blocks : ℕ) → asked ≡ Some (jobs.Resize dev blocks) → if_asked t free (change_of asked) ≡ None → ⊥
+  resize_waits dev blocks is r =
+      let event : RegEvent = events.BeginResize dev blocks in
+      let unasked : cond (may_ask t free event) (Some event) None ≡ None = ap (λ (j : Option Job). if_asked t free (change_of j)) (sym is) ∙ r in
+      let may : may_ask t free event ≡ true = ap (is_job_resize dev blocks) is ∙ and_from (same_name dev dev) (blocks == blocks) (name_self dev) (eq-eqb blocks blocks refl) in
+      false_true (sym (not_asked event (may_ask t free event) unasked) ∙ may)
 
   -- a handle of the thread that the line closes may be closed, where no request is open on it and it is no base handle
   closes_own : (handle : List ℕ) (id : HandleId) (h : Handle)
@@ -244,7 +255,7 @@ module _ (t : Thread) (links : Links) where
       → if_asked t free (open_of asked) ≡ None
       → if_closable t free (handle_if_any seen.handles (close_of t.part asked)) ≡ None
       → if_asked t free (claim_of t.part asked) ≡ None
-      → if_asked t free (remove_of asked) ≡ None
+      → if_asked t free (change_of asked) ≡ None
       → is_submission asked && nat_lt (length t.part.requests) most_requests ≡ false
       → undecided_outcome seen job ≡ None
       → (is_waiting_job t.part job && is_none (undecided_outcome seen job)) || is_unbuilt t.setup.now seen job ≡ true
@@ -261,6 +272,8 @@ module _ (t : Thread) (links : Links) where
   job_waits (jobs.Post mark) is o c k r s e = none_some e
   job_waits (jobs.Await mark) is o c k r s e = ap (λ (r : Option Outcome). is_none r || false) e
   job_waits (jobs.Gone handle) is o c k r s e = ap (λ (r : Option Outcome). is_none r || false) e
+  job_waits (jobs.Resize dev blocks) is o c k r s e = absurd (resize_waits dev blocks is r)
+  job_waits (jobs.Sized handle blocks) is o c k r s e = ap (λ (r : Option Outcome). is_none r || false) e
 
   -- what is said of the next line, by what decided it
   decided_waits : (line : Line) (decided : Option Decided)
@@ -269,7 +282,7 @@ module _ (t : Thread) (links : Links) where
       → if_asked t free (open_of asked) ≡ None
       → if_closable t free (handle_if_any seen.handles (close_of t.part asked)) ≡ None
       → if_asked t free (claim_of t.part asked) ≡ None
-      → if_asked t free (remove_of asked) ≡ None
+      → if_asked t free (change_of asked) ≡ None
       → is_submission asked && nat_lt (length t.part.requests) most_requests ≡ false
       → outcome_by seen decided line.job ≡ None
       → (is_none decided && is_waiting_job t.part line.job && is_none (undecided_outcome seen line.job)) || asks_unbuilt t.setup.now seen (cond (is_none decided) (Some line.job) None) ≡ true
@@ -283,7 +296,7 @@ module _ (t : Thread) (links : Links) where
       → if_asked t free (open_of asked) ≡ None
       → if_closable t free (handle_if_any seen.handles (close_of t.part asked)) ≡ None
       → if_asked t free (claim_of t.part asked) ≡ None
-      → if_asked t free (remove_of asked) ≡ None
+      → if_asked t free (change_of asked) ≡ None
       → is_submission asked && nat_lt (length t.part.requests) most_requests ≡ false
       → option_and_then (λ l. outcome_by seen t.part.decided l.job) line ≡ None
       → is_waiting_line seen line || asks_unbuilt t.setup.now seen (cond (is_none t.part.decided) (option_map job_of line) None) ≡ true
@@ -291,7 +304,7 @@ module _ (t : Thread) (links : Links) where
   next_waits (Some line) is o c k r s e = decided_waits line t.part.decided is refl o c k r s e
 
   pub line_waits : NoLine t links → is_line_waiting t links ≡ true
-  line_waits h = go links.shut links.registry.state.between (is_asleep t) h.opening h.closing h.claiming h.removing h.submission h.outcome
+  line_waits h = go links.shut links.registry.state.between (is_asleep t) h.opening h.closing h.claiming h.changing h.submission h.outcome
     where
       or_true : (b : Bool) → b || true ≡ true
       or_true true = refl
@@ -301,7 +314,7 @@ module _ (t : Thread) (links : Links) where
           → if_asked t (stood shut between) (open_of (cond shut None asked)) ≡ None
           → if_closable t (stood shut between) (handle_if_any seen.handles (close_of t.part (cond shut None asked))) ≡ None
           → if_asked t (stood shut between) (claim_of t.part (cond shut None asked)) ≡ None
-          → if_asked t (stood shut between) (remove_of (cond shut None asked)) ≡ None
+          → if_asked t (stood shut between) (change_of (cond shut None asked)) ≡ None
           → is_submission (cond shut None asked) && nat_lt (length t.part.requests) most_requests ≡ false
           → cond (shut || asleep) None (outcome_due t.setup.now t.me seen) ≡ None
           → shut || is_some between || is_script_blocked t.setup.now t.me seen || asks_unbuilt t.setup.now seen asked || asleep ≡ true
@@ -327,11 +340,15 @@ none_due t links h = go t.part.due h
     go (d ∷ ds) h = h (omega arith)
 
 pub none_owed : (t : Thread) (links : Links) → (0 < length t.part.owed → NoDuty t links) → NoDuty t links
-none_owed t links h = go t.part.owed h
+none_owed t links h = record { growth = growths t.part.owed (λ some. (h some).growth); event = duties t.part.owed (λ some. (h some).event) }
   where
-    go : (os : List Owed) → (0 < length os → if_asked t links (duty_owed t.setup.now os) ≡ None) → if_asked t links (duty_owed t.setup.now os) ≡ None
-    go [] h = refl
-    go (o ∷ os) h = h (omega arith)
+    growths : (os : List Owed) → (0 < length os → if_growable t links (growth_owed os) ≡ None) → if_growable t links (growth_owed os) ≡ None
+    growths [] h = refl
+    growths (o ∷ os) h = h (omega arith)
+
+    duties : (os : List Owed) → (0 < length os → if_asked t links (duty_owed t.setup.now os) ≡ None) → if_asked t links (duty_owed t.setup.now os) ≡ None
+    duties [] h = refl
+    duties (o ∷ os) h = h (omega arith)
 
 -- the first message that is due may go, so far as the rules of where it goes are asked
 first_goes : (setup : Setup) (me : ℕ) (view : View) (d : Due) (ds : List Due) → view.part.due ≡ d ∷ ds → may_go setup me view d.receiver (token_of d.news) ≡ true
@@ -348,6 +365,8 @@ first_goes setup me view d ds due = go d.news refl
     go (news.Channel dev) e = first (news.Channel dev) e
     go (news.Device dev) e = first (news.Device dev) e
     go (news.Go req threads) e = first (news.Go req threads) e
+    go (news.Grow dev blocks) e = first (news.Grow dev blocks) e
+    go (news.Sized handle blocks) e = first (news.Sized handle blocks) e
 
 -- what may go and isn't put has no queue
 no_queue : (queue goes room : Bool) → queue && goes ≡ false → goes ≡ true → queue && room ≡ false
@@ -444,7 +463,7 @@ turn_idle {Where} found o a p1 l1 p2 l2 p3 l3 p4 l4 p5 l5 p6 l6 p7 l7 p8 l8 p9 l
     let so10 : Idles (λ t links. NoMessage t links × NoRetry t links × NoDuty t links × NothingToServe t links × NoLine t links × NothingLeft t links × NothingToSend t links × NothingToPost t links × StandsBut Where found t links × StandsAsked found t links) o a p11 l11 =
     idle_last o a p10 l10 p11 l11 both9 acted10 (λ so next. (so.0, so.1, so.2, so.3, so.4, so.5, so.6, so.7, so.8, next)) so9 asked in
     idle_last o a p11 l11 n c (acted_then o a p10 l10 p11 l11 both9 acted10) acted11
-    (λ so next. record { message = so.0; retry = so.1; duty = so.2; piece = so.3.piece; limit = so.3.limit; walk = so.3.walk; line = line_waits o a so.4; left = so.5; outbox = so.6; due = so.7; request = so.8.none; call = λ looked. stands_uncalled found o a (so.8.finds looked) so.9; refusal = next }) so10 refusal
+    (λ so next. record { message = so.0; retry = so.1; duty = so.2; piece = so.3.piece; mark = so.3.mark; limit = so.3.limit; walk = so.3.walk; line = line_waits o a so.4; left = so.5; outbox = so.6; due = so.7; request = so.8.none; call = λ looked. stands_uncalled found o a (so.8.finds looked) so.9; refusal = next }) so10 refusal
 
 -- what is noted to be asked, and what is to be looked at, is nothing that a thread waits for, sees or keeps
 pub waits_noted : {Where : Thread → Type 0} (t : Thread) (links : Links) (u : Thread) → (Where (record t { calls = u.calls; touched = u.touched }) → Where t) → IsWaiting Where t links → IsWaiting Where (record t { calls = u.calls; touched = u.touched }) links
@@ -452,8 +471,9 @@ waits_noted t links u where_so w = record {
   message = w.message;
   refusal = w.refusal;
   retry = w.retry;
-  duty = w.duty;
+  duty = record { growth = w.duty.growth; event = w.duty.event };
   piece = w.piece;
+  mark = w.mark;
   limit = λ i l at. record { head = (w.limit i l at).head; tick = (w.limit i l at).tick; pass = (w.limit i l at).pass };
   walk = w.walk;
   line = w.line;
@@ -468,14 +488,14 @@ waits_noted t links u where_so w = record {
 
 pub acted_noted : (o : Thread) (a : Links) (n : Thread) (c : Links) (u : Thread) → u ≡ record n { calls = u.calls } → Acted o a n c → Acted o a u c
 acted_noted o a n c u is h =
-    subst (λ (t : Thread). Acted o a t c) (sym is) (record { me = h.me; setup = h.setup; queues = h.queues; rows = h.rows; entries = h.entries; added = h.added; acts = h.acts; leads = h.leads; timely = record { time = h.timely.time; named = h.timely.named; held = h.timely.held; fits = h.timely.fits; slices = h.timely.slices } })
+    subst (λ (t : Thread). Acted o a t c) (sym is) (record { me = h.me; setup = h.setup; queues = h.queues; rows = h.rows; entries = h.entries; added = h.added; acts = h.acts; leads = h.leads; timely = record { time = h.timely.time; named = h.timely.named; fits = h.timely.fits; slices = h.timely.slices }; held = h.held })
 
 pub tickets_noted : (n : Thread) (u : Thread) → u ≡ record n { calls = u.calls } → KeepsTickets n → KeepsTickets u
 tickets_noted n u is keeps = same_tickets n u (ap (λ (t : Thread). t.purse.ids) is) (ap (λ (t : Thread). t.part.requests) is) (ap (λ (t : Thread). t.part.next_request) is) keeps
 
 pub acted_looked : (o : Thread) (a : Links) (n : Thread) (c : Links) (u : Thread) → u ≡ record n { touched = u.touched } → Acted o a n c → Acted o a u c
 acted_looked o a n c u is h =
-    subst (λ (t : Thread). Acted o a t c) (sym is) (record { me = h.me; setup = h.setup; queues = h.queues; rows = h.rows; entries = h.entries; added = h.added; acts = h.acts; leads = h.leads; timely = record { time = h.timely.time; named = h.timely.named; held = h.timely.held; fits = h.timely.fits; slices = h.timely.slices } })
+    subst (λ (t : Thread). Acted o a t c) (sym is) (record { me = h.me; setup = h.setup; queues = h.queues; rows = h.rows; entries = h.entries; added = h.added; acts = h.acts; leads = h.leads; timely = record { time = h.timely.time; named = h.timely.named; fits = h.timely.fits; slices = h.timely.slices }; held = h.held })
 
 pub tickets_looked : (n : Thread) (u : Thread) → u ≡ record n { touched = u.touched } → KeepsTickets n → KeepsTickets u
 tickets_looked n u is keeps = same_tickets n u (ap (λ (t : Thread). t.purse.ids) is) (ap (λ (t : Thread). t.part.requests) is) (ap (λ (t : Thread). t.part.next_request) is) keeps

@@ -1,10 +1,9 @@
 -- A visit of a walk, by the local rules.
-use Rattle.std.proofs.Common.{◌≡◌, ◌⊎◌, inl, inr, ℕ, zero, suc, ◌+◌, ◌<◌, ◌≤◌, Bool, true, false, cond, List, [], ◌∷◌, length, slice_get, Option, Some, None, is_none, refl, sym, ◌∙◌, ap, subst, arith}
+use Rattle.std.proofs.Common.{◌≡◌, ◌⊎◌, inl, inr, ℕ, zero, suc, ◌+◌, ◌<◌, ◌≤◌, Bool, true, false, cond, List, [], ◌∷◌, length, slice_get, Option, Some, None, is_none, is_some, refl, sym, ◌∙◌, ap, subst, arith}
 use Rattle.std.proofs.lemmas.Bool.{cases_lt}
 use Rattle.std.proofs.lemmas.Option.{same_Some}
 use Rattle.bd_base.specs.declared.act.Act.{Act}
 use Rattle.bd_base.specs.declared.act.Act.TheVariants as acts
-use Rattle.bd_base.specs.declared.id.DevId.{DevId}
 use Rattle.bd_base.specs.declared.id.WalkId.{WalkId}
 use Rattle.bd_base.specs.declared.request.WalkKind.{WalkKind}
 use Rattle.bd_base.specs.declared.request.WalkKind.TheVariants as kinds
@@ -16,10 +15,12 @@ use Rattle.bd_machine.specs.declared.state.OpenWalk.{OpenWalk}
 use Rattle.bd_machine.specs.declared.state.Part.{Part}
 use Rattle.bd_machine.specs.declared.state.Registry.{Registry}
 use Rattle.bd_machine.specs.Alone.{held_after}
+use Rattle.bd_machine.specs.Guards.{prior_by}
 use Rattle.bd_machine.specs.Kept.{as_walk, walk_here}
+use Rattle.bd_machine.specs.Marks.{freeze_set, remarked}
 use Rattle.bd_machine.specs.Step.{first_failing}
 use Rattle.bd_machine.specs.View.{View}
-use Rattle.bd_machine.specs.Walks.{change_visit, guards_visit, marked_by, visited, walked, walked_if_any}
+use Rattle.bd_machine.specs.Walks.{change_visit, guards_visit, marked_by, time_of_walk, visited, walked, walked_if_any}
 use Rattle.bd_machine.proofs.Parts.{Core, visit_grows}
 use Rattle.bd_turns.specs.declared.queue.Message.{Message}
 use Rattle.bd_turns.specs.Local.{Local}
@@ -35,12 +36,12 @@ use Rattle.bd_thread.specs.declared.links.Links.{Links}
 use Rattle.bd_thread.specs.declared.thread.Thread.{Thread}
 use Rattle.bd_thread.specs.Acted.{Acted}
 use Rattle.bd_thread.specs.Requests.{KeepsTickets}
-use Rattle.bd_thread.specs.Seen.{local, local_at, untaken, view_of}
+use Rattle.bd_thread.specs.Seen.{left_by, local, local_at, view_of}
 use Rattle.bd_thread.specs.Aborts.{Then}
 use Rattle.bd_thread.specs.Waits.{Idles, IsIdle}
-use Rattle.bd_thread.specs.Walking.{visit_change, visit_due, IsVisited, NoVisit, NoVisitBelow, NoVisitOf, StopsFor, Visits, VisitsBy}
+use Rattle.bd_thread.specs.Walking.{visit_change, visit_due, visit_prior, IsVisited, LastsAndStops, NoVisit, NoVisitBelow, NoVisitOf, Visits, VisitsBy}
 use Rattle.bd_thread.proofs.Going.{Hold, Steps, acted_step, local_eq, steps, still_shut}
-use Rattle.bd_thread.proofs.Idle.{for_grows, grown, more}
+use Rattle.bd_thread.proofs.Idle.{for_grows, graces_grows, grown, more}
 use Rattle.bd_thread.proofs.Tickets.{same_tickets}
 use Rattle.bd_thread.proofs.Timing.{untimed}
 
@@ -82,18 +83,22 @@ visit_may t links walk w due = go (walk_here (view_of t links) walk) refl due
 
 -- ---- what the visit changes
 
--- of what the thread sees, the marks go by the part and by its channel of the device
-pub marked_as : (setup : Setup) (t : ℕ) (v : View) (dev : DevId) (kind : WalkKind) → marked_by setup t (with_channel v.part (v.channels dev)) dev kind ≡ marked_by setup t v dev kind
-marked_as setup t v dev kinds.Freeze = refl
-marked_as setup t v dev kinds.Drain = refl
-marked_as setup t v dev kinds.Thaw = refl
-marked_as setup t v dev kinds.Removal = refl
+-- of what the thread sees, the marks go by the part, by its channel of the device and by the drain time that the walk brings
+pub marked_as : (setup : Setup) (t : ℕ) (v : View) (walk : WalkId) (w : OpenWalk) → walk_here v walk ≡ Some w
+    → marked_by setup t (with_channel v.part (v.channels w.dev) w.time) walk w.dev w.kind ≡ marked_by setup t v walk w.dev w.kind
+marked_as setup t v walk w here = go w.kind
+  where
+    go : (kind : WalkKind) → marked_by setup t (with_channel v.part (v.channels w.dev) w.time) walk w.dev kind ≡ marked_by setup t v walk w.dev kind
+    go kinds.Freeze = ap (λ (o : Option OpenWalk). cond (is_some (v.channels w.dev)) (remarked w.dev (freeze_set walk (time_of_walk o)) v.part) v.part) (sym here)
+    go kinds.Drain = refl
+    go kinds.Thaw = refl
+    go kinds.Removal = refl
 
 -- the walk goes on from the marks
 pub change_is : (t : Thread) (links : Links) (walk : WalkId) (w : OpenWalk)
     → walk_here (view_of t links) walk ≡ Some w
-    → visit_change t links walk w ≡ walked t.me walk (visited t.me w) (marked_by t.setup.now t.me (view_of t links) w.dev w.kind)
-change_is t links walk w here = ap (walked_if_any t.me walk (marked_by t.setup.now t.me (view_of t links) w.dev w.kind)) here
+    → visit_change t links walk w ≡ walked t.me walk (visited t.me w) (marked_by t.setup.now t.me (view_of t links) walk w.dev w.kind)
+change_is t links walk w here = ap (walked_if_any t.me walk (marked_by t.setup.now t.me (view_of t links) walk w.dev w.kind)) here
 
 -- ---- the visit
 
@@ -101,10 +106,10 @@ visit_steps : (setup : Setup) (t : ℕ) (part : Part) (here here' : Id → Optio
     → first_failing (guards_visit setup t (local_at t part here registry shut stamp queues).view walk w.dev w.kind) ≡ None
     → here' ≡ held_after (change_visit setup t (local_at t part here registry shut stamp queues).view walk w.dev w.kind).moves here
     → Steps setup t (local_at t part here registry shut stamp queues) (acts.Visit walk w.dev w.kind)
-    (local_at t (untaken (change_visit setup t (local_at t part here registry shut stamp queues).view walk w.dev w.kind).part) here' registry shut (stamp + 1) queues)
+    (local_at t (left_by (prior_by (local_at t part here registry shut stamp queues).view (acts.Visit walk w.dev w.kind)) (change_visit setup t (local_at t part here registry shut stamp queues).view walk w.dev w.kind).part) here' registry shut (stamp + 1) queues)
 visit_steps setup t part here here' registry shut stamp queues walk w passes held =
     let l : Local = local_at t part here registry shut stamp queues in
-    let l' : Local = local_at t (untaken (change_visit setup t l.view walk w.dev w.kind).part) here' registry shut (stamp + 1) queues in
+    let l' : Local = local_at t (left_by (prior_by l.view (acts.Visit walk w.dev w.kind)) (change_visit setup t l.view walk w.dev w.kind).part) here' registry shut (stamp + 1) queues in
     steps setup t l l' (acts.Visit walk w.dev w.kind) refl refl
     (hold_all (guards_visit setup t l.view walk w.dev w.kind) passes)
     (local_eq _ l' refl (sym held) refl refl refl (still_shut shut) refl refl)
@@ -117,7 +122,7 @@ pub visited_acted : (t : Thread) (before : Links) (new : Thread) (after : Links)
 visited_acted t before new after walk w due is =
     let may = visit_may t before walk w due in
     let act : Act = acts.Visit walk w.dev w.kind in
-    let p : Thread = record t { part = untaken (visit_change t before walk w).part; held = new.held; outbox = new.outbox } in
+    let p : Thread = record t { part = left_by (visit_prior t before walk w) (visit_change t before walk w).part; held = new.held; outbox = new.outbox } in
     let q : Links = record before { entries = longer t.me before.entries act } in
     let queues = queues_of before.queues.items in
     let stepped = visit_steps t.setup.now t.me t.part (here_in t.held.items) (here_in new.held.items) before.registry.state before.shut (length before.entries) queues walk w may.passes is.held in
@@ -139,11 +144,12 @@ visited_tickets t before new after walk w is keeps =
 
 -- a visit adds an entry
 visit_more : (walk : WalkId) (w : OpenWalk) (old : Thread) (before : Links) (new : Thread) (after : Links)
-    → Then (λ t links. IsVisited walk w old before t links) (λ t links. StopsFor w.kind w.dev t links new after)
+    → Then (λ t links. IsVisited walk w old before t links) (λ t links. LastsAndStops walk w t links new after)
     → length after.entries ≤ length before.entries
     → ⊥
 visit_more walk w old before new after h few =
-    more old.me before h.shared (acts.Visit walk w.dev w.kind) (ap (λ (l : Links). l.entries) h.first.links) (omega (arith, few, for_grows w.kind w.dev h.middle h.shared new after h.second))
+    more old.me before h.shared (acts.Visit walk w.dev w.kind) (ap (λ (l : Links). l.entries) h.first.links)
+    (omega (arith, few, graces_grows walk w.time h.middle h.shared h.second.middle h.second.shared h.second.first, for_grows w.kind w.dev h.second.middle h.second.shared new after h.second.second))
 
 pub visits_idle : (walk : WalkId) (old : Thread) (before : Links) (new : Thread) (after : Links) (made : Bool) → Visits walk old before new after made → Idles (NoVisitOf walk) old before new after
 visits_idle walk old before new after made h few = go (visit_due old before walk) refl h

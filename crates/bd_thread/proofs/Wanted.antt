@@ -9,6 +9,7 @@ use Rattle.bd_base.specs.declared.job.Job.TheVariants as jobs
 use Rattle.bd_machine.specs.declared.state.Between.TheVariants.{Closing}
 use Rattle.bd_machine.specs.declared.state.Handle.{Handle}
 use Rattle.bd_machine.specs.declared.state.Owed.{Owed}
+use Rattle.bd_machine.specs.declared.state.Owed.TheVariants as owes
 use Rattle.bd_machine.specs.Asked.{bound_to, is_handle_on, open_on, is_job_close}
 use Rattle.bd_machine.specs.Admission.{is_gone}
 use Rattle.bd_machine.specs.BlockMap.{row_of}
@@ -16,14 +17,15 @@ use Rattle.bd_machine.specs.Registry.{handle_of, is_live}
 use Rattle.bd_machine.specs.Same.{same_handle}
 use Rattle.bd_machine.specs.Users.{is_base_handle}
 use Rattle.bd_steps.specs.Asking.{asks_registry, is_base_if_any, is_live_at}
-use Rattle.bd_steps.specs.Duties.{duty_of, is_duty, removal_of}
+use Rattle.bd_steps.specs.Duties.{duty_of, growth_of, is_duty, is_growth, is_pending, removal_of}
 use Rattle.bd_touched.specs.Reach.{Touches}
 use Rattle.bd_thread.specs.Looking.{LooksAt}
 use Rattle.bd_thread.specs.declared.links.Links.{Links}
 use Rattle.bd_thread.specs.declared.thread.Thread.{Thread}
 use Rattle.bd_thread.specs.Duties.{NoDuty}
 use Rattle.bd_thread.specs.Endings.{left_on}
-use Rattle.bd_thread.specs.Lines.{claim_of, close_of, handle_if_any, if_asked, if_closable, job_now, may_ask, may_ask_after, may_close, open_of, remove_of}
+use Rattle.bd_thread.specs.Growing.{if_growable}
+use Rattle.bd_thread.specs.Lines.{change_of, claim_of, close_of, handle_if_any, if_asked, if_closable, job_now, may_ask, may_ask_after, may_close, open_of}
 use Rattle.bd_thread.specs.Seen.{view_of}
 use Rattle.bd_thread.specs.Waits.{IsWaiting, NoHandle, NoLine, NoRemoval}
 use Rattle.bd_thread.specs.Work.{has_calls, has_left, has_removal, is_left_at, is_some_left, wants_registry, IsWaitingAlone}
@@ -62,8 +64,39 @@ none_at is from (suc count) n h low high =
 
 -- ---- what it owes, and what is left
 
-no_duty : (t : Thread) (links : Links) → list_any is_duty t.part.owed ≡ false → NoDuty t links
-no_duty t links h = ap (λ (o : Option Owed). if_asked t links (duty_of t.setup.now o)) (none_found is_duty t.part.owed h)
+-- none passes, so none passes that has to
+none_so : {X : Type 0} (also is : X → Bool) → ((x : X) → also x ≡ false → is x ≡ false) → (xs : List X) → list_any also xs ≡ false → list_any is xs ≡ false
+none_so also is so [] h = refl
+none_so also is so (x ∷ xs) h =
+    let parts = neither (also x) (list_any also xs) h in
+    ap (λ b. b || list_any is xs) (so x parts.0) ∙ none_so also is so xs parts.1
+
+-- what isn't pending is neither done by an event nor a growth
+no_event : (owed : Owed) → is_pending owed ≡ false → is_duty owed ≡ false
+no_event (owes.Destruct dev) h = refl
+no_event (owes.Grow dev blocks) h = refl
+no_event (owes.Drop dev) h = h
+no_event (owes.Put dev) h = h
+no_event (owes.Close id) h = h
+no_event (owes.Remove dev) h = h
+no_event (owes.Report dev) h = h
+no_event (owes.EndResize dev) h = h
+
+no_growth : (owed : Owed) → is_pending owed ≡ false → is_growth owed ≡ false
+no_growth (owes.Destruct dev) h = refl
+no_growth (owes.Grow dev blocks) h = h
+no_growth (owes.Drop dev) h = refl
+no_growth (owes.Put dev) h = refl
+no_growth (owes.Close id) h = refl
+no_growth (owes.Remove dev) h = refl
+no_growth (owes.Report dev) h = refl
+no_growth (owes.EndResize dev) h = refl
+
+no_duty : (t : Thread) (links : Links) → list_any is_pending t.part.owed ≡ false → NoDuty t links
+no_duty t links h = record {
+  growth = ap (λ (o : Option Owed). if_growable t links (growth_of o)) (none_found is_growth t.part.owed (none_so is_pending is_growth no_growth t.part.owed h));
+  event = ap (λ (o : Option Owed). if_asked t links (duty_of t.setup.now o)) (none_found is_duty t.part.owed (none_so is_pending is_duty no_event t.part.owed h));
+}
 
 no_handle : (t : Thread) (links : Links) → has_left t links (length t.setup.now.devices) ≡ false → NoHandle t links
 no_handle t links h dev known less = go (length t.part.gone == 0) refl h
@@ -126,7 +159,7 @@ unasked : (t : Thread) (links : Links) (job : Option Job)
     → (if_asked t links (open_of job) ≡ None)
     × (if_closable t links (handle_if_any (view_of t links).handles (close_of t.part job)) ≡ None)
     × (if_asked t links (claim_of t.part job) ≡ None)
-    × (if_asked t links (remove_of job) ≡ None)
+    × (if_asked t links (change_of job) ≡ None)
 unasked t links None h = (refl, refl, refl, refl)
 unasked t links (Some (jobs.Open handle dev write)) h = true_false h
 unasked t links (Some (jobs.Close handle)) h = (refl, unclosed t links (bound_to t.part handle) h, refl, refl)
@@ -138,6 +171,8 @@ unasked t links (Some (jobs.Sleep time)) h = (refl, refl, refl, refl)
 unasked t links (Some (jobs.Post mark)) h = (refl, refl, refl, refl)
 unasked t links (Some (jobs.Await mark)) h = (refl, refl, refl, refl)
 unasked t links (Some (jobs.Gone handle)) h = (refl, refl, refl, refl)
+unasked t links (Some (jobs.Resize dev blocks)) h = true_false h
+unasked t links (Some (jobs.Sized handle blocks)) h = (refl, refl, refl, refl)
 
 -- ---- altogether
 
@@ -145,7 +180,7 @@ pub nothing_else_waits : (touched : Touches) (t : Thread) (links : Links) → Is
 nothing_else_waits touched t links alone unwanted =
     let count : ℕ = length t.setup.now.devices in
     let following : Bool = is_some links.registry.state.between in
-    let owing : Bool = list_any is_duty t.part.owed in
+    let owing : Bool = list_any is_pending t.part.owed in
     let asking : Bool = asks_registry t.setup.now t.part (job_now t links) in
     let one = neither (following || owing || has_calls t || asking) (is_some_left t links count) unwanted in
     let two = neither (following || owing || has_calls t) asking one.0 in
@@ -153,7 +188,7 @@ nothing_else_waits touched t links alone unwanted =
     let three = neither following owing noted.0 in
     let four = counted (nat_lt count (2 ^ 32)) one.1 in
     let asks = unasked t links (job_now t links) two.1 in
-    let line : NoLine t links = record { opening = asks.0; closing = asks.1; claiming = asks.2; removing = asks.3; submission = alone.line.submission; outcome = alone.line.outcome } in (
+    let line : NoLine t links = record { opening = asks.0; closing = asks.1; claiming = asks.2; changing = asks.3; submission = alone.line.submission; outcome = alone.line.outcome } in (
       line,
       record {
         message = alone.message;
@@ -161,6 +196,7 @@ nothing_else_waits touched t links alone unwanted =
         retry = alone.retry;
         duty = no_duty t links three.1;
         piece = alone.piece;
+        mark = alone.mark;
         limit = alone.limit;
         walk = alone.walk;
         line = line_waits t links line;

@@ -8,6 +8,7 @@ use Rattle.bd_thread.specs.declared.turn.Turned.TheVariants.{Moved, Quiet}
 use Rattle.bd_thread.specs.Acted.{Acted}
 use Rattle.bd_thread.specs.Calls.{Finds, NoneAsks}
 use Rattle.bd_touched.specs.Reach.{Touches}
+use Rattle.bd_thread.specs.Grace.{NoDue}
 use Rattle.bd_thread.specs.Limits.{NoLimit}
 use Rattle.bd_thread.specs.Looking.{LooksAt}
 use Rattle.bd_thread.specs.Moves.{turned_of}
@@ -23,6 +24,7 @@ pub record WaitsBut (Where : Thread → Type 0) (found : Option ReqId) (t : Thre
   pub refusal : NoRefusal t links
   pub retry : NoRetry t links
   pub piece : NoPiece t links
+  pub mark : NoDue t links
   pub limit : NoLimit t links
   pub walk : NoVisit t links
   pub line : NoLineAlone t links
@@ -75,7 +77,7 @@ work_idle {Where} found o a p1 l1 p2 l2 p3 l3 p4 l4 p5 l5 p6 l6 p7 l7 p8 l8 n c 
     let so7 : Idles (λ t links. NoMessage t links × NoRetry t links × NothingToServe t links × NoLineAlone t links × NoDestruct t links × NothingToSend t links × NothingToPost t links × StandsBut Where found t links) o a p8 l8 =
     idle_last o a p7 l7 p8 l8 both6 acted7 (λ so next. (so.0, so.1, so.2, so.3, so.4, so.5, so.6, next)) so6 request in
     idle_last o a p8 l8 n c (acted_then o a p7 l7 p8 l8 both6 acted7) acted8
-    (λ so next. record { message = so.0; retry = so.1; piece = so.2.piece; limit = so.2.limit; walk = so.2.walk; line = so.3; device = so.4; outbox = so.5; due = so.6; request = so.7.none; finds = so.7.finds; refusal = next }) so7 refusal
+    (λ so next. record { message = so.0; retry = so.1; piece = so.2.piece; mark = so.2.mark; limit = so.2.limit; walk = so.2.walk; line = so.3; device = so.4; outbox = so.5; due = so.6; request = so.7.none; finds = so.7.finds; refusal = next }) so7 refusal
 
 -- where that is noted, or something was before, it waits for all but what is noted
 waits_alone : {Where : Thread → Type 0} (found : Option ReqId) (t : Thread) (links : Links) (u : Thread) → (Where (record t { calls = u.calls; touched = u.touched }) → Where t) → u.calls.items ≡ calls_with found t.calls.items → WaitsBut Where found t links → IsWaitingAlone Where (record t { calls = u.calls; touched = u.touched }) links
@@ -84,6 +86,7 @@ waits_alone found t links u where_so noted w = record {
   refusal = w.refusal;
   retry = w.retry;
   piece = w.piece;
+  mark = w.mark;
   limit = λ i l at. record { head = (w.limit i l at).head; tick = (w.limit i l at).tick; pass = (w.limit i l at).pass };
   walk = w.walk;
   line = record { submission = w.line.submission; outcome = w.line.outcome };

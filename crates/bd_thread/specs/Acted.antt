@@ -7,6 +7,7 @@ use Rattle.bd_base.specs.declared.act.Entry.{Entry}
 use Rattle.bd_base.specs.declared.setup.Setup.{Setup}
 use Rattle.bd_machine.specs.BlockMap.{is_aio}
 use Rattle.bd_turns.specs.Local.{Leads}
+use Rattle.bd_law_held.specs.Held.{held_led, EndInTime}
 use Rattle.bd_thread.specs.declared.links.Links.{Links}
 use Rattle.bd_thread.specs.declared.thread.Thread.{Thread}
 use Rattle.bd_thread.specs.Seen.{local}
@@ -25,7 +26,7 @@ AreOf may setup entries = AllByRecursion (λ e. may setup e.act ≡ true) entrie
 
 -- ---- going on
 
--- the thread went on by such acts as the local rules let it, at its turn's moment, and the entries that it added say how
+-- the thread went on by such acts as the local rules let it, at its turn's moment, and the entries that it added say how; what it held, as it saw it, ends in time
 pub record ActedBy (may : Setup → Act → Bool) (old : Thread) (before : Links) (new : Thread) (after : Links) : Type 0 where
   pub me : new.me ≡ old.me
   pub setup : new.setup ≡ old.setup
@@ -36,6 +37,7 @@ pub record ActedBy (may : Setup → Act → Bool) (old : Thread) (before : Links
   pub acts : AreOf may old.setup.now entries
   pub leads : Leads old.setup.now old.me (local old before) entries (local new after)
   pub timely : AreTimely entries old new
+  pub held : EndInTime old.setup.now old.time.moment (held_led old.setup.now old.me (local old before) entries)
 
 -- by itself: no disk served a piece
 abbrev pub Acted : Thread → Links → Thread → Links → Type 0

@@ -6,8 +6,10 @@ pub mod Timely
 pub mod Acted
 pub mod Asleep
 pub mod Aborts
+pub mod Grace
 pub mod Walking
 pub mod Lines
+pub mod Growing
 pub mod Duties
 pub mod Served
 pub mod Requests
@@ -26,6 +28,7 @@ pub mod Endings
 pub mod Resting
 pub mod Waits
 pub mod Work
+pub mod Noted
 pub mod Disks
 pub mod Over
 pub mod Given

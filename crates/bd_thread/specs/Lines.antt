@@ -60,10 +60,11 @@ abbrev pub claim_of : Part → Option Job → Option RegEvent
 claim_of part (Some (jobs.Claim handle kind)) = claim_if_bound kind (bound_to part handle)
 claim_of part _ = None
 
--- the removal that a line names
-abbrev pub remove_of : Option Job → Option RegEvent
-remove_of (Some (jobs.Remove dev)) = Some (events.BeginRemove dev)
-remove_of _ = None
+-- the change of a device that a line names: that it is removed, or that it grows
+abbrev pub change_of : Option Job → Option RegEvent
+change_of (Some (jobs.Remove dev)) = Some (events.BeginRemove dev)
+change_of (Some (jobs.Resize dev blocks)) = Some (events.BeginResize dev blocks)
+change_of _ = None
 
 -- the number of the handle that a line closes, where its name is bound
 abbrev pub close_of : Part → Option Job → Option HandleId
@@ -86,9 +87,9 @@ if_asked t links (Some event) = cond (may_ask t links event) (Some event) None
 abbrev pub open_asked : Thread → Links → Option RegEvent
 open_asked t links = if_asked t links (open_of (job_now t links))
 
--- the removal that the next line asks for, where the thread may ask it
-abbrev pub remove_asked : Thread → Links → Option RegEvent
-remove_asked t links = if_asked t links (remove_of (job_now t links))
+-- the change of a device that the next line asks for, where the thread may ask it
+abbrev pub change_asked : Thread → Links → Option RegEvent
+change_asked t links = if_asked t links (change_of (job_now t links))
 
 -- the claim that the next line asks for, where the thread may ask it
 abbrev pub claim_asked : Thread → Links → Option RegEvent
@@ -123,6 +124,21 @@ change_by t links event answer = change_reg t.setup.now t.me (view_of t links) (
 -- the part of the thread after this answer to an event
 abbrev pub answered : Thread → Links → RegEvent → Answer → Part
 answered t links event answer = untaken (change_by t links event answer).part
+
+-- an event by which a device changes: it is removed or grows, or that ends
+abbrev pub is_of_device : RegEvent → Bool
+is_of_device (events.BeginRemove name) = true
+is_of_device (events.Destructed dev) = true
+is_of_device (events.BeginResize name blocks) = true
+is_of_device (events.EndResize dev) = true
+is_of_device _ = false
+
+-- an event of a reset
+abbrev pub is_of_reset : RegEvent → Bool
+is_of_reset (events.BeginReset dev req) = true
+is_of_reset (events.EndReset dev) = true
+is_of_reset (events.FinishReset dev) = true
+is_of_reset _ = false
 
 -- the stamp of an event: one above the entries' and the registry's
 abbrev pub event_stamp : Links → ℕ
@@ -191,8 +207,8 @@ Closes old before new after closed = ClosesBy old before new after closed (close
 abbrev pub Claims : Thread → Links → Thread → Links → Bool → Type 0
 Claims old before new after claimed = AsksBy old before new after claimed (claim_asked old before)
 
-abbrev pub Removes : Thread → Links → Thread → Links → Bool → Type 0
-Removes old before new after removed = AsksBy old before new after removed (remove_asked old before)
+abbrev pub ChangesDevice : Thread → Links → Thread → Links → Bool → Type 0
+ChangesDevice old before new after changed = AsksBy old before new after changed (change_asked old before)
 
 -- ---- a line's end
 

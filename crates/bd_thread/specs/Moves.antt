@@ -1,5 +1,5 @@
 -- The outcome of a turn, and of steps of it.
-use Rattle.std.specs.Prelude.{◌≡◌, ℕ, ◌-◌, ◌==◌, Bool, true, false, cond, List, [], ◌∷◌, ◌++◌, length, Option, Some, None, is_some}
+use Rattle.std.specs.Prelude.{◌≡◌, ℕ, ◌-◌, ◌==◌, Bool, true, false, cond, not, List, [], ◌∷◌, ◌++◌, length, Option, Some, None, is_some}
 use Rattle.bd_base.specs.declared.act.Act.TheVariants as acts
 use Rattle.bd_base.specs.declared.act.ApplyEnd.TheVariants as ends
 use Rattle.bd_base.specs.declared.act.Token.{Token}
@@ -20,11 +20,13 @@ use Rattle.bd_thread.specs.declared.thread.Thread.{Thread}
 use Rattle.bd_thread.specs.declared.turn.Turned.{Turned}
 use Rattle.bd_thread.specs.declared.turn.Turned.TheVariants.{Moved, Quiet}
 use Rattle.bd_tokens.specs.Tokens.{here_in}
+use Rattle.bd_thread.specs.Begins.{SetsOut}
 use Rattle.bd_thread.specs.Calls.{NotesResets}
 use Rattle.bd_thread.specs.Refusals.{MaySendBack}
 use Rattle.bd_thread.specs.Retries.{IsBack}
 use Rattle.bd_thread.specs.Sent.{may_send, Takes}
 use Rattle.bd_thread.specs.Served.{next_due}
+use Rattle.bd_thread.specs.Waits.{Idles, StandsOf}
 use Rattle.bd_thread.specs.Walking.{Visits}
 use Rattle.bd_thread.specs.Work.{AsksNothing}
 
@@ -80,9 +82,26 @@ abbrev pub ComesPiece : Option OpenPiece → ReqId → ℕ → Thread → Links 
 ComesPiece None req k old before new after = (new ≡ old) × (after ≡ before)
 ComesPiece (Some p) req k old before new after = ComesAs p.progress p.base req k old before new after
 
--- what a token that came brings about: of a request that it waits here, or goes on, which its next steps say; of a piece that it goes back or is back; a walk's visit; and news may have begun a reset, which is noted where it asks the registry
+-- it takes a step by itself, and adds an entry; or it can take none but one that asks the registry, and nothing changes
+pub record MayCarry (req : ReqId) (old : Thread) (before : Links) (new : Thread) (after : Links) : Type 0 where
+  pub asks : Bool
+  pub stands : Idles (StandsOf asks req) old before new after
+
+abbrev pub CarriesIf : Bool → ReqId → Thread → Links → Thread → Links → Type 0
+CarriesIf true req old before new after = MayCarry req old before new after
+CarriesIf false req old before new after = (new ≡ old) × (after ≡ before)
+
+-- a request that came is set out, where that is its next step; else it is carried on
+pub record ComesRequest (req : ReqId) (old : Thread) (before : Links) (new : Thread) (after : Links) : Type 0 where
+  pub middle : Thread
+  pub done : Bool
+  pub sets : SetsOut req old before middle before done
+  pub rest : CarriesIf (not done) req middle before new after
+  pub alone : AsksNothing before after
+
+-- what a token that came brings about: of a request that it is set out, or carried on; of a piece that it goes back or is back; a walk's visit; and news may have begun a reset, which is noted where it asks the registry
 abbrev pub Comes : Id → Thread → Links → Thread → Links → Type 0
-Comes (ids.Request req) old before new after = AsksNothing before after
+Comes (ids.Request req) old before new after = ComesRequest req old before new after
 Comes (ids.Piece req k) old before new after = ComesPiece (as_piece (here_in old.held.items (ids.Piece req k))) req k old before new after
 Comes (ids.Walk walk) old before new after = MayVisit walk old before new after
 Comes (ids.Notice sender receiver number) old before new after = NotesResets old new × (after ≡ before)

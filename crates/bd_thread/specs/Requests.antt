@@ -22,7 +22,7 @@ use Rattle.bd_machine.specs.Same.{same_request}
 use Rattle.bd_rule_effects.specs.Lone.{lone}
 use Rattle.bd_rule_view.specs.declared.names.Submission.{Submission}
 use Rattle.bd_links.specs.Entries.{longer}
-use Rattle.bd_tokens.specs.Tokens.{Sets}
+use Rattle.bd_tokens.specs.Tokens.{here_in, Sets}
 use Rattle.bd_thread.specs.declared.links.Links.{Links}
 use Rattle.bd_thread.specs.declared.requests.Refused.{Refused}
 use Rattle.bd_thread.specs.declared.requests.Refused.TheVariants as refusals
@@ -70,18 +70,24 @@ pub record IsFull (handle : HandleId) (asked : Submission) (old : Thread) (befor
   pub thread : new ≡ old
   pub links : after ≡ before
 
--- what a refusal leaves; after out of memory nothing is said
+-- out of memory: the tokens that are on the thread, its tickets, what it did and all else that threads have together are as they were
+pub record IsHeldAsBefore (old : Thread) (before : Links) (new : Thread) (after : Links) : Type 0 where
+  pub held : here_in new.held.items ≡ here_in old.held.items
+  pub tickets : new.purse.ids ≡ old.purse.ids
+  pub links : after ≡ before
+
+-- what a refusal leaves
 abbrev pub Refuses : Refused → HandleId → Submission → Thread → Links → Thread → Links → Type 0
 Refuses (refusals.Errno errno) handle asked old before new after = IsRefused errno (Some handle) asked old before new after
 Refuses refusals.Full handle asked old before new after = IsFull handle asked old before new after
-Refuses refusals.OutOfMemory handle asked old before new after = Unit {0}
+Refuses refusals.OutOfMemory handle asked old before new after = IsHeldAsBefore old before new after
 
 abbrev pub accept_act : ReqId → DevId → HandleId → Submission → Act
 accept_act req dev handle asked = acts.Accept dev asked.lba handle req asked.op asked.count
 
 -- a request that was accepted, and no more
-abbrev pub opened : DevId → HandleId → Submission → Kept
-opened dev handle asked = keeps.Request (new_request handle dev asked.op asked.lba asked.count)
+abbrev pub opened : Setup → Part → DevId → HandleId → Submission → Kept
+opened setup part dev handle asked = keeps.Request (new_request setup part handle dev asked.op asked.lba asked.count)
 
 -- the part with this request accepted
 abbrev pub accepted : Setup → ℕ → Part → ReqId → DevId → HandleId → Submission → Part
@@ -90,7 +96,7 @@ accepted setup me part req dev handle asked = untaken (change_accept setup me (l
 -- it was accepted by this id: the request is open and here, and the entry says so
 pub record IsOpened (req : ReqId) (dev : DevId) (handle : HandleId) (asked : Submission) (old : Thread) (before : Links) (new : Thread) (after : Links) : Type 0 where
   pub part : new.part ≡ accepted old.setup.now old.me old.part req dev handle asked
-  pub held : Sets old.held.items new.held.items (ids.Request req) (Some (opened dev handle asked))
+  pub held : Sets old.held.items new.held.items (ids.Request req) (Some (opened old.setup.now old.part dev handle asked))
   pub thread : new ≡ record old { part = new.part; held = new.held; purse = new.purse }
   pub links : after ≡ record before { entries = longer old.me before.entries (accept_act req dev handle asked) }
 

@@ -13,6 +13,7 @@ use Rattle.bd_machine.specs.declared.state.Open.{Open}
 use Rattle.bd_machine.specs.declared.state.OpenRequest.{OpenRequest}
 use Rattle.bd_machine.specs.Kept.{as_request, is_at_own}
 use Rattle.bd_machine.specs.Asked.{is_script_blocked}
+use Rattle.bd_machine.specs.Marks.{is_marked}
 use Rattle.bd_machine.specs.Walks.{is_reset}
 use Rattle.bd_turns.specs.declared.queue.Message.{Message}
 use Rattle.bd_steps.specs.Resetting.{reset_event}
@@ -20,7 +21,7 @@ use Rattle.bd_steps.specs.Resting.{is_done_with}
 use Rattle.bd_steps.specs.Resting.{is_settled as settles}
 use Rattle.bd_links.specs.Entries.{longer}
 use Rattle.bd_retries.specs.Channels.{is_idle}
-use Rattle.bd_tokens.specs.Pended.{are_own_pended, is_pended_at}
+use Rattle.bd_tokens.specs.Pended.{are_own_pended}
 use Rattle.bd_tokens.specs.Tokens.{here_in}
 use Rattle.bd_touched.specs.Rests.{rests as may_wait}
 use Rattle.bd_thread.specs.declared.links.Links.{Links}
@@ -32,14 +33,14 @@ use Rattle.bd_thread.specs.Seen.{view_of}
 abbrev pub is_settled : Thread → Links → HandleId → Bool
 is_settled t links id = settles t.setup.now (view_of t links) id
 
--- nothing is still to be sent, put or done, its last entry took no injection, of tokens there are only its own requests that are pended, and each handle whose remove event it took is closed, but for base handles
+-- nothing is still to be sent, put or done, its last entry asks for none directly after it, of tokens there are only its own requests that are pended, and each handle whose remove event it took is closed, but for base handles
 abbrev pub rests : Thread → Links → Bool
 rests t links =
-    (length t.outbox.items == 0) && (length t.part.due == 0) && (length t.part.owed == 0) && is_none t.part.injection && are_own_pended t.setup.now t.part t.me t.held.items && list_all (is_settled t links) t.part.gone
+    (length t.outbox.items == 0) && (length t.part.due == 0) && (length t.part.owed == 0) && is_none t.part.prior && are_own_pended t.setup.now t.part t.me t.held.items && list_all (is_settled t links) t.part.gone
 
--- no token is on the thread, nothing is still to be put or done, and its last entry took no injection
+-- no token is on the thread, nothing is still to be put or done, and its last entry asks for none directly after it
 abbrev pub is_done : Thread → Bool
-is_done t = (length t.held.items == 0) && (length t.part.due == 0) && (length t.part.owed == 0) && is_none t.part.injection
+is_done t = (length t.held.items == 0) && (length t.part.due == 0) && (length t.part.owed == 0) && is_none t.part.prior
 
 abbrev pub is_own : Thread → ReqId → Option OpenRequest → Bool
 is_own t req None = false
@@ -50,10 +51,15 @@ abbrev pub is_under_way : Thread → ReqId → Option OpenRequest → Bool
 is_under_way t req None = false
 is_under_way t req (Some r) = is_reset r.op && is_none (reset_event t.part req (Some r))
 
--- the open request is here on its own thread, isn't pended, and is no reset that is under way
+-- it is kept without an answer, wasn't aborted, and no mark stops it here: a soft one may yet
+abbrev pub is_kept : Thread → Option OpenRequest → Bool
+is_kept t None = false
+is_kept t (Some r) = r.pended && is_none r.aborted && not (is_marked t.setup.now t.part r)
+
+-- the open request is here on its own thread, isn't kept so, and is no reset that is under way
 abbrev pub is_moving : Thread → ReqId → Bool
 is_moving t req =
-    is_own t req (as_request (here_in t.held.items (ids.Request req))) && not (is_pended_at t.setup.now t.part (here_in t.held.items) req) && not (is_under_way t req (as_request (here_in t.held.items (ids.Request req))))
+    is_own t req (as_request (here_in t.held.items (ids.Request req))) && not (is_kept t (as_request (here_in t.held.items (ids.Request req)))) && not (is_under_way t req (as_request (here_in t.held.items (ids.Request req))))
 
 -- it is held, and its hold is one of these
 abbrev pub is_among : List HoldKey → ReqId → Hold → Bool
@@ -79,7 +85,7 @@ has_going t = cond t.touched.all (list_any (λ (o : Open). goes_on t o.id) t.par
 -- nothing is still to be put or done, no piece is in flight or waits to be sent again, and of the open requests that it has to look at each is held, pended, away at the home of a limited device, or a reset under way; all others rest (`EachRests`)
 abbrev pub rests_but_for_time : Thread → Links → Bool
 rests_but_for_time t links =
-    (length t.outbox.items == 0) && (length t.part.due == 0) && (length t.part.owed == 0) && is_none t.part.injection && list_all is_idle t.retries && (is_bare t || not (has_going t)) && list_all (is_settled t links) t.part.gone
+    (length t.outbox.items == 0) && (length t.part.due == 0) && (length t.part.owed == 0) && is_none t.part.prior && list_all is_idle t.retries && (is_bare t || not (has_going t)) && list_all (is_settled t links) t.part.gone
 
 -- it can do nothing until an act reaches it or its hold ends, or it doesn't go on
 abbrev pub is_at_rest : Thread → Open → Bool

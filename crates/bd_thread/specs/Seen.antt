@@ -5,6 +5,7 @@ use Rattle.bd_base.specs.declared.setup.Setup.{Setup}
 use Rattle.bd_machine.specs.declared.state.Id.{Id}
 use Rattle.bd_machine.specs.declared.state.Kept.{Kept}
 use Rattle.bd_machine.specs.declared.state.Part.{Part}
+use Rattle.bd_machine.specs.declared.state.Prior.{Prior}
 use Rattle.bd_machine.specs.declared.state.Registry.{Registry}
 use Rattle.bd_machine.specs.BlockMap.{size_of}
 use Rattle.bd_machine.specs.Registry.{references}
@@ -42,9 +43,13 @@ view_seen s = record {
   channels = references s.registry.now.state s.me;
 }
 
--- the part after an act that took nothing of an error device: what the act before took is let go
+-- the part after an act that is this to the next one
+abbrev pub left_by : Option Prior → Part → Part
+left_by prior part = record part { prior = prior }
+
+-- the part after an act that the next one needn't follow directly: what the act before left for it is let go
 abbrev pub untaken : Part → Part
-untaken part = record part { injection = None }
+untaken part = record part { prior = None }
 
 -- which thread it is, and of which setup, for the crates above
 abbrev pub number_of : Thread → ℕ

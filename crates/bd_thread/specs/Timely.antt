@@ -1,63 +1,27 @@
 -- The moments that acts name, until when they hold requests, and the timeslices that they tell, by a thread's time.
-use Rattle.std.specs.Prelude.{◌≡◌, ℕ, ◌+◌, ◌≤◌, true, false, max, min, List, [], ◌∷◌, sum_by, Option, Some, None, IfSome}
+use Rattle.std.specs.Prelude.{◌≡◌, ℕ, ◌+◌, ◌≤◌, true, false, List, [], ◌∷◌, Option, Some, None, IfSome}
 use Rattle.std.specs.List.{AllByRecursion}
 use Rattle.bd_base.specs.declared.act.Act.{Act}
 use Rattle.bd_base.specs.declared.act.Act.TheVariants as acts
 use Rattle.bd_base.specs.declared.act.Entry.{Entry}
-use Rattle.bd_base.specs.declared.device.DevRow.{DevRow}
-use Rattle.bd_base.specs.declared.device.Kind.{Kind}
-use Rattle.bd_base.specs.declared.device.Kind.TheVariants as kinds
 use Rattle.bd_base.specs.declared.id.DevId.{DevId}
-use Rattle.bd_base.specs.declared.request.Way.{Way}
-use Rattle.bd_base.specs.declared.request.Way.TheVariants.{Read, Write}
-use Rattle.bd_base.specs.declared.setup.Setup.{Setup}
 use Rattle.bd_machine.specs.declared.state.Limited.{Limited}
 use Rattle.bd_machine.specs.declared.state.Part.{Part}
-use Rattle.bd_machine.specs.BlockMap.{below, row_of}
-use Rattle.bd_machine.specs.Delays.{last_moment}
 use Rattle.bd_machine.specs.Limits.{limited_here}
 use Rattle.bd_machine.specs.Timeslices.{slices_of, Fits, FitsAct}
+use Rattle.bd_law_held.specs.Held.{held_by, EndInTime}
 use Rattle.bd_moment.specs.declared.time.Time.{Time}
+use Rattle.bd_tokens.specs.Tokens.{here_in}
 use Rattle.bd_thread.specs.declared.thread.Thread.{Thread}
 use Rattle.bd_thread.specs.Asleep.{begun_at}
 
--- the moment at which a request passes limits, timeslices are told, or a request is released, where the act is one of these
+-- the moment at which a request passes limits, timeslices are told, a request is released, or a soft mark becomes hard, where the act is one of these
 abbrev pub moment_named : Act → Option ℕ
 moment_named (acts.Let req dev now) = Some now
 moment_named (acts.Tick dev now slices) = Some now
 moment_named (acts.Release req now) = Some now
+moment_named (acts.Due walk now) = Some now
 moment_named _ = None
-
--- ---- holds
-
--- the moment until which a request is held, where the act is a Hold
-abbrev pub until_named : Act → Option ℕ
-until_named (acts.Hold req until) = Some until
-until_named _ = None
-
--- the most that a delay device holds a request of a direction: the average latency or the p99, whichever is greater; any other device holds none
-abbrev pub most_of_kind : Kind → Way → ℕ
-most_of_kind (kinds.Delay average_read p99_read average_write p99_write) Read = max average_read p99_read
-most_of_kind (kinds.Delay average_read p99_read average_write p99_write) Write = max average_write p99_write
-most_of_kind _ way = 0
-
-abbrev pub most_of_row : Option DevRow → Way → ℕ
-most_of_row None way = 0
-most_of_row (Some row) way = most_of_kind row.kind way
-
-abbrev pub most_at : Setup → Way → DevId → ℕ
-most_at setup way dev = most_of_row (row_of setup dev) way
-
--- the most that all delay devices below a device hold a request of a direction
-abbrev pub most_latency : Setup → DevId → Way → ℕ
-most_latency setup dev way = sum_by (most_at setup way) (below setup dev)
-
--- what is held from a moment on is held no longer than the delay devices below some device hold a request of some direction at most, and not beyond the
--- greatest moment that there is
-pub record EndsInTime (setup : Setup) (moment until : ℕ) : Type 0 where
-  pub dev : DevId
-  pub way : Way
-  pub by : until ≤ min (moment + most_latency setup dev way) last_moment
 
 -- ---- timeslices
 
@@ -85,14 +49,13 @@ KeepsTime old new = new ≡ record old { met = new.met }
 pub record IsTimely (act : Act) (old new : Thread) : Type 0 where
   pub time : KeepsTime old.time new.time
   pub named : IfSome (moment_named act) (λ moment. moment ≡ old.time.moment)
-  pub held : IfSome (until_named act) (EndsInTime old.setup.now old.time.moment)
+  pub held : EndInTime old.setup.now old.time.moment (held_by (here_in old.held.items) act)
   pub fits : (dev : DevId) → FitsAct dev old.time.start (slices_at old.part dev) act
 
 -- so it is with each of these entries, and the thread keeps how many timeslices they tell
 pub record AreTimely (entries : List Entry) (old new : Thread) : Type 0 where
   pub time : KeepsTime old.time new.time
   pub named : AllByRecursion (λ e. IfSome (moment_named e.act) (λ moment. moment ≡ old.time.moment)) entries
-  pub held : AllByRecursion (λ e. IfSome (until_named e.act) (EndsInTime old.setup.now old.time.moment)) entries
   pub fits : (dev : DevId) → Fits dev old.time.start (slices_at old.part dev) entries
   pub slices : (dev : DevId) → slices_at new.part dev ≡ slices_at old.part dev + slices_in dev entries
 
@@ -114,12 +77,11 @@ HadTurn now old new = HasSameTime (begun_at now old) new
 abbrev pub IsBetween : Time → ℕ → Type 0
 IsBetween time moment = (time.start ≤ moment) × (moment ≤ time.moment)
 
--- all that the thread did goes with its time: each moment that is named lies between that of its first turn and that of its last; each hold ends in time from
--- the last on; the timeslices that are told passed since the first; it keeps how many these are; and before any turn no moment is named
+-- all that the thread did goes with its time: each moment that is named lies between that of its first turn and that of its last; the timeslices that are told
+-- passed since the first; it keeps how many these are; and before any turn no moment is named
 pub record IsOnTime (t : Thread) (entries : List Entry) : Type 0 where
   pub order : t.time.start ≤ t.time.moment
   pub named : AllByRecursion (λ e. IfSome (moment_named e.act) (IsBetween t.time)) entries
-  pub held : AllByRecursion (λ e. IfSome (until_named e.act) (EndsInTime t.setup.now t.time.moment)) entries
   pub fits : (dev : DevId) → Fits dev t.time.start 0 entries
   pub slices : (dev : DevId) → slices_at t.part dev ≡ slices_in dev entries
   pub none : t.time.given ≡ false → AllByRecursion (λ e. moment_named e.act ≡ None) entries

@@ -30,9 +30,10 @@ use Rattle.bd_thread.specs.Destructs.{may_device_go}
 use Rattle.bd_thread.specs.Duties.{NoDuty}
 use Rattle.bd_thread.specs.Endings.{left_on, removal_due}
 use Rattle.bd_thread.specs.Calls.{asks_next, Finds, FindsAmong, FindsNamed, NoCall}
+use Rattle.bd_thread.specs.Grace.{NoDue}
 use Rattle.bd_thread.specs.Limits.{NoLimit, NoWayOut}
 use Rattle.bd_thread.specs.Looking.{LooksAt}
-use Rattle.bd_thread.specs.Lines.{claim_asked, close_asked, job_now, open_asked, outcome_now, remove_asked}
+use Rattle.bd_thread.specs.Lines.{change_asked, claim_asked, close_asked, job_now, open_asked, outcome_now}
 use Rattle.bd_thread.specs.Refusals.{refusal_now}
 use Rattle.bd_thread.specs.Retries.{may_retry}
 use Rattle.bd_thread.specs.Seen.{view_of}
@@ -70,9 +71,10 @@ NoPieceBelow n t links = (place : ℕ) → place < n → NoPieceAt place t links
 abbrev pub NoPiece : Thread → Links → Type 0
 NoPiece t links = (dev : DevId) → NoPieceOn dev t links
 
--- nor can anything be done for a line of a limited device, and no walk visits
+-- nor does a soft mark become hard, or can anything be done for a line of a limited device, and no walk visits
 pub record NothingToServe (t : Thread) (links : Links) : Type 0 where
   pub piece : NoPiece t links
+  pub mark : NoDue t links
   pub limit : NoLimit t links
   pub walk : NoVisit t links
 
@@ -161,12 +163,12 @@ IsFilled t links = most_requests ≤ length t.part.requests
 abbrev pub NoSubmission : Thread → Links → Type 0
 NoSubmission t links = is_submission (job_now t links) && nat_lt (length t.part.requests) most_requests ≡ false
 
--- no act can be made for the line: nothing can be opened, closed, claimed, removed or submitted, and it has no outcome
+-- no act can be made for the line: nothing can be opened, closed, claimed, removed, resized or submitted, and it has no outcome
 pub record NoLine (t : Thread) (links : Links) : Type 0 where
   pub opening : open_asked t links ≡ None
   pub closing : close_asked t links ≡ None
   pub claiming : claim_asked t links ≡ None
-  pub removing : remove_asked t links ≡ None
+  pub changing : change_asked t links ≡ None
   pub submission : NoSubmission t links
   pub outcome : outcome_now t links ≡ None
 
@@ -271,6 +273,7 @@ pub record IsWaiting (Where : Thread → Type 0) (t : Thread) (links : Links) : 
   pub retry : NoRetry t links
   pub duty : NoDuty t links
   pub piece : NoPiece t links
+  pub mark : NoDue t links
   pub limit : NoLimit t links
   pub walk : NoVisit t links
   pub line : is_line_waiting t links ≡ true

@@ -9,7 +9,7 @@ use Rattle.bd_machine.specs.Messages.{count_at}
 use Rattle.bd_machine.specs.Users.{dev_of}
 use Rattle.bd_law_logs.specs.Journals.{events}
 use Rattle.bd_steps.specs.Asking.{asks_registry, is_live_at}
-use Rattle.bd_steps.specs.Duties.{is_duty}
+use Rattle.bd_steps.specs.Duties.{is_pending}
 use Rattle.bd_thread.specs.declared.links.Links.{Links}
 use Rattle.bd_thread.specs.declared.thread.Thread.{Thread}
 use Rattle.bd_thread.specs.declared.turn.Turned.{Turned}
@@ -17,6 +17,7 @@ use Rattle.bd_thread.specs.declared.turn.Turned.TheVariants.{Moved, Quiet}
 use Rattle.bd_thread.specs.Acted.{is_own, ActedBy}
 use Rattle.bd_thread.specs.Endings.{left_on}
 use Rattle.bd_thread.specs.Calls.{NoneAsks}
+use Rattle.bd_thread.specs.Grace.{NoDue}
 use Rattle.bd_thread.specs.Limits.{NoLimit}
 use Rattle.bd_thread.specs.Lines.{job_now, outcome_now}
 use Rattle.bd_touched.specs.Reach.{Touches}
@@ -65,6 +66,7 @@ pub record IsWaitingAlone (Where : Thread → Type 0) (t : Thread) (links : Link
   pub refusal : NoRefusal t links
   pub retry : NoRetry t links
   pub piece : NoPiece t links
+  pub mark : NoDue t links
   pub limit : NoLimit t links
   pub walk : NoVisit t links
   pub line : NoLineAlone t links
@@ -99,10 +101,10 @@ has_removal t links count = links.shut && (t.me == 0) && list_any (is_live_at li
 abbrev pub is_some_left : Thread → Links → ℕ → Bool
 is_some_left t links count = cond (nat_lt count (2 ^ 32)) (has_left t links count || has_removal t links count) true
 
--- something has to follow at the registry, the thread owes what an event does, something is noted to be asked, its next line asks the registry, or something is left on the devices
+-- something has to follow at the registry, the thread owes what an event does or follows, something is noted to be asked, its next line asks the registry, or something is left on the devices
 abbrev pub wants_registry : Thread → Links → Bool
 wants_registry t links =
-    is_some links.registry.state.between || list_any is_duty t.part.owed || has_calls t || asks_registry t.setup.now t.part (job_now t links) || is_some_left t links (length t.setup.now.devices)
+    is_some links.registry.state.between || list_any is_pending t.part.owed || has_calls t || asks_registry t.setup.now t.part (job_now t links) || is_some_left t links (length t.setup.now.devices)
 
 -- where a thread waits but for what it would ask the registry, and doesn't want that, it waits altogether: for its next line nothing can be done either
 abbrev pub NothingElseWaits : Type 0

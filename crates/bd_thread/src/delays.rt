@@ -136,6 +136,7 @@ impl<'a> Thread<'a> {
         ensures acted { OnOk result (Acted self.old links.old self.new links.new) }
         ensures tickets { OnOk result (KeepsTickets self.old → KeepsTickets self.new) }
         ensures quiet { OnOk result (Idles (StandsStill req) self.old links.old self.new links.new) }
+        ensures noted { OnOk result (self.new.calls ≡ self.old.calls) }
         ensures alone { OnOk result (AsksNothing links.old links.new) }
     {
         if !self.is_own(req) {

@@ -8,7 +8,9 @@ ghost use Rattle.bd_registry.specs.State.{rows_of};
 ghost use Rattle.bd_thread.specs.Acted.{Acted};
 ghost use Rattle.bd_thread.specs.Calls.{NoCallOf, StandsAsked};
 ghost use Rattle.bd_thread.specs.Injections.{asked_of, decision_asked, pend_due, Decides, NoDecisionOf, Pends, TakesDecision};
+ghost use Rattle.bd_thread.specs.Limits.{head_of};
 ghost use Rattle.bd_thread.specs.Lines.{may_ask};
+ghost use Rattle.bd_thread.specs.Noted.{CallsAll, CallsFirst, CallsNoted, CallsRest};
 ghost use Rattle.bd_thread.specs.Requests.{KeepsTickets};
 ghost use Rattle.bd_thread.specs.Seen.{untaken, view_of};
 ghost use Rattle.bd_thread.specs.Waits.{Idles};
@@ -22,6 +24,7 @@ use bd_links::next_stamp;
 use bd_machine::{Id, Kept, OpenRequest};
 use bd_rule_faults::{asked_once_more, injected, pended, refused_pend};
 use bd_rule_requests::request_here;
+use std::collections::VecDeque;
 
 // How many devices stand over each other at most, so how many error devices decide on a request.
 const LAYERS: u32 = 64;
@@ -31,6 +34,16 @@ fn asked_of(req: ReqId, dev: DevId, r: OpenRequest) -> RegEvent
     ensures { result ≡ asked_of req dev r }
 {
     RegEvent::TakeInjection { dev, req, op: r.op }
+}
+
+// The first of these requests.
+fn first_of(calls: &VecDeque<ReqId>) -> Option<ReqId>
+    ensures { result ≡ head_of calls.now.items }
+{
+    match calls.front() {
+        Some(req) => Some(*req),
+        None => None,
+    }
 }
 
 impl<'a> Thread<'a> {
@@ -181,6 +194,7 @@ impl<'a> Thread<'a> {
         ensures acted { OnOk result (Acted self.old links.old self.new links.new) }
         ensures tickets { OnOk result (KeepsTickets self.old → KeepsTickets self.new) }
         ensures quiet { OnOk result (Idles (NoDecisionOf req) self.old links.old self.new links.new) }
+        ensures noted { OnOk result (self.new.calls ≡ self.old.calls) }
     {
         for _round in 0..LAYERS {
             if !self.decide(links, req)? {
@@ -197,6 +211,7 @@ impl<'a> Thread<'a> {
         ensures acted { OnOk result (Acted self.old links.old self.new links.new) }
         ensures tickets { OnOk result (KeepsTickets self.old → KeepsTickets self.new) }
         ensures quiet { OnOk result (Idles (NoCallOf req) self.old links.old self.new links.new) }
+        ensures noted { OnOk result (self.new.calls ≡ self.old.calls) }
     {
         self.decide_all(links, req)?;
         self.reset(links, req)?;
@@ -210,6 +225,7 @@ impl<'a> Thread<'a> {
         requires rows { links.old.registry.setup ≡ rows_of self.old.setup.now }
         ensures acted { OnOk result (Acted self.old links.old self.new links.new) }
         ensures tickets { OnOk result (KeepsTickets self.old → KeepsTickets self.new) }
+        ensures calls { OnOk result (CallsAll self.old links.old self.new links.new) }
     {
         for _round in 0..self.calls.len() {
             let Some(req) = self.calls.pop_front() else {
@@ -228,11 +244,12 @@ impl<'a> Thread<'a> {
         ensures acted { OnOk result (Acted self.old links.old self.new links.new) }
         ensures tickets { OnOk result (KeepsTickets self.old → KeepsTickets self.new) }
         ensures quiet { OnOk result (Idles (StandsAsked None) self.old links.old self.new links.new) }
+        ensures first { OnOk result (CallsFirst entries self.old links.old self.new links.new) }
     {
         if entries != links.entries.len() {
             return Ok(());
         }
-        let Some(req) = self.calls.front().copied() else {
+        let Some(req) = first_of(&self.calls) else {
             return Ok(());
         };
         self.call(links, req)?;
@@ -246,6 +263,7 @@ impl<'a> Thread<'a> {
         ensures acted { OnOk result (Acted self.old links.old self.new links.new) }
         ensures tickets { OnOk result (KeepsTickets self.old → KeepsTickets self.new) }
         ensures quiet { OnOk result (entries ≡ length links.old.entries → Idles (StandsAsked None) self.old links.old self.new links.new) }
+        ensures rest { OnOk result (CallsRest entries self.old links.old self.new links.new) }
     {
         if entries != links.entries.len() {
             self.call_all(links)?;
@@ -265,6 +283,7 @@ impl<'a> Thread<'a> {
         ensures acted { OnOk result (Acted self.old links.old self.new links.new) }
         ensures tickets { OnOk result (KeepsTickets self.old → KeepsTickets self.new) }
         ensures quiet { OnOk result (entries ≡ length links.old.entries → Idles (StandsAsked None) self.old links.old self.new links.new) }
+        ensures noted { OnOk result (CallsNoted entries self.old links.old self.new links.new) }
     {
         self.call_first(links, entries)?;
         self.call_rest(links, entries)?;

@@ -6,6 +6,7 @@ mod delays;
 mod disks;
 mod duties;
 mod ending;
+mod grace;
 mod homes;
 mod injections;
 pub mod law;

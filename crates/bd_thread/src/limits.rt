@@ -3,7 +3,9 @@
 ghost use Rattle.std.specs.Prelude.{◌≡◌, ◌<◌, true, is_some, vec_len, IfOk, IfSome, OnOk};
 ghost use Rattle.bd_thread.specs.Aborts.{abort_due};
 ghost use Rattle.bd_thread.specs.Acted.{Acted};
+ghost use Rattle.bd_thread.specs.Begins.{SetsOut};
 ghost use Rattle.bd_thread.specs.Limits.{head_of, head_stop, let_due, line_at, tick_due, with_id, Lets, NoLimit, NoLimitAt, NoLimitOn, NoMarkedHead, NoWayOut, Ticks};
+ghost use Rattle.bd_thread.specs.Moves.{ComesRequest};
 ghost use Rattle.bd_thread.specs.Requests.{KeepsTickets};
 ghost use Rattle.bd_thread.specs.Waits.{Idles, Progresses};
 ghost use Rattle.bd_thread.specs.Work.{AsksNothing};
@@ -224,7 +226,7 @@ impl<'a> Thread<'a> {
     /// it next, where that is its next step; and it is noted, where that is the decision of an error device. Whether it
     /// was one of these.
     pub(crate) fn set_out(&mut self, links: &Links, req: ReqId) -> Result<bool, OutOfMemory>
-        ensures { OnOk result (self.new ≡ record self.old { outbox = self.new.outbox; calls = self.new.calls }) }
+        ensures { IfOk result (SetsOut req self.old links.now self.new links.now) }
     {
         match next_step(&self.seen(links), self.setup, self.me, req) {
             Step::Limit(dev) => {
@@ -252,6 +254,7 @@ impl<'a> Thread<'a> {
         ensures acted { OnOk result (Acted self.old links.old self.new links.new) }
         ensures tickets { OnOk result (KeepsTickets self.old → KeepsTickets self.new) }
         ensures quiet { OnOk result (Idles (NoWayOut req step) self.old links.old self.new links.new) }
+        ensures noted { OnOk result (self.new.calls ≡ self.old.calls) }
         ensures alone { OnOk result (AsksNothing links.old links.new) }
     {
         let Step::Limit(dev) = step else {
@@ -275,7 +278,7 @@ impl<'a> Thread<'a> {
         requires { self.old.me < vec_len links.old.queues }
         ensures acted { OnOk result (Acted self.old links.old self.new links.new) }
         ensures tickets { OnOk result (KeepsTickets self.old → KeepsTickets self.new) }
-        ensures alone { OnOk result (AsksNothing links.old links.new) }
+        ensures came { OnOk result (ComesRequest req self.old links.old self.new links.new) }
     {
         let is_set_out = self.set_out(links, req)?;
         if is_set_out {

@@ -1,15 +1,16 @@
-//! The lines of a thread's script: opens with their channels, closes with their puts, claims, removals,
-//! and each line's end.
+//! The lines of a thread's script: opens with their channels, closes with their puts, claims, removals and resizes of
+//! devices, and each line's end.
 ghost use Rattle.std.specs.Prelude.{◌≡◌, ◌<◌, true, vec_len, IfOk, IfSome, OnOk};
+ghost use Rattle.std.specs.Option.{option_copied};
 ghost use Rattle.bd_rule_effects.specs.Begun.{with_walk};
 ghost use Rattle.bd_machine.specs.Events.{change_reg};
 ghost use Rattle.bd_steps.specs.Resetting.{is_asked_alone};
-ghost use Rattle.bd_machine.specs.View.{View};
+ghost use Rattle.bd_machine.specs.View.{Came, View};
 ghost use Rattle.bd_registry.specs.State.{rows_of};
 ghost use Rattle.bd_rule_view.specs.Came.{came_shut};
 ghost use Rattle.bd_steps.specs.Following.{close_due};
 ghost use Rattle.bd_thread.specs.Acted.{Acted};
-ghost use Rattle.bd_thread.specs.Lines.{close_asked, made_by, may_ask, may_ask_after, may_close, Claims, Closes, EndsLine, Follows, IsAnswered, IsFollowed, Opens, Removes};
+ghost use Rattle.bd_thread.specs.Lines.{change_of, close_asked, is_of_device, is_of_reset, made_by, may_ask, may_ask_after, may_close, ChangesDevice, Claims, Closes, EndsLine, Follows, IsAnswered, IsFollowed, Opens};
 ghost use Rattle.bd_thread.specs.Requests.{KeepsTickets};
 ghost use Rattle.bd_base.specs.declared.event.RegEvent.TheVariants as events;
 
@@ -19,10 +20,26 @@ use bd_base::{Act, Answer, Boxed, DevId, Job, OutOfMemory, RegEvent, WalkId};
 use bd_links::next_stamp;
 use bd_machine::{Between, Handle, OpenWalk};
 use bd_rule_effects::{closed, decide, line_done};
-use bd_rule_events::{dropped, freed, got, put_down, reset_begun, reset_finishes, reset_thaws};
+use bd_rule_events::{
+    dropped, freed, got, put_down, reset_begun, reset_finishes, reset_thaws, resized, resizing,
+};
 use bd_rule_script::{asks_event, bound_to, next_line, outcome_of, undecided_job};
 use bd_rule_view::{Records, Sees};
 use bd_steps::{begin_walk, close_due, get_due, made_by, removal_answered};
+
+// The event by which a line changes a device: that it is removed, or that it grows.
+fn change_of(job: Option<&Job>) -> Result<Option<RegEvent>, OutOfMemory>
+    ensures { IfOk result (λ event. event ≡ change_of (option_copied job.entry)) }
+{
+    match job {
+        Some(Job::Remove { dev }) => Ok(Some(RegEvent::BeginRemove { name: dev.copy()? })),
+        Some(Job::Resize { dev, blocks }) => Ok(Some(RegEvent::BeginResize {
+            name: dev.copy()?,
+            blocks: *blocks,
+        })),
+        _ => Ok(None),
+    }
+}
 
 impl<'a> Thread<'a> {
     /// Ends the next line, where it goes on: true, and the line after it is met in this turn. Else, as while it
@@ -86,6 +103,64 @@ impl<'a> Thread<'a> {
         )
     }
 
+    // The part is as this answer to an event of a reset leaves it; the walk that begins by it, if one does.
+    fn reset_answered(
+        &mut self,
+        event: &RegEvent,
+        answer: &Answer,
+    ) -> Result<Option<(WalkId, OpenWalk)>, OutOfMemory>
+        requires { is_of_reset event.now ≡ true }
+        ensures thread { OnOk result (self.new ≡ record self.old { part = self.new.part }) }
+        ensures change { IfOk result (λ walk. (v : View) → (came : Came) → v.part ≡ self.old.part
+            → with_walk self.new.part walk ≡ change_reg self.old.setup.now self.old.me v came event.now answer.now) }
+    {
+        let me = self.me;
+        match event {
+            RegEvent::BeginReset { dev, req } => {
+                reset_begun(&mut self.part, me, *dev, *req, answer)
+            }
+            RegEvent::EndReset { dev } => reset_thaws(&mut self.part, me, *dev, answer),
+            RegEvent::FinishReset { dev } => {
+                reset_finishes(&mut self.part, *dev, answer)?;
+                Ok(None)
+            }
+            _ => unreachable!(),
+        }
+    }
+
+    // The part is as this answer to an event that changes a device leaves it; the walk that begins by it, if one does.
+    fn device_answered(
+        &mut self,
+        shut: bool,
+        event: &RegEvent,
+        answer: &Answer,
+    ) -> Result<Option<(WalkId, OpenWalk)>, OutOfMemory>
+        requires { is_of_device event.now ≡ true }
+        ensures thread { OnOk result (self.new ≡ record self.old { part = self.new.part }) }
+        ensures change { IfOk result (λ walk. (v : View) → v.part ≡ self.old.part
+            → with_walk self.new.part walk ≡ change_reg self.old.setup.now self.old.me v (came_shut shut) event.now answer.now) }
+    {
+        let setup = self.setup;
+        match event {
+            RegEvent::BeginRemove { name } => {
+                removal_answered(&mut self.part, setup, self.me, shut, name, answer)
+            }
+            RegEvent::Destructed { dev } => {
+                freed(&mut self.part, *dev, answer)?;
+                Ok(None)
+            }
+            RegEvent::BeginResize { blocks, .. } => {
+                resizing(&mut self.part, shut, *blocks, answer)?;
+                Ok(None)
+            }
+            RegEvent::EndResize { dev } => {
+                resized(&mut self.part, setup, *dev, answer)?;
+                Ok(None)
+            }
+            _ => unreachable!(),
+        }
+    }
+
     // The part is as this answer to an event leaves it, which makes these channels where it is a get; the
     // walk that begins by it, if one does.
     fn answered(
@@ -126,21 +201,13 @@ impl<'a> Thread<'a> {
                 dropped(&mut self.part, setup, me, *dev, answer)?;
                 Ok(None)
             }
-            RegEvent::BeginRemove { name } => {
-                removal_answered(&mut self.part, setup, me, shut, name, answer)
-            }
-            RegEvent::BeginReset { dev, req } => {
-                reset_begun(&mut self.part, me, *dev, *req, answer)
-            }
-            RegEvent::EndReset { dev } => reset_thaws(&mut self.part, me, *dev, answer),
-            RegEvent::FinishReset { dev } => {
-                reset_finishes(&mut self.part, *dev, answer)?;
-                Ok(None)
-            }
-            RegEvent::Destructed { dev } => {
-                freed(&mut self.part, *dev, answer)?;
-                Ok(None)
-            }
+            RegEvent::BeginReset { .. }
+            | RegEvent::EndReset { .. }
+            | RegEvent::FinishReset { .. } => self.reset_answered(event, answer),
+            RegEvent::BeginRemove { .. }
+            | RegEvent::Destructed { .. }
+            | RegEvent::BeginResize { .. }
+            | RegEvent::EndResize { .. } => self.device_answered(shut, event, answer),
             RegEvent::TakeInjection { .. } => unreachable!(),
         }
     }
@@ -317,23 +384,23 @@ impl<'a> Thread<'a> {
         Ok(true)
     }
 
-    /// Removes the device that the next line names, where it asks for that and the rules let it: true, and
-    /// the registry's answer decides the line; where it was granted, each handle's thread is to be told,
-    /// and a walk over the threads that have a channel begins. Else, or after Shutdown, nothing changes.
-    pub(crate) fn remove(&mut self, links: &mut Links) -> Result<bool, OutOfMemory>
+    /// Asks for the change of a device that the next line names, where it names one and the rules let it: that the
+    /// device is removed, or that it grows. True, and the registry's answer decides the line; where a removal was
+    /// granted, each handle's thread is to be told, and a walk over the threads that have a channel begins; where a
+    /// resize was, the device's home is to be told. Else, or after Shutdown, nothing changes.
+    pub(crate) fn change_device(&mut self, links: &mut Links) -> Result<bool, OutOfMemory>
         requires me { self.old.me < vec_len links.old.queues }
         requires rows { links.old.registry.setup ≡ rows_of self.old.setup.now }
         ensures acted { OnOk result (Acted self.old links.old self.new links.new) }
         ensures tickets { OnOk result (KeepsTickets self.old → KeepsTickets self.new) }
-        ensures removed { IfOk result (Removes self.old links.old self.new links.new) }
+        ensures changed { IfOk result (ChangesDevice self.old links.old self.new links.new) }
     {
         if links.shut {
             return Ok(false);
         }
-        let Some(Job::Remove { dev }) = undecided_job(self.setup, self.me, &self.part) else {
+        let Some(event) = change_of(undecided_job(self.setup, self.me, &self.part))? else {
             return Ok(false);
         };
-        let event = RegEvent::BeginRemove { name: dev.copy()? };
         if !self.may_ask(links, &event) {
             return Ok(false);
         }

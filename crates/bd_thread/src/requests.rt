@@ -1,5 +1,5 @@
 //! A thread's own requests: submitted, cut and completed.
-ghost use Rattle.std.specs.Prelude.{◌≡◌, ◌<◌, length, vec_len, Some, None, IfOk, IfErr, OnOk, true, false};
+ghost use Rattle.std.specs.Prelude.{◌≡◌, ◌<◌, length, vec_len, Some, None, IfOk, IfErr, OnErr, OnOk, true, false};
 ghost use Rattle.bd_machine.specs.Asked.{is_handle_on};
 ghost use Rattle.bd_machine.specs.Kept.{request_here};
 ghost use Rattle.bd_machine.specs.Registry.{handle_of};
@@ -8,7 +8,7 @@ ghost use Rattle.bd_thread.specs.Acted.{Acted};
 ghost use Rattle.bd_steps.specs.Completions.{ending_of, Shows};
 ghost use Rattle.bd_thread.specs.Completions.{Completes, IsCompleted};
 ghost use Rattle.bd_thread.specs.Cuts.{Cuts, IsCut};
-ghost use Rattle.bd_thread.specs.Requests.{refusal, IsAccepted, IsAsked, IsFresh, IsOpened, IsRefused, KeepsTickets, Refuses};
+ghost use Rattle.bd_thread.specs.Requests.{refusal, IsAccepted, IsAsked, IsFresh, IsHeldAsBefore, IsOpened, IsRefused, KeepsTickets, Refuses};
 ghost use Rattle.bd_thread.specs.Seen.{number_of, view_of};
 
 use crate::links::Links;
@@ -37,7 +37,8 @@ pub enum Refused {
     Errno(Errno),
     /// As many requests are open as a thread may have. Nothing changed.
     Full,
-    /// Memory ran out, and the run halts: nothing is said of the thread from then on.
+    /// Memory ran out, and the run halts: the tokens that are on the thread, its tickets and its
+    /// entries are as they were, and of its part nothing is said.
     OutOfMemory,
 }
 
@@ -78,7 +79,8 @@ impl<'a> Thread<'a> {
         requires me { self.old.me < vec_len links.old.queues }
         requires asked { IsAsked self.old links.old handle asked }
         requires due { refusal self.old links.old handle asked ≡ Some errno }
-        ensures { OnOk result (IsRefused errno handle asked self.old links.old self.new links.new) }
+        ensures ok { OnOk result (IsRefused errno handle asked self.old links.old self.new links.new) }
+        ensures err { OnErr result (IsHeldAsBefore self.old links.old self.new links.new) }
     {
         let Submission { op, lba, count } = asked;
         self.part.decided = Some(Decided::Refused(errno));
@@ -127,7 +129,7 @@ impl<'a> Thread<'a> {
         }
     }
 
-    // Opens a request, with a place for its ticket.
+    // Opens a request, with a place for its ticket. The memory for its token is taken before its entry.
     fn open_request(
         &mut self,
         links: &mut Links,
@@ -140,10 +142,11 @@ impl<'a> Thread<'a> {
         ensures opened { OnOk result (IsOpened req dev handle asked self.old links.old self.new links.new) }
         ensures tickets { OnOk result (self.new.purse.ids ≡ self.old.purse.ids) }
         ensures room { OnOk result (length self.old.purse.ids < self.new.purse.capacity) }
+        ensures err { OnErr result (IsHeldAsBefore self.old links.old self.new links.new) }
     {
         self.purse.reserve(1)?;
-        let kept = Kept::Request(new_request(handle, dev, asked));
-        self.held.hold(Id::Request(req), kept)?;
+        self.held.reserve(1)?;
+        let kept = Kept::Request(new_request(self.setup, &self.part, handle, dev, asked));
         let Submission { op, lba, count } = asked;
         let request = Open {
             id: req,
@@ -164,6 +167,8 @@ impl<'a> Thread<'a> {
                 count,
             },
         )?;
+        // there is room for it since it was reserved
+        self.held.hold(Id::Request(req), kept)?;
         Ok(())
     }
 
@@ -215,12 +220,14 @@ impl<'a> Thread<'a> {
     /// is aborted where an abort reached it, and succeeds where every piece was served. Its pieces that wait unsent,
     /// where it doesn't succeed, are no longer to be put, nor to be sent again. A read that succeeds shows the first 8
     /// bytes and the digest of its data, and completes only where there are as many; of data that isn't told, what its
-    /// disk gave. Its ticket is spent. Else the answer is false, and nothing changed.
+    /// disk gave. Its ticket is spent. Else the answer is false, and nothing changed. Out of memory, the
+    /// tokens that are on the thread, its tickets and its entries are as they were.
     pub fn complete(&mut self, links: &mut Links, req: ReqId) -> Result<bool, OutOfMemory>
         requires me { number_of self.old < vec_len links.old.queues }
         ensures acted { OnOk result (Acted self.old links.old self.new links.new) }
         ensures completes { IfOk result (Completes req self.old links.old self.new links.new) }
         ensures tickets { OnOk result (KeepsTickets self.old → KeepsTickets self.new) }
+        ensures err { OnErr result (IsHeldAsBefore self.old links.old self.new links.new) }
     {
         let Some(ending) = ending_of(self.alloc, &self.seen(links), self.setup, self.me, req)?
         else {
@@ -231,7 +238,7 @@ impl<'a> Thread<'a> {
         Ok(true)
     }
 
-    // The request completes so, and shows this.
+    // The request completes so, and shows this. Its entry, which alone takes memory, comes first.
     fn end(
         &mut self,
         links: &mut Links,
@@ -244,12 +251,14 @@ impl<'a> Thread<'a> {
         ensures acted { OnOk result (Acted self.old links.old self.new links.new) }
         ensures completed { OnOk result (IsCompleted req ending self.old links.old self.new links.new) }
         ensures tickets { OnOk result (KeepsTickets self.old → KeepsTickets self.new) }
+        ensures err { OnErr result (IsHeldAsBefore self.old links.old self.new links.new) }
     {
         let Ending {
             pieces,
             status,
             showing: _,
         } = ending;
+        self.note(links, Act::Complete { req, status, shown })?;
         drop_left(
             &mut self.outbox,
             &mut self.retries,
@@ -261,7 +270,6 @@ impl<'a> Thread<'a> {
         drop_request(&mut self.held, req, pieces);
         completed(self.alloc, &mut self.part, req);
         spend(&mut self.purse, req, status);
-        self.note(links, Act::Complete { req, status, shown })?;
         Ok(())
     }
 }

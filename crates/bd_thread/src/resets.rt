@@ -70,6 +70,7 @@ impl<'a> Thread<'a> {
         ensures acted { OnOk result (Acted self.old links.old self.new links.new) }
         ensures tickets { OnOk result (KeepsTickets self.old → KeepsTickets self.new) }
         ensures quiet { OnOk result (Idles (NoResetOf req) self.old links.old self.new links.new) }
+        ensures noted { OnOk result (self.new.calls ≡ self.old.calls) }
     {
         for _round in 0..EVENTS {
             if !self.ask_reset(links, req)? {

@@ -7,14 +7,14 @@ ghost use Rattle.bd_machine.specs.Kept.{as_request};
 ghost use Rattle.bd_machine.specs.Walks.{is_reset};
 ghost use Rattle.bd_steps.specs.Resetting.{reset_event};
 ghost use Rattle.bd_tokens.specs.Tokens.{here_in};
-ghost use Rattle.bd_thread.specs.Resting.{goes_on, has_destructed_all, has_going, is_among, is_blocked, is_done, is_held, is_line_empty, is_moving, is_own, limited_for, rests, rests_but_for_time};
+ghost use Rattle.bd_thread.specs.Resting.{goes_on, has_destructed_all, has_going, is_among, is_blocked, is_done, is_held, is_kept, is_line_empty, is_moving, is_own, limited_for, rests, rests_but_for_time};
 
 use crate::links::Links;
 use crate::thread::Thread;
 use bd_base::ReqId;
 use bd_held::Held;
 use bd_machine::{Hold, Id, Kept, Limited, OpenRequest, Part};
-use bd_rule_requests::{is_at_own, is_reset};
+use bd_rule_requests::{is_at_own, is_marked, is_reset};
 use bd_rule_script::is_script_blocked;
 use bd_steps::{are_done_with, are_settled, reset_event};
 
@@ -52,27 +52,27 @@ fn is_among(holds: &Held, req: ReqId, hold: Hold) -> bool
 impl<'a> Thread<'a> {
     /// Whether nothing goes on by itself here, but by its script: of tokens there are only its own requests that are
     /// kept without an answer, and that nothing stops; nothing is still to be sent, put or done, each handle whose
-    /// remove event it took is closed (but for base handles), and its last entry took no injection.
+    /// remove event it took is closed (but for base handles), and its last entry asks for none directly after it.
     pub fn rests(&self, links: &Links) -> bool
         ensures { result ≡ rests self.now links.now }
     {
         self.outbox.len() == 0
             && self.part.due.len() == 0
             && self.part.owed.len() == 0
-            && self.part.injection.is_none()
+            && self.part.prior.is_none()
             && self.held.are_all_pended(self.setup, &self.part, self.me)
             && are_settled(&self.seen(links), self.setup)
     }
 
     /// Whether nothing is left: no token is on the thread, not even a request without an answer, nothing is still to be
-    /// put or done, and its last entry took no injection.
+    /// put or done, and its last entry asks for none directly after it.
     pub fn is_done(&self) -> bool
         ensures { result ≡ is_done self.now }
     {
         self.held.len() == 0
             && self.part.due.len() == 0
             && self.part.owed.len() == 0
-            && self.part.injection.is_none()
+            && self.part.prior.is_none()
     }
 
     /// Whether the request is here on its own thread, and in no line of a limited device.
@@ -85,6 +85,13 @@ impl<'a> Thread<'a> {
         }
     }
 
+    // Whether the request is kept without an answer, wasn't aborted, and no mark stops it here: a soft one may yet.
+    fn is_kept(&self, r: &OpenRequest) -> bool
+        ensures { result ≡ is_kept self.now (Some r.now) }
+    {
+        r.pended && r.aborted.is_none() && !is_marked(self.setup, &self.part, r)
+    }
+
     // Whether the request is here on its own thread, isn't kept without an answer, and is no reset under way.
     fn is_moving(&self, req: ReqId) -> bool
         ensures { result ≡ is_moving self.now req }
@@ -95,7 +102,7 @@ impl<'a> Thread<'a> {
         if !is_at_own(self.me, req, *r) || is_under_way(&self.part, req, *r) {
             return false;
         }
-        !r.pended || !self.held.is_pended(self.setup, &self.part, req)
+        !self.is_kept(r)
     }
 
     // Whether the request is here, and the thread holds it.
@@ -150,7 +157,7 @@ impl<'a> Thread<'a> {
         self.outbox.len() == 0
             && self.part.due.len() == 0
             && self.part.owed.len() == 0
-            && self.part.injection.is_none()
+            && self.part.prior.is_none()
             && self.retries.are_idle()
             && (self.is_bare() || !self.has_going())
             && are_settled(&self.seen(links), self.setup)

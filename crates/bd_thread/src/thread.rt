@@ -1,8 +1,8 @@
 //! A thread: what it holds.
-ghost use Rattle.std.specs.Prelude.{◌≡◌, IfOk, OnOk};
+ghost use Rattle.std.specs.Prelude.{◌≡◌, IfOk, OnErr, OnOk};
 ghost use Rattle.bd_links.specs.Entries.{longer};
 ghost use Rattle.bd_thread.specs.Looking.{KeepsOwn};
-ghost use Rattle.bd_thread.specs.Seen.{untaken};
+ghost use Rattle.bd_thread.specs.Seen.{left_by, untaken};
 ghost use Rattle.bd_thread.specs.Starts.{IsNew};
 
 use crate::links::Links;
@@ -10,7 +10,7 @@ use bd_base::{Act, OutOfMemory, ReqId, Setup, Token};
 use bd_blocks::part_at_start;
 use bd_held::Held;
 use bd_links::add;
-use bd_machine::Part;
+use bd_machine::{Part, Prior};
 use bd_moment::Time;
 use bd_msg::Purse;
 use bd_retries::Retries;
@@ -68,13 +68,29 @@ impl<'a> Thread<'a> {
         })
     }
 
-    /// Adds to the list what the thread did, with the next stamp. What the act before took of an error
-    /// device is let go.
+    /// Adds to the list what the thread did, with the next stamp. What the act before left for it is
+    /// let go; out of memory, that alone.
     pub(crate) fn note(&mut self, links: &mut Links, act: Act) -> Result<(), OutOfMemory>
         ensures thread { OnOk result (self.new ≡ record self.old { part = untaken self.old.part }) }
         ensures links { OnOk result (links.new ≡ record links.old { entries = longer self.old.me links.old.entries act }) }
+        ensures err { OnErr result ((self.new ≡ record self.old { part = untaken self.old.part }) × (links.new ≡ links.old)) }
     {
-        self.part.injection = None;
+        self.part.prior = None;
+        add(&mut links.entries, self.me, act)
+    }
+
+    /// Adds to the list what the thread did, with the next stamp, and keeps what that is to the next act, where that
+    /// one may have to follow it directly.
+    pub(crate) fn note_as(
+        &mut self,
+        links: &mut Links,
+        act: Act,
+        prior: Option<Prior>,
+    ) -> Result<(), OutOfMemory>
+        ensures thread { OnOk result (self.new ≡ record self.old { part = left_by prior self.old.part }) }
+        ensures links { OnOk result (links.new ≡ record links.old { entries = longer self.old.me links.old.entries act }) }
+    {
+        self.part.prior = prior;
         add(&mut links.entries, self.me, act)
     }
 

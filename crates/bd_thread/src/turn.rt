@@ -1,6 +1,6 @@
 //! A thread's turn: messages, pieces that are sent again, the work of its stores, the script, and what is
 //! still to be put.
-ghost use Rattle.std.specs.Prelude.{◌≡◌, ◌<◌, ◌≤◌, Some, true, drop, length, vec_len, IfOk, OnOk};
+ghost use Rattle.std.specs.Prelude.{◌≡◌, ◌<◌, ◌≤◌, Some, true, false, drop, length, vec_len, IfOk, OnOk};
 ghost use Rattle.bd_thread.specs.Acted.{Acted};
 ghost use Rattle.bd_thread.specs.Begins.{Begins, CutsOrSetsOut, Submits, SubmitsThrough};
 ghost use Rattle.bd_thread.specs.Seen.{number_of, setup_of};
@@ -10,9 +10,10 @@ ghost use Rattle.bd_machine.specs.declared.state.Id.TheVariants as ids;
 ghost use Rattle.bd_machine.specs.Kept.{as_piece};
 ghost use Rattle.bd_tokens.specs.Tokens.{here_in};
 ghost use Rattle.bd_thread.specs.Moves.{turned_of, AddsMore, Comes, ComesPiece, Receives, SendsFirst, Serves};
+ghost use Rattle.bd_thread.specs.Noted.{Forgets};
 ghost use Rattle.bd_thread.specs.Sent.{may_send};
 ghost use Rattle.bd_thread.specs.Waits.{Idles, IsFilled, NoLine, NoMessage, NoPiece, NoPieceAt, NoPieceOn, NoSubmission, NothingToPost, NothingToSend, Quiets};
-ghost use Rattle.bd_thread.specs.Work.{AsksNothing};
+ghost use Rattle.bd_thread.specs.Work.{has_calls, AsksNothing};
 ghost use Rattle.bd_registry.specs.State.{rows_of};
 
 use crate::links::Links;
@@ -80,7 +81,7 @@ impl<'a> Thread<'a> {
     {
         match op {
             Op::Abort(_) => self.end_abort(links, req),
-            Op::Reset => self.note_call(req),
+            Op::Reset(_) => self.note_call(req),
             _ => self.cut_or_note(links, req),
         }
     }
@@ -310,7 +311,7 @@ impl<'a> Thread<'a> {
         self.open(links)?;
         self.close(links)?;
         self.claim(links)?;
-        self.remove(links)?;
+        self.change_device(links)?;
         self.submit_line(links)?;
         self.end_line(links)
     }
@@ -412,7 +413,7 @@ impl<'a> Thread<'a> {
 
     // After a quiet turn nothing is left to be asked.
     fn forget_calls(&mut self, turned: Turned)
-        ensures { self.new ≡ record self.old { calls = self.new.calls } }
+        ensures { Forgets turned self.old self.new }
     {
         if turned == Turned::Quiet {
             self.calls.clear();
@@ -461,6 +462,7 @@ impl<'a> Thread<'a> {
         ensures tickets { OnOk result (KeepsOwn self.old → KeepsOwn self.new) }
         ensures turned { IfOk result (AddsMore links.old links.new) }
         ensures quiet { IfOk result (Quiets self.old links.old self.new links.new) }
+        ensures forgets { IfOk result (λ turned. turned ≡ Turned.Quiet → has_calls self.new ≡ false) }
     {
         let before = links.entries.len();
         let mut touched = self.take_touched();
@@ -468,6 +470,7 @@ impl<'a> Thread<'a> {
         self.retry_all(links)?;
         self.discharge_all(links)?;
         self.serve_all(links)?;
+        self.harden_all(links)?;
         self.limit_all(links)?;
         self.release_all(links)?;
         self.walk_all(links)?;

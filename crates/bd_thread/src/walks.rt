@@ -1,21 +1,35 @@
 //! Walks over the threads, as they visit this one.
 ghost use Rattle.std.specs.Prelude.{◌≡◌, ◌<◌, vec_len, IfOk, OnOk, Some};
+ghost use Rattle.bd_base.specs.declared.act.Act.TheVariants as acts;
+ghost use Rattle.bd_machine.specs.Guards.{prior_by};
 ghost use Rattle.bd_thread.specs.Acted.{Acted};
 ghost use Rattle.bd_thread.specs.Requests.{KeepsTickets};
+ghost use Rattle.bd_thread.specs.Seen.{view_of};
 ghost use Rattle.bd_thread.specs.Waits.{Idles};
-ghost use Rattle.bd_thread.specs.Walking.{visit_due, IsVisited, NoVisit, NoVisitOf, StopsFor, Visits};
+ghost use Rattle.bd_thread.specs.Walking.{visit_due, IsVisited, NoVisit, NoVisitOf, StopsFor, Visits, Walks};
 ghost use Rattle.bd_thread.specs.Work.{AsksNothing};
 
 use crate::links::Links;
 use crate::thread::Thread;
 use bd_base::{AbortCause, Act, DevId, OutOfMemory, WalkId, WalkKind};
-use bd_machine::OpenWalk;
+use bd_machine::{OpenWalk, Prior};
 use bd_rule_effects::walk_on;
 use bd_rule_view::Sees;
-use bd_rule_walks::{mark, visited};
+use bd_rule_walks::{Visiting, mark, softens, visited};
 use bd_steps::{begin_walk, send_on, visitor};
 
 impl<'a> Thread<'a> {
+    // What a visit of the walk is to the thread's next entry: the one that set its soft mark, where it sets one.
+    fn softening(&self, links: &Links, walk: WalkId, dev: DevId, kind: WalkKind) -> Option<Prior>
+        ensures { result ≡ prior_by (view_of self.now links.now) (acts.Visit walk dev kind) }
+    {
+        if softens(&self.seen(links), walk, dev, kind) {
+            Some(Prior::Softening { walk, dev })
+        } else {
+            None
+        }
+    }
+
     // The walk visits this thread: the marks of its device are set or taken, and it ends, or is to be put to
     // where it goes next.
     fn pass(&mut self, links: &mut Links, id: WalkId, walk: OpenWalk) -> Result<(), OutOfMemory>
@@ -24,22 +38,32 @@ impl<'a> Thread<'a> {
         ensures tickets { OnOk result (KeepsTickets self.old → KeepsTickets self.new) }
         ensures visited { OnOk result (IsVisited id walk self.old links.old self.new links.new) }
     {
-        let OpenWalk { dev, kind, .. } = walk;
+        let OpenWalk {
+            dev,
+            kind,
+            time,
+            ..
+        } = walk;
+        let visit = Visiting {
+            walk: id,
+            dev,
+            kind,
+            time,
+        };
         let channel = self.seen(links).channels(dev);
+        let prior = self.softening(links, id, dev, kind);
         let after = visited(self.me, walk);
-        mark(&mut self.part, self.setup, self.me, channel, dev, kind)?;
+        mark(&mut self.part, self.setup, self.me, channel, visit)?;
         let next = walk_on(&mut self.part, self.me, id, after)?;
         self.held.hold_walk(self.me, id, after)?;
         begin_walk(&mut self.held, &mut self.outbox, next)?;
         send_on(&mut self.outbox, self.me, id, after)?;
-        self.note(
-            links,
-            Act::Visit {
-                walk: id,
-                dev,
-                kind,
-            },
-        )?;
+        let act = Act::Visit {
+            walk: id,
+            dev,
+            kind,
+        };
+        self.note_as(links, act, prior)?;
         Ok(())
     }
 
@@ -59,7 +83,8 @@ impl<'a> Thread<'a> {
 
     /// A walk that is here visits this thread, where that is the next one it visits and, for a drain, no
     /// request stands against it: true, the marks of its device are set or taken, it ends, or is to be put
-    /// to where it goes next, and what the mark of a removal or of a reset stops is aborted. Else nothing changes.
+    /// to where it goes next, a soft mark lasts until the turn's moment with the reset's drain time, and what the mark of
+    /// a removal or of a reset stops is aborted. Else nothing changes.
     pub(crate) fn visit(&mut self, links: &mut Links, id: WalkId) -> Result<bool, OutOfMemory>
         requires { self.old.me < vec_len links.old.queues }
         ensures acted { OnOk result (Acted self.old links.old self.new links.new) }
@@ -70,6 +95,7 @@ impl<'a> Thread<'a> {
             return Ok(false);
         };
         self.pass(links, id, walk)?;
+        self.grace(links, id, walk.time)?;
         self.stop_for(links, walk.kind, walk.dev)?;
         Ok(true)
     }
@@ -81,6 +107,7 @@ impl<'a> Thread<'a> {
         ensures acted { OnOk result (Acted self.old links.old self.new links.new) }
         ensures tickets { OnOk result (KeepsTickets self.old → KeepsTickets self.new) }
         ensures quiet { OnOk result (Idles (NoVisitOf id) self.old links.old self.new links.new) }
+        ensures walks { OnOk result (Walks id self.old links.old self.new links.new) }
         ensures alone { OnOk result (AsksNothing links.old links.new) }
     {
         let visited = self.visit(links, id)?;

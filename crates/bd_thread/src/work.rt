@@ -70,6 +70,7 @@ impl<'a> Thread<'a> {
         self.receive_all(links)?;
         self.retry_all(links)?;
         self.serve_all(links)?;
+        self.harden_all(links)?;
         self.limit_all(links)?;
         self.release_all(links)?;
         self.walk_all(links)?;
@@ -102,9 +103,9 @@ impl<'a> Thread<'a> {
     }
 
     /// Whether a turn could use the registry, by what the thread sees of it: something has to follow there, the thread
-    /// owes something that an event does, a request is noted for a decision, its next line opens, closes, claims or
-    /// removes, a handle whose remove event it took may be closed, or, after Shutdown on thread 0, a device is left to
-    /// remove. It takes no memory.
+    /// owes something that an event does, or that one follows, a request is noted for a decision, its next line opens,
+    /// closes, claims, removes or resizes, a handle whose remove event it took may be closed, or, after Shutdown on
+    /// thread 0, a device is left to remove. It takes no memory.
     pub fn wants_registry(&self, links: &Links) -> bool
         ensures { result ≡ wants_registry self.now links.now }
     {

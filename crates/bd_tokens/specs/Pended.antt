@@ -10,12 +10,12 @@ use Rattle.bd_machine.specs.declared.state.Kept.TheVariants as keeps
 use Rattle.bd_machine.specs.declared.state.OpenRequest.{OpenRequest}
 use Rattle.bd_machine.specs.declared.state.Part.{Part}
 use Rattle.bd_machine.specs.Kept.{as_request}
-use Rattle.bd_machine.specs.Marks.{is_marked}
+use Rattle.bd_machine.specs.Marks.{has_any_mark}
 use Rattle.bd_tokens.specs.declared.key.Key.{Key}
 
 -- the request is kept without an answer, and nothing stops it: it wasn't aborted, and no device below it carries a mark
 abbrev pub is_pended : Setup → Part → OpenRequest → Bool
-is_pended setup part r = r.pended && is_none r.aborted && not (is_marked setup part r.dev)
+is_pended setup part r = r.pended && is_none r.aborted && not (has_any_mark setup part r.dev)
 
 abbrev pub is_some_pended : Setup → Part → Option OpenRequest → Bool
 is_some_pended setup part None = false

@@ -7,7 +7,7 @@ use crate::key::Key;
 use crate::places::Row;
 use bd_base::Setup;
 use bd_machine::{Id, Kept, OpenRequest, Part};
-use bd_rule_requests::is_marked;
+use bd_rule_requests::has_any_mark;
 use std::collections::HashMap;
 
 /// Whether a request is kept without an answer, and nothing stops it: it wasn't aborted, and no device below it
@@ -15,7 +15,7 @@ use std::collections::HashMap;
 pub(crate) fn is_pended(setup: &Setup, part: &Part, r: OpenRequest) -> bool
     ensures { result ≡ is_pended setup.now part.now r }
 {
-    r.pended && r.aborted.is_none() && !is_marked(setup, part, r.dev)
+    r.pended && r.aborted.is_none() && !has_any_mark(setup, part, r.dev)
 }
 
 // Whether the token is a request of this thread, and is pended: no piece, walk or notice is.

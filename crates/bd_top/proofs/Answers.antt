@@ -1,5 +1,6 @@
 -- The answer of a call by the cause that doing what it was asked gave.
-use Rattle.std.proofs.Common.{◌≡◌, ◌∙◌, ℕ, List, Some, subst, sym}
+use Rattle.std.proofs.Common.{◌≡◌, ◌∙◌, ℕ, List, Option, Some, subst, sym}
+use Rattle.bd_outside.specs.Clock.{Moments}
 use Rattle.bd_outside.specs.Host.{HostState}
 use Rattle.bd_outside.specs.Sink.{SinkState}
 use Rattle.bd_top.specs.declared.fault.Fault.{Fault}
@@ -7,9 +8,9 @@ use Rattle.bd_top.specs.declared.fault.Fault.TheVariants as faults
 use Rattle.bd_top.specs.Run.{AskedCause, Cause, FileCause, NamesNoFile}
 use Rattle.bd_top.specs.Words.{Arguments, Asked, Run, Exercise, Generate, asked_of}
 
-module _ (words : List (List ℕ)) (old new : HostState) (before after : SinkState) where
+module _ (range : Option Moments) (words : List (List ℕ)) (old new : HostState) (before after : SinkState) where
   -- a fault of two files that the words name
-  of_files : (named : Arguments) (fault : Fault) → asked_of words ≡ Some (Run named) → FileCause old new named.config named.jobs named.playing.threads fault → Cause words old new before after fault
+  of_files : (named : Arguments) (fault : Fault) → asked_of words ≡ Some (Run named) → FileCause old new named.config named.jobs named.playing.threads fault → Cause range words old new before after fault
   of_files named faults.Usage is cause = absurd cause
   of_files named faults.WriteFault is cause = absurd cause
   of_files named faults.OutOfMemory is cause = tt
@@ -22,11 +23,11 @@ module _ (words : List (List ℕ)) (old new : HostState) (before after : SinkSta
   of_files named (faults.JobText line) is cause = record { arguments = named; named = is; of_file = cause }
 
   -- out of memory needs no cause
-  of_memory : (fault : Fault) → fault ≡ faults.OutOfMemory → Cause words old new before after fault
-  of_memory fault is = subst (Cause words old new before after) (sym is) tt
+  of_memory : (fault : Fault) → fault ≡ faults.OutOfMemory → Cause range words old new before after fault
+  of_memory fault is = subst (Cause range words old new before after) (sym is) tt
 
   -- a fault of what the words ask
-  pub of_asked : (asked : Asked) (fault : Fault) → asked_of words ≡ Some asked → AskedCause asked old new fault → Cause words old new before after fault
+  pub of_asked : (asked : Asked) (fault : Fault) → asked_of words ≡ Some asked → AskedCause asked old new fault → Cause range words old new before after fault
   of_asked (Run named) fault is cause = of_files named fault is cause
   of_asked (Exercise numbers playing) fault is cause = of_memory fault cause
   of_asked (Generate numbers threads) fault is cause = of_memory fault cause

@@ -1,10 +1,11 @@
 -- Where what the words name is in form and nothing fails, a call ends well unless it is out of memory.
-use Rattle.std.proofs.Common.{◌≡◌, ℕ, ◌+◌, ◌≤◌, ◌<◌, inl, inr, List, [], ◌∷◌, ◌++◌, length, take, drop, None, Some, refl, sym, ◌∙◌, ap, subst, arith, string_bytes}
+use Rattle.std.proofs.Common.{◌≡◌, ℕ, ◌+◌, ◌≤◌, ◌<◌, inl, inr, List, [], ◌∷◌, ◌++◌, length, take, drop, Option, None, Some, refl, sym, ◌∙◌, ap, subst, arith, string_bytes}
 use Rattle.std.specs.Prelude.{ℤ, option_map}
 use Rattle.std.proofs.lemmas.List.{take-append-drop}
 use Rattle.bd_base.specs.declared.job.Script.{Script}
 use Rattle.bd_jobs.specs.ScriptGrammar.{commands_from, commands_of, scripts_below, scripts_of, IsFirstOutside, text_lines}
 use Rattle.bd_jobs.proofs.ReadLemmas.{from-append, from-none}
+use Rattle.bd_outside.specs.Clock.{Moments}
 use Rattle.bd_outside.specs.File.{Told, Content}
 use Rattle.bd_outside.specs.Host.{HostState}
 use Rattle.bd_outside.specs.Sink.{SinkState}
@@ -112,14 +113,14 @@ module _ (words : List (List ℕ)) (old new : HostState) (before after : SinkSta
       file_gives_none named old new before after (in_form form.asked named (sym form.named ∙ is) form.files) quiet fault cause
 
   -- the cause of a fault is out of memory
-  pub only_memory : (fault : Fault) → Cause words old new before after fault → fault ≡ faults.OutOfMemory
-  only_memory faults.Usage cause = absurd (not_usage words form.asked form.named cause)
-  only_memory (faults.NoFile name) cause = of_files cause.arguments (faults.NoFile name) cause.named cause.of_file
-  only_memory (faults.TooLong name) cause = of_files cause.arguments (faults.TooLong name) cause.named cause.of_file
-  only_memory (faults.ReadFault name) cause = of_files cause.arguments (faults.ReadFault name) cause.named cause.of_file
-  only_memory faults.WriteFault cause = absurd (quiet.output cause.failed)
-  only_memory faults.ConfigText cause = of_files cause.arguments faults.ConfigText cause.named cause.of_file
-  only_memory (faults.ConfigShape place) cause = of_files cause.arguments (faults.ConfigShape place) cause.named cause.of_file
-  only_memory (faults.Method index code) cause = of_files cause.arguments (faults.Method index code) cause.named cause.of_file
-  only_memory (faults.JobText line) cause = of_files cause.arguments (faults.JobText line) cause.named cause.of_file
-  only_memory faults.OutOfMemory cause = refl
+  pub only_memory : (range : Option Moments) (fault : Fault) → Cause range words old new before after fault → fault ≡ faults.OutOfMemory
+  only_memory range faults.Usage cause = absurd (not_usage words form.asked form.named cause)
+  only_memory range (faults.NoFile name) cause = of_files cause.arguments (faults.NoFile name) cause.named cause.of_file
+  only_memory range (faults.TooLong name) cause = of_files cause.arguments (faults.TooLong name) cause.named cause.of_file
+  only_memory range (faults.ReadFault name) cause = of_files cause.arguments (faults.ReadFault name) cause.named cause.of_file
+  only_memory range faults.WriteFault cause = absurd (quiet.output cause.failed)
+  only_memory range faults.ConfigText cause = of_files cause.arguments faults.ConfigText cause.named cause.of_file
+  only_memory range (faults.ConfigShape place) cause = of_files cause.arguments (faults.ConfigShape place) cause.named cause.of_file
+  only_memory range (faults.Method index code) cause = of_files cause.arguments (faults.Method index code) cause.named cause.of_file
+  only_memory range (faults.JobText line) cause = of_files cause.arguments (faults.JobText line) cause.named cause.of_file
+  only_memory range faults.OutOfMemory cause = refl

@@ -1,5 +1,5 @@
 -- Where one thing is wrong with two files and nothing fails, a run answers it unless it is out of memory.
-use Rattle.std.proofs.Common.{◌≡◌, ℕ, ◌+◌, ◌-◌, ◌≤◌, ◌<◌, Bool, true, false, nat_le, ◌⊎◌, inl, inr, List, [], ◌∷◌, ◌++◌, length, take, drop, None, Some, refl, sym, ◌∙◌, ap, subst, arith, string_bytes}
+use Rattle.std.proofs.Common.{◌≡◌, ℕ, ◌+◌, ◌-◌, ◌≤◌, ◌<◌, Bool, true, false, nat_le, ◌⊎◌, inl, inr, List, [], ◌∷◌, ◌++◌, length, take, drop, Option, None, Some, refl, sym, ◌∙◌, ap, subst, arith, string_bytes}
 use Rattle.std.specs.Prelude.{Result, Ok, Err, IfErr, MatchResult}
 use Rattle.std.specs.Result.{IsErr}
 use Rattle.std.proofs.lemmas.Bool.Decides.{nat_tests}
@@ -8,6 +8,7 @@ use Rattle.bd_base.specs.declared.act.Entry.{Entry}
 use Rattle.bd_config.specs.Config.{IsConfig}
 use Rattle.bd_jobs.specs.ScriptGrammar.{commands_from, commands_of, scripts_of, IsFirstOutside, text_lines}
 use Rattle.bd_jobs.proofs.ReadLemmas.{from-append, from-none}
+use Rattle.bd_outside.specs.Clock.{Moments}
 use Rattle.bd_outside.specs.File.{Told, Content}
 use Rattle.bd_outside.specs.Host.{HostState}
 use Rattle.bd_outside.specs.Sink.{SinkState}
@@ -154,21 +155,21 @@ module _ (words : List (List ℕ)) (host : HostState) (fault : Fault) (wrong : I
     of_files named given is cause = of_file given (subst (λ (a : Arguments). FileCause host new a.config a.jobs a.playing.threads given) (same_arguments named is) cause)
 
     -- the cause of the answer is that one thing, or out of memory
-    pub only_this : (given : Fault) → Cause words host new before after given → (given ≡ fault) ⊎ (given ≡ faults.OutOfMemory)
-    only_this faults.Usage cause = absurd (not_usage words (Run wrong.arguments) wrong.named cause)
-    only_this (faults.NoFile name) cause = of_files cause.arguments (faults.NoFile name) cause.named cause.of_file
-    only_this (faults.TooLong name) cause = of_files cause.arguments (faults.TooLong name) cause.named cause.of_file
-    only_this (faults.ReadFault name) cause = of_files cause.arguments (faults.ReadFault name) cause.named cause.of_file
-    only_this faults.ConfigText cause = of_files cause.arguments faults.ConfigText cause.named cause.of_file
-    only_this (faults.ConfigShape place) cause = of_files cause.arguments (faults.ConfigShape place) cause.named cause.of_file
-    only_this (faults.Method index code) cause = of_files cause.arguments (faults.Method index code) cause.named cause.of_file
-    only_this (faults.JobText line) cause = of_files cause.arguments (faults.JobText line) cause.named cause.of_file
-    only_this faults.WriteFault cause = absurd (quiet.output cause.failed)
-    only_this faults.OutOfMemory cause = inr refl
+    pub only_this : (range : Option Moments) (given : Fault) → Cause range words host new before after given → (given ≡ fault) ⊎ (given ≡ faults.OutOfMemory)
+    only_this range faults.Usage cause = absurd (not_usage words (Run wrong.arguments) wrong.named cause)
+    only_this range (faults.NoFile name) cause = of_files cause.arguments (faults.NoFile name) cause.named cause.of_file
+    only_this range (faults.TooLong name) cause = of_files cause.arguments (faults.TooLong name) cause.named cause.of_file
+    only_this range (faults.ReadFault name) cause = of_files cause.arguments (faults.ReadFault name) cause.named cause.of_file
+    only_this range faults.ConfigText cause = of_files cause.arguments faults.ConfigText cause.named cause.of_file
+    only_this range (faults.ConfigShape place) cause = of_files cause.arguments (faults.ConfigShape place) cause.named cause.of_file
+    only_this range (faults.Method index code) cause = of_files cause.arguments (faults.Method index code) cause.named cause.of_file
+    only_this range (faults.JobText line) cause = of_files cause.arguments (faults.JobText line) cause.named cause.of_file
+    only_this range faults.WriteFault cause = absurd (quiet.output cause.failed)
+    only_this range faults.OutOfMemory cause = inr refl
 
     -- nor were the two files played
-    not_played : (trace : List Entry) (report : List ℕ) → AreFilesPlayed wrong.arguments host new trace report → ⊥
-    not_played trace report played = go played.meant wrong.wrong
+    not_played : (range : Option Moments) (trace : List Entry) (report : List ℕ) → AreFilesPlayed range wrong.arguments host new trace report → ⊥
+    not_played range trace report played = go played.meant wrong.wrong
       where
         of_jobs : (bad : IsScriptWrong threads host.told wrong.config jobs_told fault) (setup : IsMeant threads host.told config_told jobs_told played.setup) → IsNoText threads jobs_told bad.line → ⊥
         of_jobs bad meant out = script_inside threads jobs_told bad.bytes meant.scripts bad.line bad.told_jobs
@@ -179,8 +180,8 @@ module _ (words : List (List ℕ)) (host : HostState) (fault : Fault) (wrong : I
         go meant (inr bad) = of_jobs bad meant bad.first
 
     -- so what is asked wasn't done
-    pub not_done : (asked : Asked) (trace : List Entry) (text : List ℕ) → asked_of words ≡ Some asked → IsDone asked host new trace text → ⊥
-    not_done asked trace text named done =
+    pub not_done : (range : Option Moments) (asked : Asked) (trace : List Entry) (text : List ℕ) → asked_of words ≡ Some asked → IsDone range asked host new trace text → ⊥
+    not_done range asked trace text named done =
         let both : Some asked ≡ Some (Run wrong.arguments) = sym named ∙ wrong.named in
         let same : asked ≡ Run wrong.arguments = cc in
-        not_played trace text (subst (λ (a : Asked). IsDone a host new trace text) same done)
+        not_played range trace text (subst (λ (a : Asked). IsDone range a host new trace text) same done)

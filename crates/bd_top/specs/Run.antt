@@ -1,5 +1,5 @@
 -- What a call that ends with Ok did, and why another one ends.
-use Rattle.std.specs.Prelude.{◌≡◌, ℕ, ◌<◌, ◌≤◌, Bool, true, false, List, [], ◌∷◌, ◌++◌, length, None, Some, ◌⊎◌, string_bytes}
+use Rattle.std.specs.Prelude.{◌≡◌, ℕ, ◌<◌, ◌≤◌, Bool, true, false, List, [], ◌∷◌, ◌++◌, length, Option, None, Some, ◌⊎◌, string_bytes}
 use Rattle.std.specs.Io.KnownBytes.{Appends}
 use Rattle.bd_base.specs.declared.act.Entry.{Entry}
 use Rattle.bd_base.specs.declared.id.DevId.{DevId}
@@ -19,6 +19,8 @@ use Rattle.bd_config.specs.Config.{IsConfig}
 use Rattle.bd_config.specs.declared.command.Command.{Command}
 use Rattle.bd_jobs.specs.Generated.{generated}
 use Rattle.bd_jobs.specs.ScriptGrammar.{scripts_of, IsFirstOutside}
+use Rattle.bd_node.specs.Times.{AreHoldsWithin}
+use Rattle.bd_outside.specs.Clock.{Moments}
 use Rattle.bd_outside.specs.File.{Told, IsAbsent, Content}
 use Rattle.bd_outside.specs.Host.{HostState, FailsAt, Misses}
 use Rattle.bd_outside.specs.Sink.{SinkState, Fails}
@@ -101,9 +103,9 @@ pub record IsNoText (threads : ℕ) (jobs : Told) (line : ℕ) : Type 0 where
   pub read : IsRead jobs bytes
   pub outside : IsFirstOutside threads bytes line
 
--- this setup was played, where its disks told these contents: this is the history, and this its report, with a line for each command
--- where it is full
-pub record IsPlayed (setup : Setup) (contents : Contents) (full : Bool) (trace : List Entry) (report : List ℕ) : Type 0 where
+-- this setup was played by a clock that tells its moments, if it tells any, where its disks told these contents: this is the history, and this its
+-- report, with a line for each command where it is full
+pub record IsPlayed (range : Option Moments) (setup : Setup) (contents : Contents) (full : Bool) (trace : List Entry) (report : List ℕ) : Type 0 where
   pub complete : IsCompleteRun setup contents trace
   pub scripts : GoAsFar setup contents trace
   pub once : AreCompletedOnce trace
@@ -111,22 +113,23 @@ pub record IsPlayed (setup : Setup) (contents : Contents) (full : Bool) (trace :
   pub last_close : AreAfterLastClose setup contents trace
   pub budgets : AreBudgetsKept setup trace
   pub quiesces : AreOverAtResets setup contents trace
+  pub holds : AreHoldsWithin range setup trace
   pub says : report ≡ report_of full setup trace
 
 -- the two files were played, with a full report, over what the disks told at their opening; what the host then keeps of the disks is
 -- that run's
-pub record AreFilesPlayed (arguments : Arguments) (old new : HostState) (trace : List Entry) (report : List ℕ) : Type 0 where
+pub record AreFilesPlayed (range : Option Moments) (arguments : Arguments) (old new : HostState) (trace : List Entry) (report : List ℕ) : Type 0 where
   pub setup : Setup
   pub meant : IsMeant arguments.playing.threads old.told (old.told arguments.config) (old.told arguments.jobs) setup
   pub contents : Contents
-  pub played : IsPlayed setup contents true trace report
+  pub played : IsPlayed range setup contents true trace report
   pub disks : TellDisks old.told contents setup trace old.openings new.openings
 
 -- the built-in configuration, which has no aio device, was played with the generated script, with a report that isn't full
-pub record IsExercised (numbers threads : ℕ) (trace : List Entry) (report : List ℕ) : Type 0 where
+pub record IsExercised (range : Option Moments) (numbers threads : ℕ) (trace : List Entry) (report : List ℕ) : Type 0 where
   pub setup : Setup
   pub meant : IsExercise numbers threads setup
-  pub played : IsPlayed setup [] false trace report
+  pub played : IsPlayed range setup [] false trace report
 
 -- nothing was played, and the text is the generated script
 pub record IsGenerated (numbers threads : ℕ) (trace : List Entry) (text : List ℕ) : Type 0 where
@@ -134,17 +137,17 @@ pub record IsGenerated (numbers threads : ℕ) (trace : List Entry) (text : List
   pub says : text ≡ generated numbers threads
 
 -- what is asked was done: this is the history, and this the text to be written
-abbrev pub IsDone : Asked → HostState → HostState → List Entry → List ℕ → Type 0
-IsDone (Run arguments) old new trace text = AreFilesPlayed arguments old new trace text
-IsDone (Exercise numbers playing) old new trace text = IsExercised numbers playing.threads trace text
-IsDone (Generate numbers threads) old new trace text = IsGenerated numbers threads trace text
+abbrev pub IsDone : Option Moments → Asked → HostState → HostState → List Entry → List ℕ → Type 0
+IsDone range (Run arguments) old new trace text = AreFilesPlayed range arguments old new trace text
+IsDone range (Exercise numbers playing) old new trace text = IsExercised range numbers playing.threads trace text
+IsDone range (Generate numbers threads) old new trace text = IsGenerated numbers threads trace text
 
--- what the words ask was done, and the output gained the text
-pub record IsRun (words : List (List ℕ)) (old new : HostState) (trace : List Entry) (before after : SinkState) : Type 0 where
+-- what the words ask was done, by a clock that tells its moments, if it tells any, and the output gained the text
+pub record IsRun (range : Option Moments) (words : List (List ℕ)) (old new : HostState) (trace : List Entry) (before after : SinkState) : Type 0 where
   pub asked : Asked
   pub named : asked_of words ≡ Some asked
   pub text : List ℕ
-  pub done : IsDone asked old new trace text
+  pub done : IsDone range asked old new trace text
   pub output : Appends before.written after.written text
 
 -- ---- faults
@@ -211,27 +214,27 @@ pub record IsOfFiles (words : List (List ℕ)) (old new : HostState) (fault : Fa
   pub of_file : FileCause old new arguments.config arguments.jobs arguments.playing.threads fault
 
 -- what the words ask was done, and the output failed, after a prefix of the text
-pub record IsCutOff (words : List (List ℕ)) (old new : HostState) (before after : SinkState) : Type 0 where
+pub record IsCutOff (range : Option Moments) (words : List (List ℕ)) (old new : HostState) (before after : SinkState) : Type 0 where
   pub asked : Asked
   pub named : asked_of words ≡ Some asked
   pub trace : List Entry
   pub text : List ℕ
-  pub done : IsDone asked old new trace text
+  pub done : IsDone range asked old new trace text
   pub prefix : AppendsPrefix before.written after.written text
   pub failed : Fails before after
 
 -- when each fault comes, by the host and the output before and after the call; out of memory is the one free answer
-abbrev pub Cause : List (List ℕ) → HostState → HostState → SinkState → SinkState → Fault → Type 0
-Cause words old new before after Usage = asked_of words ≡ None
-Cause words old new before after WriteFault = IsCutOff words old new before after
-Cause words old new before after OutOfMemory = Unit {0}
-Cause words old new before after (NoFile name) = IsOfFiles words old new (NoFile name)
-Cause words old new before after (TooLong name) = IsOfFiles words old new (TooLong name)
-Cause words old new before after (ReadFault name) = IsOfFiles words old new (ReadFault name)
-Cause words old new before after ConfigText = IsOfFiles words old new ConfigText
-Cause words old new before after (ConfigShape place) = IsOfFiles words old new (ConfigShape place)
-Cause words old new before after (Method index code) = IsOfFiles words old new (Method index code)
-Cause words old new before after (JobText line) = IsOfFiles words old new (JobText line)
+abbrev pub Cause : Option Moments → List (List ℕ) → HostState → HostState → SinkState → SinkState → Fault → Type 0
+Cause range words old new before after Usage = asked_of words ≡ None
+Cause range words old new before after WriteFault = IsCutOff range words old new before after
+Cause range words old new before after OutOfMemory = Unit {0}
+Cause range words old new before after (NoFile name) = IsOfFiles words old new (NoFile name)
+Cause range words old new before after (TooLong name) = IsOfFiles words old new (TooLong name)
+Cause range words old new before after (ReadFault name) = IsOfFiles words old new (ReadFault name)
+Cause range words old new before after ConfigText = IsOfFiles words old new ConfigText
+Cause range words old new before after (ConfigShape place) = IsOfFiles words old new (ConfigShape place)
+Cause range words old new before after (Method index code) = IsOfFiles words old new (Method index code)
+Cause range words old new before after (JobText line) = IsOfFiles words old new (JobText line)
 
 -- ---- what is in form
 

@@ -65,7 +65,7 @@ where
     requires some { 0 < ready.setup.threads }
     requires disks { length ready.disks.threads ≡ ready.setup.threads }
     ensures played { AreBasesAlone ready.setup → StandsOnEarlier ready.setup
-        → IfOk result (λ done. IsPlayed ready.setup (told_of H.Disk.state ready.setup ready.disks.threads) full done.trace done.text.items) }
+        → IfOk result (λ done. IsPlayed (C.range outside.now.clock.now) ready.setup (told_of H.Disk.state ready.setup ready.disks.threads) full done.trace done.text.items) }
     ensures moments { IfOk result (λ done. AreMomentsWithin (C.range outside.now.clock.now) done.trace) }
     ensures starts { AreBasesAlone ready.setup → IfOk result (λ done. AreStartsWithin (C.range outside.now.clock.now) done.trace) }
     ensures disks { (told : List ℕ → Told) (base : Option (List Opening)) → AreBasesAlone ready.setup
@@ -104,7 +104,7 @@ fn run_files<R: AllocGlobal + Threads + Wait + Sync, H: Host, C: Clock + Sync, G
 where
     H::Disk: Send,
     requires { IsThreadCount arguments.playing.threads }
-    ensures done { IfOk result (λ done. AreFilesPlayed (seen_arguments arguments.entry) (H.state host.old) (H.state host.new) done.trace done.text.items) }
+    ensures done { IfOk result (λ done. AreFilesPlayed (C.range outside.now.clock.now) (seen_arguments arguments.entry) (H.state host.old) (H.state host.new) done.trace done.text.items) }
     ensures moments { IfOk result (λ done. AreMomentsWithin (C.range outside.now.clock.now) done.trace) }
     ensures starts { IfOk result (λ done. AreStartsWithin (C.range outside.now.clock.now) done.trace) }
     ensures cause { IfErr result
@@ -133,7 +133,7 @@ fn exercise<R: AllocGlobal + Threads + Wait + Sync, C: Clock + Sync, G: Gate + S
 ) -> Result<Done, OutOfMemory>
     requires numbers { numbers ≤ 500 }
     requires threads { IsThreadCount playing.threads }
-    ensures done { IfOk result (λ done. IsExercised numbers playing.threads done.trace done.text.items) }
+    ensures done { IfOk result (λ done. IsExercised (C.range outside.now.clock.now) numbers playing.threads done.trace done.text.items) }
     ensures moments { IfOk result (λ done. AreMomentsWithin (C.range outside.now.clock.now) done.trace) }
     ensures starts { IfOk result (λ done. AreStartsWithin (C.range outside.now.clock.now) done.trace) }
 {
@@ -166,7 +166,7 @@ fn do_asked<R: AllocGlobal + Threads + Wait + Sync, H: Host, C: Clock + Sync, G:
 where
     H::Disk: Send,
     requires { IsInRange (seen asked) }
-    ensures done { IfOk result (λ done. IsDone (seen asked.entry) (H.state host.old) (H.state host.new) done.trace done.text.items) }
+    ensures done { IfOk result (λ done. IsDone (C.range outside.now.clock.now) (seen asked.entry) (H.state host.old) (H.state host.new) done.trace done.text.items) }
     ensures moments { IfOk result (λ done. AreMomentsWithin (C.range outside.now.clock.now) done.trace) }
     ensures starts { IfOk result (λ done. AreStartsWithin (C.range outside.now.clock.now) done.trace) }
     ensures cause { IfErr result (AskedCause (seen asked.entry) (H.state host.old) (H.state host.new)) }
@@ -189,7 +189,8 @@ where
 /// reactors as `--reactors` says (1 to 8, else 1), beside each other, each of which passes the gate before
 /// a turn; or they take turns by the schedule that the number of `--schedule` seeds. For each turn the clock is asked
 /// once, and all moments that the history names lie between those that it tells, if it tells them; so does the one
-/// since which each limited device's timeslices passed. Where time alone has to pass, it pauses between rounds.
+/// since which each limited device's timeslices passed. From the greatest of them on, no request is held longer than the
+/// delay devices below its device hold one of its direction. Where time alone has to pass, it pauses between rounds.
 /// `generate N` writes the generated script for as many threads as `--threads` says, and plays nothing.
 ///
 /// The file of each aio device is opened as a disk just before its command is done, and all disks are
@@ -213,12 +214,12 @@ pub fn run<
 >(rt: &R, words: &[String], host: &mut H, out: &mut K, clock: &C, gate: &G) -> Result<Ran, Fault>
 where
     H::Disk: Send,
-    ensures run { IfOk result (λ r. IsRun (map string_bytes words.now) (H.state host.old) (H.state host.new) r.trace (K.state out.old) (K.state out.new)) }
+    ensures run { IfOk result (λ r. IsRun (C.range clock.now) (map string_bytes words.now) (H.state host.old) (H.state host.new) r.trace (K.state out.old) (K.state out.new)) }
     ensures moments { IfOk result (λ r. AreMomentsWithin (C.range clock.now) r.trace) }
     ensures starts { IfOk result (λ r. AreStartsWithin (C.range clock.now) r.trace) }
     ensures status { IfOk result (λ r. r.status ≡ 0) }
     ensures usage { asked_of (map string_bytes words.now) ≡ None → result ≡ Err Fault.Usage }
-    ensures cause { IfErr result (Cause (map string_bytes words.now) (H.state host.old) (H.state host.new) (K.state out.old) (K.state out.new)) }
+    ensures cause { IfErr result (Cause (C.range clock.now) (map string_bytes words.now) (H.state host.old) (H.state host.new) (K.state out.old) (K.state out.new)) }
     ensures complete { AreInForm (map string_bytes words.now) (H.state host.old)
         → NothingFails (H.state host.old) (H.state host.new) (K.state out.old) (K.state out.new)
         → IfErr result (λ fault. fault ≡ Fault.OutOfMemory) }

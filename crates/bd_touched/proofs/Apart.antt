@@ -35,7 +35,7 @@ use Rattle.bd_machine.specs.declared.state.Stage.TheVariants as stages
 use Rattle.bd_machine.specs.Alone.{held_after, held_by}
 use Rattle.bd_machine.specs.BlockMap.{size_of}
 use Rattle.bd_machine.specs.Completion.{pieces_of}
-use Rattle.bd_machine.specs.Events.{alone, with_due, removing, reset_begun, reset_thaws, with_reset, advanced, first_req, injection_taken, change_reg, removal_paid}
+use Rattle.bd_machine.specs.Events.{alone, with_due, removing, reset_begun, reset_thaws, with_reset, advanced, first_req, injection_taken, drain_time, change_reg, removal_paid}
 use Rattle.bd_machine.specs.Guards.{change}
 use Rattle.bd_machine.specs.Homes.{base_here, change_applied, piece_edited}
 use Rattle.bd_machine.specs.Kept.{edited, piece_here, request_here, walk_here}
@@ -45,7 +45,7 @@ use Rattle.bd_machine.specs.Requests.{closed_with, cut_into, extents_of, pieces_
 use Rattle.bd_machine.specs.Same.{same_id, same_request}
 use Rattle.bd_machine.specs.Threads.{is_nobody}
 use Rattle.bd_machine.specs.View.{View, Came, Change, Move, id_of}
-use Rattle.bd_machine.specs.Walks.{after_walk, begin_walk, drain_threads, is_at_end, marked_by, reset_of, staged, visited, walked, walked_if_any}
+use Rattle.bd_machine.specs.Walks.{after_walk, begin_walk_with, drain_threads, is_at_end, marked_by, reset_of, staged, visited, walked, walked_if_any}
 use Rattle.bd_machine.proofs.Tables.{id_same}
 use Rattle.bd_touched.specs.Reach.{reach_of, reaches}
 
@@ -74,11 +74,11 @@ module _ (req : ReqId) where
 
   -- ---- walks
 
-  begin_apart : (t : ℕ) (kind : WalkKind) (dev : DevId) (threads : ThreadSet) (by : Option ReqId) (c : Change) → AreApart c.moves → AreApart (begin_walk t kind dev threads by c).moves
-  begin_apart t kind dev threads by c h = apart_cond (is_nobody threads) _ _ h (apart_push c.moves _ h refl)
+  begin_apart : (t : ℕ) (kind : WalkKind) (dev : DevId) (threads : ThreadSet) (by : Option ReqId) (time : ℕ) (c : Change) → AreApart c.moves → AreApart (begin_walk_with t kind dev threads by time c).moves
+  begin_apart t kind dev threads by time c h = apart_cond (is_nobody threads) _ _ h (apart_push c.moves _ h refl)
 
   after_apart : (t : ℕ) (w : OpenWalk) (kind : WalkKind) (c : Change) → AreApart c.moves → AreApart (after_walk t w kind c).moves
-  after_apart t w Freeze c h = begin_apart t Drain w.dev (drain_threads c.part w.request) w.request (record { part = staged w.request stages.Draining c.part; moves = c.moves }) h
+  after_apart t w Freeze c h = begin_apart t Drain w.dev (drain_threads c.part w.request) w.request 0 (record { part = staged w.request stages.Draining c.part; moves = c.moves }) h
   after_apart t w Drain c h = h
   after_apart t w Thaw c h = h
   after_apart t w Removal c h = h
@@ -92,7 +92,7 @@ module _ (req : ReqId) where
 
   went_apart : (t : ℕ) (by : ReqId) (threads : ThreadSet) (x : Option Resetting) (c : Change) → AreApart c.moves → AreApart (went t by threads x c).moves
   went_apart t by threads None c h = h
-  went_apart t by threads (Some r) c h = begin_apart t Freeze r.dev threads (Some by) (record { part = freezes by threads c.part; moves = c.moves }) h
+  went_apart t by threads (Some r) c h = begin_apart t Freeze r.dev threads (Some by) r.time (record { part = freezes by threads c.part; moves = c.moves }) h
 
   told_apart : (t : ℕ) (told : News) (c : Change) → AreApart c.moves → AreApart (told_walk t told c).moves
   told_apart t (news.Go by threads) c h = went_apart t by threads (reset_of c.part by) c h
@@ -100,6 +100,8 @@ module _ (req : ReqId) where
   told_apart t (news.Gone handle) c h = h
   told_apart t (news.Channel dev) c h = h
   told_apart t (news.Device dev) c h = h
+  told_apart t (news.Grow dev blocks) c h = h
+  told_apart t (news.Sized handle blocks) c h = h
 
   -- ---- other requests and their pieces
 
@@ -161,15 +163,15 @@ module _ (req : ReqId) where
   -- ---- the registry's events
 
   removing_apart : (setup : Setup) (t : ℕ) (a : Answer) (p : Part) → AreApart (removing setup t a p).moves
-  removing_apart setup t (answers.Removing dev threads handles destruct) p = begin_apart t Removal dev threads None (alone (with_due _ p)) tt
+  removing_apart setup t (answers.Removing dev threads handles destruct) p = begin_apart t Removal dev threads None 0 (alone (with_due _ p)) tt
   removing_apart setup t _ p = tt
 
   begun_apart : (t : ℕ) (dev : DevId) (by : ReqId) (a : Answer) (p : Part) → AreApart (reset_begun t dev by a p).moves
-  begun_apart t dev by (answers.ResetStarted threads) p = begin_apart t Freeze dev threads (Some by) (alone (with_reset by dev stages.Freezing threads p)) tt
+  begun_apart t dev by (answers.ResetStarted threads) p = begin_apart t Freeze dev threads (Some by) (drain_time p by) (alone (with_reset by dev stages.Freezing threads p)) tt
   begun_apart t dev by _ p = tt
 
   thaws_apart : (t : ℕ) (dev : DevId) (a : Answer) (p : Part) → AreApart (reset_thaws t dev a p).moves
-  thaws_apart t dev (answers.ResetEnded threads) p = begin_apart t Thaw dev threads (first_req p.resets dev stages.Drained) (alone (advanced dev stages.Drained stages.Thawing p)) tt
+  thaws_apart t dev (answers.ResetEnded threads) p = begin_apart t Thaw dev threads (first_req p.resets dev stages.Drained) 0 (alone (advanced dev stages.Drained stages.Thawing p)) tt
   thaws_apart t dev _ p = tt
 
   injection_apart : (v : View) (r : ReqId) (a : Answer) → same_request r req ≡ false → AreApart (injection_taken v r a).moves
@@ -195,6 +197,8 @@ module _ (req : ReqId) where
     reg_apart (events.FinishReset dev) a n = tt
     reg_apart (events.TakeInjection dev r op) a n = injection_apart v r a (other r n)
     reg_apart (events.Destructed dev) a n = tt
+    reg_apart (events.BeginResize name blocks) a n = tt
+    reg_apart (events.EndResize dev) a n = tt
 
     sent_apart : (to number : ℕ) (what : Token) → reaches setup (reach_of (acts.Put to number what)) o ≡ false → AreApart (change setup t v (acts.Put to number what) came).moves
     sent_apart to number (tokens.Request r) n = put_apart to number _ (v.here (ids.Request r)) (other r n)
@@ -205,6 +209,8 @@ module _ (req : ReqId) where
     sent_apart to number (tokens.Channel dev) n = (refl, tt)
     sent_apart to number (tokens.Device dev) n = (refl, tt)
     sent_apart to number (tokens.Go r threads) n = (refl, tt)
+    sent_apart to number (tokens.Grow dev blocks) n = (refl, tt)
+    sent_apart to number (tokens.Sized handle blocks) n = (refl, tt)
 
     came_apart : (source number : ℕ) (what : Token) → reaches setup (reach_of (acts.Took source number what)) o ≡ false → is_about req (id_of source t number what) ≡ false
     came_apart source number (tokens.Request r) n = other r n
@@ -215,6 +221,8 @@ module _ (req : ReqId) where
     came_apart source number (tokens.Channel dev) n = refl
     came_apart source number (tokens.Device dev) n = refl
     came_apart source number (tokens.Go r threads) n = refl
+    came_apart source number (tokens.Grow dev blocks) n = refl
+    came_apart source number (tokens.Sized handle blocks) n = refl
 
     pub act_apart : (act : Act) → reaches setup (reach_of act) o ≡ false → AreApart (change setup t v act came).moves
     act_apart (acts.Put to number what) n = sent_apart to number what n
@@ -232,11 +240,14 @@ module _ (req : ReqId) where
     act_apart (acts.Release r now) n = edited_apart r _ (request_here v r) (other r n)
     act_apart (acts.Abort r cause) n = edited_apart r _ (request_here v r) (other r n)
     act_apart (acts.Complete r status shown) n = closed_apart v r (request_here v r) (other r n)
-    act_apart (acts.Visit walk dev kind) n = walked_if_apart t walk (marked_by setup t v dev kind) (walk_here v walk)
+    act_apart (acts.Visit walk dev kind) n = walked_if_apart t walk (marked_by setup t v walk dev kind) (walk_here v walk)
     act_apart (acts.Tick dev now slices) n = tt
     act_apart (acts.Destruct dev digest) n = tt
     act_apart (acts.Script line outcome) n = tt
     act_apart acts.Shutdown n = tt
+    act_apart (acts.Grow dev blocks) n = tt
+    act_apart (acts.Grace walk until) n = tt
+    act_apart (acts.Due walk now) n = tt
 
   -- ---- what is here
 

@@ -40,12 +40,13 @@ use Rattle.bd_machine.specs.Admission.{is_gone}
 use Rattle.bd_machine.specs.Asked.{owes_removal}
 use Rattle.bd_machine.specs.BlockMap.{below, home, size_of}
 use Rattle.bd_machine.specs.Changes.{is_dropped}
-use Rattle.bd_machine.specs.Events.{decided_by, paid, owing, with_due, alone, closed_by, born, all_born, got_by, put_down_by, put_paid, dropped_by, removal_paid, with_reset, advanced, reset_finishes, freed_by, channel_due, removing, reset_begun, reset_thaws, injection_taken, change_reg, first_req}
+use Rattle.bd_machine.specs.Events.{decided_by, paid, owing, with_due, alone, closed_by, born, all_born, got_by, put_down_by, put_paid, dropped_by, removal_paid, with_reset, advanced, reset_finishes, freed_by, channel_due, removing, reset_begun, reset_thaws, injection_taken, drain_time, resizing, resized, change_reg, first_req}
 use Rattle.bd_machine.specs.Guards.{change}
 use Rattle.bd_machine.specs.Homes.{base_here, change_applied}
 use Rattle.bd_machine.specs.Kept.{request_here, piece_here, walk_here}
 use Rattle.bd_machine.specs.Limits.{arrived, departed, is_limited, next_limited, waits_at}
-use Rattle.bd_machine.specs.Marks.{remarked, frozen_as, freeze_set, marking_of, removal_set, unmarked}
+use Rattle.bd_machine.specs.Marks.{remarked, born_as, with_frozen, freeze_set, marking_of, removal_set, unmarked}
+use Rattle.bd_machine.specs.declared.state.FreezeMark.TheVariants.{Not}
 use Rattle.bd_machine.specs.Messages.{request_took, told_part, freezes, went, told_walk, taken_by, arrived_walk, closed_notice}
 use Rattle.bd_machine.specs.Registry.{made, device_named}
 use Rattle.bd_machine.specs.Same.{same_dev}
@@ -53,7 +54,7 @@ use Rattle.bd_machine.specs.Table.{look_up, write}
 use Rattle.bd_machine.specs.Threads.{is_nobody}
 use Rattle.bd_machine.specs.Users.{dev_of, is_base_handle}
 use Rattle.bd_machine.specs.View.{View, Came, Change, id_of}
-use Rattle.bd_machine.specs.Walks.{staged, numbered, over_nobody, begin_walk, after_walk, is_at_end, walked, drain_threads, put_owed, marked_by, visited, walked_if_any, reset_of}
+use Rattle.bd_machine.specs.Walks.{staged, numbered, over_nobody, begin_walk_with, begin_walk, time_of_walk, after_walk, is_at_end, walked, drain_threads, put_owed, marked_by, visited, walked_if_any, reset_of}
 use Rattle.bd_machine.proofs.Tables.{look_up-write, IsSame}
 
 pub dev_same : IsSame same_dev
@@ -93,7 +94,7 @@ module _ (Out : DevId → Type 0) where
 
   born_holds : (frozen ds : List DevId) (p : Part) → AllByRecursion IsNone ds → Holds p (all_born frozen ds p)
   born_holds frozen [] p none = λ d out. refl
-  born_holds frozen (x ∷ xs) p none = holds_then p (born frozen x p) (all_born frozen xs (born frozen x p)) (remarked_holds p x (frozen_as (list_any (same_dev x) frozen)) none.0) (born_holds frozen xs (born frozen x p) none.1)
+  born_holds frozen (x ∷ xs) p none = holds_then p (born frozen x p) (all_born frozen xs (born frozen x p)) (remarked_holds p x (with_frozen (born_as (list_any (same_dev x) frozen))) none.0) (born_holds frozen xs (born frozen x p) none.1)
 
   -- those of these whose channels are made are some of these
   made_none : (channels : DevId → Option ℕ) (ds : List DevId) → AllByRecursion IsNone ds → AllByRecursion IsNone (made channels ds)
@@ -116,8 +117,8 @@ module _ (Out : DevId → Type 0) where
 
   dropped_holds : (t : ℕ) (dev : DevId) (a : Answer) (p : Part) → IsNone dev → Holds p (dropped_by t dev a p)
   dropped_holds t dev (answers.Dropped what zero destruct) p none =
-      let q : Part = cond (is_dropped what) (remarked dev (frozen_as false) p) p in
-      holds_then p q (with_due (channel_due t zero) q) (holds_cond (is_dropped what) p (remarked dev (frozen_as false) p) p (remarked_holds p dev (frozen_as false) none) (λ d out. refl)) (λ d out. refl)
+      let q : Part = cond (is_dropped what) (remarked dev (with_frozen Not) p) p in
+      holds_then p q (with_due (channel_due t zero) q) (holds_cond (is_dropped what) p (remarked dev (with_frozen Not) p) p (remarked_holds p dev (with_frozen Not) none) (λ d out. refl)) (λ d out. refl)
   dropped_holds t dev _ p none = λ d out. refl
 
   removal_holds : (came : Came) (a : Answer) (o : Option ℕ) (p : Part) → Holds p (removal_paid came a o p)
@@ -142,11 +143,13 @@ module _ (Out : DevId → Type 0) where
   SparesVisit dev Drain = Unit {0}
   SparesVisit dev _ = IsNone dev
 
-  marked_holds : (setup : Setup) (t : ℕ) (v : View) (dev : DevId) (kind : WalkKind) → SparesVisit dev kind → Holds v.part (marked_by setup t v dev kind)
-  marked_holds setup t v dev Freeze none = holds_cond _ v.part (remarked dev freeze_set v.part) v.part (remarked_holds v.part dev freeze_set none) (λ d out. refl)
-  marked_holds setup t v dev Drain none = λ d out. refl
-  marked_holds setup t v dev Thaw none = remarked_holds v.part dev (frozen_as false) none
-  marked_holds setup t v dev Removal none =
+  marked_holds : (setup : Setup) (t : ℕ) (v : View) (walk : WalkId) (dev : DevId) (kind : WalkKind) → SparesVisit dev kind → Holds v.part (marked_by setup t v walk dev kind)
+  marked_holds setup t v walk dev Freeze none =
+      let set : Marking → Marking = freeze_set walk (time_of_walk (walk_here v walk)) in
+      holds_cond _ v.part (remarked dev set v.part) v.part (remarked_holds v.part dev set none) (λ d out. refl)
+  marked_holds setup t v walk dev Drain none = λ d out. refl
+  marked_holds setup t v walk dev Thaw none = remarked_holds v.part dev (with_frozen Not) none
+  marked_holds setup t v walk dev Removal none =
       let p : Part = remarked dev removal_set v.part in
       holds_then v.part p (put_owed setup t dev p) (remarked_holds v.part dev removal_set none) (holds_cond (is_limited setup dev && (home setup dev == t)) p (owing (owes.Put dev) p) p (λ d out. refl) (λ d out. refl))
 
@@ -156,6 +159,8 @@ module _ (Out : DevId → Type 0) where
   told_holds setup (news.Channel dev) p = λ d out. refl
   told_holds setup (news.Device dev) p = λ d out. refl
   told_holds setup (news.Go req threads) p = λ d out. refl
+  told_holds setup (news.Grow dev blocks) p = λ d out. refl
+  told_holds setup (news.Sized handle blocks) p = λ d out. refl
 
   -- ---- walks
 
@@ -165,13 +170,13 @@ module _ (Out : DevId → Type 0) where
   nobody_holds Thaw req p = holds_then p (numbered 1 p) (staged req stages.Thawed (numbered 1 p)) (λ d out. refl) (staged_holds req stages.Thawed (numbered 1 p))
   nobody_holds Removal req p = λ d out. refl
 
-  begin_holds : (t : ℕ) (kind : WalkKind) (dev : DevId) (threads : ThreadSet) (req : Option ReqId) (c : Change) → Holds c.part (begin_walk t kind dev threads req c).part
-  begin_holds t kind dev threads req c = change_cond (is_nobody threads) c.part _ _ (nobody_holds kind req c.part) (λ d out. refl)
+  begin_holds : (t : ℕ) (kind : WalkKind) (dev : DevId) (threads : ThreadSet) (req : Option ReqId) (time : ℕ) (c : Change) → Holds c.part (begin_walk_with t kind dev threads req time c).part
+  begin_holds t kind dev threads req time c = change_cond (is_nobody threads) c.part _ _ (nobody_holds kind req c.part) (λ d out. refl)
 
   after_holds : (t : ℕ) (w : OpenWalk) (kind : WalkKind) (c : Change) → Holds c.part (after_walk t w kind c).part
   after_holds t w Freeze c =
       let d : Change = record { part = staged w.request stages.Draining c.part; moves = c.moves } in
-      holds_then c.part d.part (begin_walk t Drain w.dev (drain_threads c.part w.request) w.request d).part (staged_holds w.request stages.Draining c.part) (begin_holds t Drain w.dev (drain_threads c.part w.request) w.request d)
+      holds_then c.part d.part (begin_walk t Drain w.dev (drain_threads c.part w.request) w.request d).part (staged_holds w.request stages.Draining c.part) (begin_holds t Drain w.dev (drain_threads c.part w.request) w.request 0 d)
   after_holds t w Drain c = staged_holds w.request stages.Drained c.part
   after_holds t w Thaw c = staged_holds w.request stages.Thawed c.part
   after_holds t w Removal c = λ d out. refl
@@ -187,7 +192,7 @@ module _ (Out : DevId → Type 0) where
   went_holds t req threads None c = λ d out. refl
   went_holds t req threads (Some r) c =
       let d : Change = record { part = freezes req threads c.part; moves = c.moves } in
-      holds_then c.part d.part (begin_walk t Freeze r.dev threads (Some req) d).part (λ d out. refl) (begin_holds t Freeze r.dev threads (Some req) d)
+      holds_then c.part d.part (begin_walk_with t Freeze r.dev threads (Some req) r.time d).part (λ d out. refl) (begin_holds t Freeze r.dev threads (Some req) r.time d)
 
   told_walk_holds : (t : ℕ) (told : News) (c : Change) → Holds c.part (told_walk t told c).part
   told_walk_holds t (news.Go req threads) c = went_holds t req threads (reset_of c.part req) c
@@ -195,6 +200,8 @@ module _ (Out : DevId → Type 0) where
   told_walk_holds t (news.Gone handle) c = λ d out. refl
   told_walk_holds t (news.Channel dev) c = λ d out. refl
   told_walk_holds t (news.Device dev) c = λ d out. refl
+  told_walk_holds t (news.Grow dev blocks) c = λ d out. refl
+  told_walk_holds t (news.Sized handle blocks) c = λ d out. refl
 
   -- none of these devices is one whose marks the act may change
   abbrev pub SparesEvent : Setup → RegEvent → Type 0
@@ -205,6 +212,8 @@ module _ (Out : DevId → Type 0) where
   abbrev pub Spares : Setup → Act → Type 0
   Spares setup (acts.Reg event a) = SparesEvent setup event
   Spares setup (acts.Visit walk dev kind) = SparesVisit dev kind
+  Spares setup (acts.Grace walk until) = ⊥
+  Spares setup (acts.Due walk now) = ⊥
   Spares setup _ = Unit {0}
 
   -- ---- messages taken
@@ -239,24 +248,33 @@ module _ (Out : DevId → Type 0) where
   removing_holds : (setup : Setup) (t : ℕ) (a : Answer) (p : Part) → Holds p (removing setup t a p).part
   removing_holds setup t (answers.Removing dev threads handles destruct) p =
       let c : Change = alone (with_due _ p) in
-      holds_then p c.part (begin_walk t Removal dev threads None c).part (λ d out. refl) (begin_holds t Removal dev threads None c)
+      holds_then p c.part (begin_walk t Removal dev threads None c).part (λ d out. refl) (begin_holds t Removal dev threads None 0 c)
   removing_holds setup t _ p = λ d out. refl
 
   begun_holds : (t : ℕ) (dev : DevId) (req : ReqId) (a : Answer) (p : Part) → Holds p (reset_begun t dev req a p).part
   begun_holds t dev req (answers.ResetStarted threads) p =
       let c : Change = alone (with_reset req dev stages.Freezing threads p) in
-      holds_then p c.part (begin_walk t Freeze dev threads (Some req) c).part (λ d out. refl) (begin_holds t Freeze dev threads (Some req) c)
+      let time : ℕ = drain_time p req in
+      holds_then p c.part (begin_walk_with t Freeze dev threads (Some req) time c).part (λ d out. refl) (begin_holds t Freeze dev threads (Some req) time c)
   begun_holds t dev req _ p = λ d out. refl
 
   thaws_holds : (t : ℕ) (dev : DevId) (a : Answer) (p : Part) → Holds p (reset_thaws t dev a p).part
   thaws_holds t dev (answers.ResetEnded threads) p =
       let c : Change = alone (advanced dev stages.Drained stages.Thawing p) in
-      holds_then p c.part (begin_walk t Thaw dev threads (first_req p.resets dev stages.Drained) c).part (λ d out. refl) (begin_holds t Thaw dev threads (first_req p.resets dev stages.Drained) c)
+      holds_then p c.part (begin_walk t Thaw dev threads (first_req p.resets dev stages.Drained) c).part (λ d out. refl) (begin_holds t Thaw dev threads (first_req p.resets dev stages.Drained) 0 c)
   thaws_holds t dev _ p = λ d out. refl
 
   injection_holds : (v : View) (req : ReqId) (a : Answer) → Holds v.part (injection_taken v req a).part
   injection_holds v req (answers.Injected decision) = λ d out. refl
   injection_holds v req _ = λ d out. refl
+
+  resizing_holds : (blocks : ℕ) (a : Answer) (p : Part) → Holds p (resizing blocks a p)
+  resizing_holds blocks (answers.Resizing dev at) p = λ d out. refl
+  resizing_holds blocks _ p = λ d out. refl
+
+  resized_holds : (a : Answer) (p : Part) → Holds p (resized a p)
+  resized_holds (answers.Resized handles blocks destruct) p = λ d out. refl
+  resized_holds _ p = λ d out. refl
 
   reg_holds : (setup : Setup) (t : ℕ) (v : View) (came : Came) (event : RegEvent) (a : Answer) → Spares setup (acts.Reg event a) → Holds v.part (change_reg setup t v came event a).part
   reg_holds setup t v came (events.Open name write) a spares = λ d out. refl
@@ -273,6 +291,8 @@ module _ (Out : DevId → Type 0) where
   reg_holds setup t v came (events.FinishReset dev) a spares = finishes_holds dev a v.part
   reg_holds setup t v came (events.TakeInjection dev req op) a spares = injection_holds v req a
   reg_holds setup t v came (events.Destructed dev) a spares = λ d out. freed_holds a (paid (owes.Report dev) v.part) d out
+  reg_holds setup t v came (events.BeginResize name blocks) a spares = λ d out. resizing_holds blocks a (decided_by came a v.part) d out
+  reg_holds setup t v came (events.EndResize dev) a spares = λ d out. resized_holds a (paid (owes.EndResize dev) v.part) d out
 
   -- ---- acts
 
@@ -280,10 +300,10 @@ module _ (Out : DevId → Type 0) where
   applied_holds v req k dev end size (Some p) (Some b) = λ d out. refl
   applied_holds v req k dev end size _ _ = λ d out. refl
 
-  visit_holds : (setup : Setup) (t : ℕ) (v : View) (walk : WalkId) (dev : DevId) (kind : WalkKind) → SparesVisit dev kind → Holds v.part (walked_if_any t walk (marked_by setup t v dev kind) (walk_here v walk)).part
+  visit_holds : (setup : Setup) (t : ℕ) (v : View) (walk : WalkId) (dev : DevId) (kind : WalkKind) → SparesVisit dev kind → Holds v.part (walked_if_any t walk (marked_by setup t v walk dev kind) (walk_here v walk)).part
   visit_holds setup t v walk dev kind none =
-      let p : Part = marked_by setup t v dev kind in
-      holds_then v.part p (walked_if_any t walk p (walk_here v walk)).part (marked_holds setup t v dev kind none) (walked_if_holds t walk p (walk_here v walk))
+      let p : Part = marked_by setup t v walk dev kind in
+      holds_then v.part p (walked_if_any t walk p (walk_here v walk)).part (marked_holds setup t v walk dev kind none) (walked_if_holds t walk p (walk_here v walk))
 
   stopped_holds : (setup : Setup) (p : Part) (req : ReqId) (x : Option OpenRequest) → Holds p (stopped setup p req x)
   stopped_holds setup p req None = λ d out. refl
@@ -300,4 +320,6 @@ module _ (Out : DevId → Type 0) where
   marks_stay setup t v (acts.Apply req k dev end) came spares = λ d out. applied_holds v req k dev end (size_of setup dev) (piece_here v req k) (base_here v dev) d out
   marks_stay setup t v (acts.Visit walk dev kind) came spares = λ d out. visit_holds setup t v walk dev kind spares d out
   marks_stay setup t v (acts.Abort req cause) came spares = λ d out. stopped_holds setup v.part req (request_here v req) d out
+  marks_stay setup t v (acts.Grace walk until) came spares = absurd spares
+  marks_stay setup t v (acts.Due walk now) came spares = absurd spares
   marks_stay setup t v _ came spares = λ d out. refl

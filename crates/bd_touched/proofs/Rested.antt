@@ -159,6 +159,8 @@ module _ (setup : Setup) (o : Open) (work : is_reset o.op ≡ false) where
   spares (acts.Reg (events.DropChannel dev) a) h = none_below dev h
   spares (acts.Reg _ a) h = tt
   spares (acts.Visit walk dev kind) h = visit_spares dev kind h
+  spares (acts.Grace walk until) h = let no : true ≡ false = h in cc
+  spares (acts.Due walk now) h = let no : true ≡ false = h in cc
   spares _ h = tt
 
 -- what a thread sees after it shows the same

@@ -21,6 +21,7 @@ use Rattle.bd_machine.specs.declared.state.Id.TheVariants as ids
 use Rattle.bd_machine.specs.declared.state.Marking.{Marking}
 use Rattle.bd_machine.specs.declared.state.OpenPiece.{OpenPiece}
 use Rattle.bd_machine.specs.declared.state.OpenRequest.{OpenRequest}
+use Rattle.bd_base.specs.DevSet.{has_dev}
 use Rattle.bd_machine.specs.Aborts.{is_below, is_cause, is_held, is_stoppable, may_abort}
 use Rattle.bd_machine.specs.Admission.{has_range}
 use Rattle.bd_machine.specs.BlockMap.{below}
@@ -29,7 +30,7 @@ use Rattle.bd_machine.specs.Delays.{is_before, is_delayed, is_served, last_momen
 use Rattle.bd_machine.specs.Injections.{errors_below, goes_on, has_every_decision, is_fail, is_under_way, may_pend}
 use Rattle.bd_machine.specs.Kept.{as_piece, is_at_own, piece_here}
 use Rattle.bd_machine.specs.Limits.{next_limited, way_of}
-use Rattle.bd_machine.specs.Marks.{has_mark, is_marked, is_removed, marking_of}
+use Rattle.bd_machine.specs.Marks.{is_hard_mark, is_marked, is_removed, is_soft_mark, marking_of, stops_here}
 use Rattle.bd_machine.specs.Requests.{is_walking, may_complete, may_cut}
 use Rattle.bd_machine.specs.Same.{same_dev, same_op, is_the}
 use Rattle.bd_machine.specs.Statuses.{is_delay_left, is_failed, is_status, is_success_due, may_be_status}
@@ -176,39 +177,39 @@ module _ (setup : Setup) (t : ℕ) (req : ReqId) (r : OpenRequest) (v w : View) 
   may_abort_same = ap (λ b. has_range r.op && is_none r.aborted && not (is_fail r.injected.last) && b) stoppable_same
 
   module _ (uncut : is_none r.pieces ≡ true) where
-    mark_same : (d : DevId) → is_below setup r.dev d ≡ true → has_mark w.part d ≡ has_mark v.part d
-    mark_same d h = ap (λ (m : Marking). m.frozen || m.removed) (same.marks uncut d h)
+    mark_same : (d : DevId) → is_below setup r.dev d ≡ true → stops_here w.part r.late d ≡ stops_here v.part r.late d
+    mark_same d h = ap (λ (m : Marking). m.removed || (is_hard_mark m.frozen || (is_soft_mark m.frozen && has_dev r.late d))) (same.marks uncut d h)
 
-    cause_same : (o : Option DevId) → find (has_mark v.part) (below setup r.dev) ≡ o → option_map (cause_at w.part) o ≡ option_map (cause_at v.part) o
+    cause_same : (o : Option DevId) → find (stops_here v.part r.late) (below setup r.dev) ≡ o → option_map (cause_at w.part) o ≡ option_map (cause_at v.part) o
     cause_same None e = refl
     cause_same (Some d) e =
-        let is = found_is_in (has_mark v.part) (below setup r.dev) d e in
+        let is = found_is_in (stops_here v.part r.late) (below setup r.dev) d e in
         ap (λ (m : Marking). let c : Option AbortCause = Some (cond m.removed (Removed d) (Frozen d)) in c) (same.marks uncut d is.stands)
 
-    below_same : mark_below setup w.part r.dev ≡ mark_below setup v.part r.dev
+    below_same : mark_below setup w.part r ≡ mark_below setup v.part r
     below_same =
-        ap (option_map (cause_at w.part)) (find_same (has_mark v.part) (has_mark w.part) (below setup r.dev) mark_same)
-        ∙ cause_same (find (has_mark v.part) (below setup r.dev)) refl
+        ap (option_map (cause_at w.part)) (find_same (stops_here v.part r.late) (stops_here w.part r.late) (below setup r.dev) mark_same)
+        ∙ cause_same (find (stops_here v.part r.late) (below setup r.dev)) refl
 
     stop_same : (d : DevId) → is_below setup r.dev d ≡ true → may_stop setup t w req (Some r) (cause_at v.part d) ≡ may_stop setup t v req (Some r) (cause_at v.part d)
     stop_same d h = ap₂ (λ (a b : Bool). a && b) may_abort_same (go (is_removed v.part d))
       where
         go : (b : Bool) → is_cause setup t w req r (cond b (Removed d) (Frozen d)) ≡ is_cause setup t v req r (cond b (Removed d) (Frozen d))
         go true = ap (λ (m : Marking). is_below setup r.dev d && m.removed) (same.marks uncut d h)
-        go false = ap (λ (m : Marking). is_below setup r.dev d && m.frozen) (same.marks uncut d h)
+        go false = ap (λ (m : Marking). is_below setup r.dev d && (is_hard_mark m.frozen || (is_soft_mark m.frozen && has_dev r.late d))) (same.marks uncut d h)
 
-    stops_none : (o : Option DevId) → find (has_mark v.part) (below setup r.dev) ≡ o
+    stops_none : (o : Option DevId) → find (stops_here v.part r.late) (below setup r.dev) ≡ o
         → where_holds (may_stop setup t w req (Some r)) (option_map (cause_at v.part) o) ≡ where_holds (may_stop setup t v req (Some r)) (option_map (cause_at v.part) o)
     stops_none None e = refl
     stops_none (Some d) e =
-        let is = found_is_in (has_mark v.part) (below setup r.dev) d e in
+        let is = found_is_in (stops_here v.part r.late) (below setup r.dev) d e in
         ap (λ b. cond b (Some (cause_at v.part d)) None) (stop_same d is.stands)
 
-    uncut_abort_same : where_holds (may_stop setup t w req (Some r)) (mark_below setup w.part r.dev) ≡ where_holds (may_stop setup t v req (Some r)) (mark_below setup v.part r.dev)
-    uncut_abort_same = ap (where_holds (may_stop setup t w req (Some r))) below_same ∙ stops_none (find (has_mark v.part) (below setup r.dev)) refl
+    uncut_abort_same : where_holds (may_stop setup t w req (Some r)) (mark_below setup w.part r) ≡ where_holds (may_stop setup t v req (Some r)) (mark_below setup v.part r)
+    uncut_abort_same = ap (where_holds (may_stop setup t w req (Some r))) below_same ∙ stops_none (find (stops_here v.part r.late) (below setup r.dev)) refl
 
-    marked_same : is_marked setup w.part r.dev ≡ is_marked setup v.part r.dev
-    marked_same = any_same (has_mark v.part) (has_mark w.part) (below setup r.dev) mark_same
+    marked_same : is_marked setup w.part r ≡ is_marked setup v.part r
+    marked_same = any_same (stops_here v.part r.late) (stops_here w.part r.late) (below setup r.dev) mark_same
 
   cond_where : {X : Type 0} (b : Bool) (x y z : X) → (b ≡ true → x ≡ y) → cond b x z ≡ cond b y z
   cond_where true x y z h = h refl
@@ -226,7 +227,7 @@ module _ (setup : Setup) (t : ℕ) (req : ReqId) (r : OpenRequest) (v w : View) 
   and_where false b false d m n e f h = refl
 
   under_same : is_under_way setup t w req r ≡ is_under_way setup t v req r
-  under_same = and_where (is_at_own t req r) (has_range r.op) (is_none r.pieces) (is_none r.aborted) (is_marked setup w.part r.dev) (is_marked setup v.part r.dev) (is_none (next_limited setup r)) (goes_on r.injected.last) marked_same
+  under_same = and_where (is_at_own t req r) (has_range r.op) (is_none r.pieces) (is_none r.aborted) (is_marked setup w.part r) (is_marked setup v.part r) (is_none (next_limited setup r)) (goes_on r.injected.last) marked_same
 
   ask_same : decision_due setup t w req r ≡ decision_due setup t v req r
   ask_same = go (slice_get (errors_below setup r.dev) r.injected.count)
@@ -244,7 +245,7 @@ module _ (setup : Setup) (t : ℕ) (req : ReqId) (r : OpenRequest) (v w : View) 
   success_same ops.Zeroes h = ap (λ (ps : List (Option OpenPiece)). is_some r.pieces && list_all is_done ps) pieces_same
   success_same ops.Unmap h = ap (λ (ps : List (Option OpenPiece)). is_some r.pieces && list_all is_done ps) pieces_same
   success_same ops.Flush h = ap (λ (ps : List (Option OpenPiece)). is_some r.pieces && list_all is_done ps) pieces_same
-  success_same ops.Reset h = cc
+  success_same (ops.Reset time) h = cc
   success_same (ops.Abort seq) h = cc
 
   status_same : (s : Status) → is_status w req r s ≡ is_status v req r s

@@ -21,7 +21,7 @@ use Rattle.bd_machine.specs.BlockMap.{below}
 use Rattle.bd_machine.specs.Same.{same_request}
 use Rattle.bd_machine.specs.Walks.{is_kept_waiting}
 use Rattle.bd_touched.specs.declared.reach.Reach.{Reach}
-use Rattle.bd_touched.specs.declared.reach.Reach.TheVariants.{Nobody, Named, Over, Along}
+use Rattle.bd_touched.specs.declared.reach.Reach.TheVariants.{Nobody, Everybody, Named, Over, Along}
 
 -- ---- an act
 
@@ -43,7 +43,7 @@ abbrev pub reach_of_visit : DevId → WalkKind → Reach
 reach_of_visit dev Drain = Nobody
 reach_of_visit dev _ = Over dev
 
--- an act reaches the request that it names; and one that may change the marks of devices, those that have one of them below
+-- an act reaches the request that it names; and one that may change the marks of devices, those that have one of them below; Grace and Due, which change the mark that a walk set on a device that they don't name, all
 abbrev pub reach_of : Act → Reach
 reach_of (acts.Put to number what) = reach_of_token what
 reach_of (acts.Took source number what) = reach_of_token what
@@ -60,11 +60,14 @@ reach_of (acts.Release req now) = Named req
 reach_of (acts.Abort req cause) = Named req
 reach_of (acts.Complete req status shown) = Named req
 reach_of (acts.Visit walk dev kind) = reach_of_visit dev kind
+reach_of (acts.Grace walk until) = Everybody
+reach_of (acts.Due walk now) = Everybody
 reach_of _ = Nobody
 
 -- the open request is reached: marks reach no reset, which no mark stops
 abbrev pub reaches : Setup → Reach → Open → Bool
 reaches setup Nobody o = false
+reaches setup Everybody o = true
 reaches setup (Named req) o = same_request req o.id
 reaches setup (Over dev) o = is_kept_waiting setup dev o
 reaches setup (Along dev) o = list_any (λ d. is_kept_waiting setup d o) (below setup dev)

@@ -8,6 +8,8 @@ use bd_base::{Act, DevId, RegEvent, ReqId, Token, WalkKind};
 #[derive(Clone, Copy, PartialEq, Eq)]
 pub enum Reach {
     Nobody,
+    /// All.
+    Everybody,
     /// This one.
     Named(ReqId),
     /// Those that have this device below and are no resets.
@@ -68,6 +70,7 @@ pub(crate) fn reach_of(act: &Act) -> Reach
         | Act::Abort { req, .. }
         | Act::Complete { req, .. } => Reach::Named(*req),
         Act::Visit { dev, kind, .. } => reach_of_visit(*dev, *kind),
+        Act::Grace { .. } | Act::Due { .. } => Reach::Everybody,
         _ => Reach::Nobody,
     }
 }

@@ -152,6 +152,7 @@ impl Touched {
     {
         match reach_of(act) {
             Reach::Nobody => {}
+            Reach::Everybody => self.set_all(),
             Reach::Named(req) => {
                 if req.thread == me {
                     self.add(req);

@@ -7,10 +7,11 @@ use Rattle.bd_base.specs.declared.act.Outcome.{Outcome}
 use Rattle.bd_base.specs.declared.act.Outcome.TheVariants as outcomes
 use Rattle.bd_base.specs.declared.id.DevId.{DevId}
 use Rattle.bd_base.specs.declared.id.ReqId.{ReqId}
+use Rattle.bd_base.specs.declared.id.WalkId.{WalkId}
 use Rattle.bd_base.specs.declared.request.AbortCause.{AbortCause}
 use Rattle.bd_base.specs.declared.request.AbortCause.TheVariants.{Frozen, Removed, Named}
 use Rattle.bd_base.specs.declared.request.Shown.{Shown}
-use Rattle.bd_trace.specs.Fields.{word_field, number_field, request_field, device_field, handle_field, handle_field_if, hex_field, digest_field_if}
+use Rattle.bd_trace.specs.Fields.{word_field, number_field, blocks_field, request_field, device_field, handle_field, handle_field_if, hex_field, digest_field_if}
 use Rattle.bd_trace.specs.Messages.{walk_field, token_fields}
 use Rattle.bd_trace.specs.Registry.{errno_field, type_fields, event_fields, answer_fields}
 use Rattle.bd_trace.specs.Words.{end_word, decision_word, walk_word}
@@ -47,7 +48,7 @@ outcome_fields (outcomes.Errno errno) = word_field (codes "outcome") (codes "ref
 outcome_fields (outcomes.BusyOpen requests) = word_field (codes "outcome") (codes "busy") ++ number_field (codes "open") requests
 outcome_fields (outcomes.Accepted req) = word_field (codes "outcome") (codes "accepted") ++ of_request req
 
--- an act about a request, a device or a piece: its word and what it is about
+-- an act about a request, a device, a piece or a walk: its word and what it is about
 unfoldable pub request_act : List ℕ → ReqId → List ℕ
 request_act word req = word ++ of_request req
 
@@ -56,6 +57,9 @@ device_act word dev = word ++ of_device dev
 
 unfoldable pub piece_act : List ℕ → ReqId → ℕ → DevId → List ℕ
 piece_act word req k dev = word ++ of_piece req k dev
+
+unfoldable pub walk_act : List ℕ → WalkId → List ℕ
+walk_act word walk = word ++ walk_field walk
 
 -- a message: its word, the other thread under a key, its number and what it brings
 unfoldable pub message_act : List ℕ → List ℕ → ℕ → ℕ → List ℕ
@@ -79,8 +83,11 @@ act_words (acts.Hold req until) = request_act (codes "hold") req ++ number_field
 act_words (acts.Release req now) = request_act (codes "release") req ++ number_field (codes "now") now
 act_words (acts.Abort req cause) = request_act (codes "abort") req ++ cause_fields cause
 act_words (acts.Complete req status shown) = request_act (codes "complete") req ++ word_field (codes "status") (status_word status) ++ shown_fields shown
-act_words (acts.Visit walk dev kind) = codes "visit" ++ walk_field walk ++ of_device dev ++ word_field (codes "kind") (walk_word kind)
+act_words (acts.Visit walk dev kind) = walk_act (codes "visit") walk ++ of_device dev ++ word_field (codes "kind") (walk_word kind)
 act_words (acts.Tick dev now slices) = device_act (codes "tick") dev ++ number_field (codes "now") now ++ number_field (codes "slices") slices
 act_words (acts.Destruct dev digest) = device_act (codes "destruct") dev ++ digest_field_if digest
 act_words (acts.Script line outcome) = codes "script" ++ number_field (codes "line") line ++ outcome_fields outcome
 act_words acts.Shutdown = codes "shutdown"
+act_words (acts.Grow dev blocks) = device_act (codes "grow") dev ++ blocks_field blocks
+act_words (acts.Grace walk until) = walk_act (codes "grace") walk ++ number_field (codes "until") until
+act_words (acts.Due walk now) = walk_act (codes "due") walk ++ number_field (codes "now") now

@@ -33,6 +33,10 @@ unfoldable pub device_field_if : List ℕ → Option DevId → List ℕ
 device_field_if key None = []
 device_field_if key (Some dev) = device_field key dev
 
+-- a number of blocks
+unfoldable pub blocks_field : ℕ → List ℕ
+blocks_field blocks = number_field (codes "blocks") blocks
+
 -- a handle under this key
 unfoldable pub handle_field : List ℕ → HandleId → List ℕ
 handle_field key handle = number_field key handle.0

@@ -1,12 +1,12 @@
 //! What a line says of an act.
 ghost use Rattle.std.specs.Prelude.{◌≡◌, ◌++◌, OnOk};
-ghost use Rattle.bd_trace.specs.Acts.{of_request, of_device, of_piece, range_fields, cause_fields, shown_fields, outcome_fields, request_act, device_act, piece_act, message_act, act_words};
+ghost use Rattle.bd_trace.specs.Acts.{of_request, of_device, of_piece, range_fields, cause_fields, shown_fields, outcome_fields, request_act, device_act, piece_act, walk_act, message_act, act_words};
 
 use crate::messages::{add_token, add_walk};
 use crate::registry::{add_answer, add_errno, add_event, add_type};
 use crate::text::Text;
 use crate::words::{decision_word, end_word, walk_word};
-use bd_base::{AbortCause, Act, DevId, OutOfMemory, Outcome, ReqId, Shown};
+use bd_base::{AbortCause, Act, DevId, OutOfMemory, Outcome, ReqId, Shown, WalkId};
 
 // Adds the request that an act is about.
 #[tactic(auto, unfolding(crate::specs::Acts::of_request))]
@@ -133,6 +133,15 @@ fn add_piece_act(
     add_piece(text, req, k, dev)
 }
 
+// Adds the word of an act, and the walk that it is about.
+#[tactic(auto, unfolding(crate::specs::Acts::walk_act))]
+fn add_walk_act(text: &mut Text, word: &str, walk: WalkId) -> Result<(), OutOfMemory>
+    ensures { OnOk result (text.new ≡ text.old ++ walk_act word.now walk) }
+{
+    text.add(word.as_bytes())?;
+    add_walk(text, walk)
+}
+
 // Adds the word of a message, the other thread and its number.
 #[tactic(auto, unfolding(crate::specs::Acts::message_act))]
 fn add_message_act(
@@ -237,8 +246,7 @@ pub(crate) fn add_act(text: &mut Text, act: &Act) -> Result<(), OutOfMemory>
             add_shown(text, *shown)
         }
         Act::Visit { walk, dev, kind } => {
-            text.add(b"visit")?;
-            add_walk(text, *walk)?;
+            add_walk_act(text, "visit", *walk)?;
             add_device(text, *dev)?;
             text.word("kind", walk_word(*kind).as_bytes())
         }
@@ -257,5 +265,17 @@ pub(crate) fn add_act(text: &mut Text, act: &Act) -> Result<(), OutOfMemory>
             add_outcome(text, *outcome)
         }
         Act::Shutdown => text.add(b"shutdown"),
+        Act::Grow { dev, blocks } => {
+            add_device_act(text, "grow", *dev)?;
+            text.blocks(*blocks)
+        }
+        Act::Grace { walk, until } => {
+            add_walk_act(text, "grace", *walk)?;
+            text.number("until", u128::from(*until))
+        }
+        Act::Due { walk, now } => {
+            add_walk_act(text, "due", *walk)?;
+            text.number("now", u128::from(*now))
+        }
     }
 }

@@ -61,5 +61,15 @@ pub(crate) fn add_token(text: &mut Text, token: &Token) -> Result<(), OutOfMemor
             add_message(text, "mark")?;
             text.word("mark", mark.as_slice())
         }
+        Token::Grow(dev, blocks) => {
+            add_message(text, "grow")?;
+            text.device("device", *dev)?;
+            text.blocks(*blocks)
+        }
+        Token::Sized(handle, blocks) => {
+            add_message(text, "sized")?;
+            text.handle("handle", *handle)?;
+            text.blocks(*blocks)
+        }
     }
 }

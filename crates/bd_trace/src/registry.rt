@@ -1,7 +1,7 @@
 //! Events of the registry, and its answers.
 ghost use Rattle.std.specs.Prelude.{◌≡◌, ◌++◌, OnOk, flat_map, codes};
 ghost use Rattle.bd_trace.specs.Fields.{device_field, owned_fields};
-ghost use Rattle.bd_trace.specs.Registry.{errno_field, carried_fields, type_fields, claim_fields, event_field, device_event, handle_event, named_event, event_fields, answer_field, next_fields, answer_fields};
+ghost use Rattle.bd_trace.specs.Registry.{errno_field, drain_field, carried_fields, type_fields, claim_fields, event_field, device_event, handle_event, named_event, resize_event, event_fields, answer_field, next_fields, answer_fields};
 
 use crate::text::Text;
 use crate::words::{decision_word, drop_word, flag_word, mode_word, type_word};
@@ -18,6 +18,17 @@ pub(crate) fn add_errno(text: &mut Text, errno: Errno) -> Result<(), OutOfMemory
     text.number("errno", u128::from(errno.number()))
 }
 
+// Adds the drain time of a reset, if it has one.
+#[tactic(auto, unfolding(crate::specs::Registry::drain_field))]
+fn add_drain(text: &mut Text, time: u64) -> Result<(), OutOfMemory>
+    ensures { OnOk result (text.new ≡ text.old ++ drain_field time) }
+{
+    if time == 0 {
+        return Ok(());
+    }
+    text.number("drain", u128::from(time))
+}
+
 // Adds what a type of request carries.
 #[tactic(auto, unfolding(crate::specs::Registry::carried_fields))]
 fn add_carried(text: &mut Text, op: Op) -> Result<(), OutOfMemory>
@@ -29,7 +40,8 @@ fn add_carried(text: &mut Text, op: Op) -> Result<(), OutOfMemory>
             text.word("flip", flag_word(fill.flip).as_bytes())
         }
         Op::Abort(seq) => text.number("names", u128::from(seq)),
-        Op::Read | Op::Zeroes | Op::Unmap | Op::Flush | Op::Reset => Ok(()),
+        Op::Reset(time) => add_drain(text, time),
+        Op::Read | Op::Zeroes | Op::Unmap | Op::Flush => Ok(()),
     }
 }
 
@@ -93,6 +105,15 @@ fn add_named_event(text: &mut Text, word: &str, name: &Name) -> Result<(), OutOf
     text.word("name", name.as_slice())
 }
 
+// Adds the beginning of a resize of the device of a name, to this number of blocks.
+#[tactic(auto, unfolding(crate::specs::Registry::resize_event))]
+fn add_resize_event(text: &mut Text, name: &Name, blocks: u64) -> Result<(), OutOfMemory>
+    ensures { OnOk result (text.new ≡ text.old ++ resize_event name.now blocks) }
+{
+    add_named_event(text, "begin-resize", name)?;
+    text.blocks(blocks)
+}
+
 /// Adds an event of the registry.
 #[tactic(auto, unfolding(crate::specs::Registry::event_fields))]
 pub(crate) fn add_event(text: &mut Text, event: &RegEvent) -> Result<(), OutOfMemory>
@@ -127,6 +148,8 @@ pub(crate) fn add_event(text: &mut Text, event: &RegEvent) -> Result<(), OutOfMe
             add_type(text, *op)
         }
         RegEvent::Destructed { dev } => add_device_event(text, "destructed", *dev),
+        RegEvent::BeginResize { name, blocks } => add_resize_event(text, name, *blocks),
+        RegEvent::EndResize { dev } => add_device_event(text, "end-resize", *dev),
     }
 }
 
@@ -187,10 +210,15 @@ pub(crate) fn add_answer(text: &mut Text, answer: &Answer) -> Result<(), OutOfMe
     ensures { OnOk result (text.new ≡ text.old ++ answer_fields answer.now) }
 {
     match answer {
-        Answer::Opened { handle, dev } => {
+        Answer::Opened {
+            handle,
+            dev,
+            blocks,
+        } => {
             add_answer_kind(text, "opened")?;
             text.handle("handle", *handle)?;
-            text.device("device", *dev)
+            text.device("device", *dev)?;
+            text.blocks(*blocks)
         }
         Answer::Closed { destruct } => {
             add_answer_kind(text, "closed")?;
@@ -248,6 +276,21 @@ pub(crate) fn add_answer(text: &mut Text, answer: &Answer) -> Result<(), OutOfMe
         Answer::Freed { close } => {
             add_answer_kind(text, "freed")?;
             text.handle_if("close", *close)
+        }
+        Answer::Resizing { dev, home } => {
+            add_answer_kind(text, "resizing")?;
+            text.device("device", *dev)?;
+            text.number("home", u128::from(home.0))
+        }
+        Answer::Resized {
+            handles,
+            blocks,
+            destruct,
+        } => {
+            add_answer_kind(text, "resized")?;
+            text.blocks(*blocks)?;
+            add_handles(text, handles.as_slice())?;
+            text.device_if("destruct", *destruct)
         }
         Answer::Refused(errno) => {
             add_answer_kind(text, "refused")?;

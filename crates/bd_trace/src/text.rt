@@ -1,6 +1,6 @@
 //! A text that is being written, field by field.
 ghost use Rattle.std.specs.Prelude.{◌≡◌, ◌++◌, [], List, ℕ, OnOk, decimal};
-ghost use Rattle.bd_trace.specs.Fields.{word_field, number_field, own_field, request_field, device_field, device_field_if, handle_field, handle_field_if, thread_field_if, thread_fields, hex_field, digest_field_if};
+ghost use Rattle.bd_trace.specs.Fields.{word_field, number_field, own_field, request_field, device_field, device_field_if, blocks_field, handle_field, handle_field_if, thread_field_if, thread_fields, hex_field, digest_field_if};
 
 use bd_base::{DevId, HandleId, OutOfMemory, ReqId, ThreadId, ThreadSet};
 use std::alloc::Global;
@@ -108,6 +108,14 @@ impl Text {
             None => Ok(()),
             Some(dev) => self.device(key, dev),
         }
+    }
+
+    /// Adds a number of blocks.
+    #[tactic(auto, unfolding(crate::specs::Fields::blocks_field))]
+    pub fn blocks(&mut self, blocks: u64) -> Result<(), OutOfMemory>
+        ensures { OnOk result (self.new ≡ self.old ++ blocks_field blocks) }
+    {
+        self.number("blocks", u128::from(blocks))
     }
 
     /// Adds a key with a handle.

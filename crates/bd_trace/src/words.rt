@@ -74,7 +74,7 @@ pub(crate) fn type_word(op: Op) -> &'static str
         Op::Zeroes => "zeroes",
         Op::Unmap => "unmap",
         Op::Flush => "flush",
-        Op::Reset => "reset",
+        Op::Reset(_) => "reset",
         Op::Abort(_) => "abort",
     }
 }

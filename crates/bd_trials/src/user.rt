@@ -32,6 +32,14 @@ fn job(alloc: Global, line: &str) -> Result<Job, OutOfMemory> {
         "remove" => Job::Remove {
             dev: Name::from_slice(alloc, b"Malloc0")?,
         },
+        "resize" => Job::Resize {
+            dev: Name::from_slice(alloc, b"Malloc0")?,
+            blocks: number(rest),
+        },
+        "sized" => Job::Sized {
+            handle,
+            blocks: number(rest),
+        },
         "post" => Job::Post(Name::from_slice(alloc, b"mark")?),
         _ => match op(word) {
             Some(op) => Job::Submit {
@@ -50,7 +58,8 @@ fn job(alloc: Global, line: &str) -> Result<Job, OutOfMemory> {
 }
 
 // What a thread sees, by its words: the moment, the one at which the line was met, how many requests
-// are open, and whether the mark was taken, the handle is bound, and its device is gone.
+// are open, and whether the mark was taken, the handle is bound, its device is gone, and how many blocks that has
+// if the handle is open.
 fn view(alloc: Global, seen: &str) -> Result<View, OutOfMemory> {
     let mut view = View {
         now: 0,
@@ -59,6 +68,7 @@ fn view(alloc: Global, seen: &str) -> Result<View, OutOfMemory> {
         marks: other(alloc)?,
         gone: other(alloc)?,
         bound: other(alloc)?,
+        sizes: Rows::new(alloc),
     };
     for part in seen.split(", ") {
         let (word, rest) = first_word(part);
@@ -68,6 +78,10 @@ fn view(alloc: Global, seen: &str) -> Result<View, OutOfMemory> {
             "requests" => view.requests = small(rest),
             "taken" => view.marks.push(Name::from_slice(alloc, b"mark")?)?,
             "bound" => view.bound.push(Name::from_slice(alloc, b"h")?)?,
+            "size" => {
+                let handle = Name::from_slice(alloc, b"h")?;
+                view.sizes.push((handle, number(rest)))?;
+            }
             "gone" => view.gone.push(Name::from_slice(alloc, b"h")?)?,
             _ => (),
         }

@@ -36,7 +36,7 @@ pub(crate) fn op(word: &str) -> Option<Op> {
         "zeroes" => Op::Zeroes,
         "unmap" => Op::Unmap,
         "flush" => Op::Flush,
-        "reset" => Op::Reset,
+        "reset" => Op::Reset(0),
         "abort" => Op::Abort(3),
         _ => return None,
     })

@@ -94,6 +94,8 @@ due_told to d dev (x ∷ xs) e h = go (is_due_to to (news.Device d) x) refl h (d
     first (news.Gone m) k = none_goes k
     first (news.Channel m) k = none_goes k
     first (news.Go m ts) k = none_goes k
+    first (news.Grow m n) k = none_goes k
+    first (news.Sized m n) k = none_goes k
 
     more : (b c : Bool) → c ≡ true → (b || c) ≡ true
     more true c k = refl
@@ -112,6 +114,8 @@ sends_by setup t v to number (tokens.Gone handle) here goes = record { kept = ke
 sends_by setup t v to number (tokens.Channel d) here goes = record { kept = keeps.Notice (news.Channel d); moves_are = refl; tells = λ dev k. none_goes k }
 sends_by setup t v to number (tokens.Device d) here goes = record { kept = keeps.Notice (news.Device d); moves_are = refl; tells = λ dev k. due_told to d dev v.part.due k goes }
 sends_by setup t v to number (tokens.Go req threads) here goes = record { kept = keeps.Notice (news.Go req threads); moves_are = refl; tells = λ dev k. none_goes k }
+sends_by setup t v to number (tokens.Grow d blocks) here goes = record { kept = keeps.Notice (news.Grow d blocks); moves_are = refl; tells = λ dev k. none_goes k }
+sends_by setup t v to number (tokens.Sized handle blocks) here goes = record { kept = keeps.Notice (news.Sized handle blocks); moves_are = refl; tells = λ dev k. none_goes k }
 
 pub sends : (setup : Setup) (t : ℕ) (v : View) (came : Came) (to number : ℕ) (what : Token) → Passes (guards setup t v (acts.Put to number what) came) → Sends t v to number what
 sends setup t v came to number what h =
@@ -186,8 +190,11 @@ kind_of setup t v came (acts.Hold req until) = Quiet (quiet_if setup t v came (a
 kind_of setup t v came (acts.Release req now) = Quiet (quiet_if setup t v came (acts.Release req now) (record { plain = refl; taken = λ l. refl; none_taken = λ a n h. h; queue_is = λ ms r q. refl }) (edited_home req released (request_here v req)))
 kind_of setup t v came (acts.Abort req cause) = Quiet (quiet_if setup t v came (acts.Abort req cause) (record { plain = refl; taken = λ l. refl; none_taken = λ a n h. h; queue_is = λ ms r q. refl }) (edited_home req (aborted cause) (request_here v req)))
 kind_of setup t v came (acts.Complete req status shown) = Quiet (quiet_if setup t v came (acts.Complete req status shown) (record { plain = refl; taken = λ l. refl; none_taken = λ a n h. h; queue_is = λ ms r q. refl }) (closed_home v req (request_here v req)))
-kind_of setup t v came (acts.Visit walk dev kind) = Quiet (quiet_if setup t v came (acts.Visit walk dev kind) (record { plain = refl; taken = λ l. refl; none_taken = λ a n h. h; queue_is = λ ms r q. refl }) (walked_if_home t walk (marked_by setup t v dev kind) (walk_here v walk)))
+kind_of setup t v came (acts.Visit walk dev kind) = Quiet (quiet_if setup t v came (acts.Visit walk dev kind) (record { plain = refl; taken = λ l. refl; none_taken = λ a n h. h; queue_is = λ ms r q. refl }) (walked_if_home t walk (marked_by setup t v walk dev kind) (walk_here v walk)))
 kind_of setup t v came (acts.Refuse errno lba handle op count) = Quiet (quiet_if setup t v came (acts.Refuse errno lba handle op count) (record { plain = refl; taken = λ l. refl; none_taken = λ a n h. h; queue_is = λ ms r q. refl }) (tt))
+kind_of setup t v came (acts.Grow dev blocks) = Quiet (record { put_is = refl; taken_is = refl; none_taken = λ a n h. h; homes = tt; queue_is = λ r q. refl })
+kind_of setup t v came (acts.Grace walk until) = Quiet (quiet_if setup t v came (acts.Grace walk until) (record { plain = refl; taken = λ l. refl; none_taken = λ a n h. h; queue_is = λ ms r q. refl }) (tt))
+kind_of setup t v came (acts.Due walk now) = Quiet (quiet_if setup t v came (acts.Due walk now) (record { plain = refl; taken = λ l. refl; none_taken = λ a n h. h; queue_is = λ ms r q. refl }) (tt))
 kind_of setup t v came (acts.Tick dev now slices) = Quiet (record { put_is = refl; taken_is = refl; none_taken = λ a n h. h; homes = tt; queue_is = λ r q. refl })
 kind_of setup t v came (acts.Script line outcome) = Quiet (quiet_if setup t v came (acts.Script line outcome) (record { plain = refl; taken = λ l. refl; none_taken = λ a n h. h; queue_is = λ ms r q. refl }) (tt))
 kind_of setup t v came acts.Shutdown = Quiet (quiet_if setup t v came acts.Shutdown (record { plain = refl; taken = λ l. refl; none_taken = λ a n h. h; queue_is = λ ms r q. refl }) (tt))

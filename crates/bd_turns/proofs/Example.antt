@@ -1,4 +1,4 @@
--- The rules of turns let whole turns through, computed entry by entry: a write of one thread to a device of the other; and, where every act is built, a stack that is removed over two threads, and resets in turn.
+-- The rules of turns let whole turns through, computed entry by entry: a write of one thread to a device of the other; and, where every act is built, a stack that is removed over two threads, resets in turn, a resize, and a reset with a drain time.
 use Rattle.std.proofs.Common.{◌≡◌, ℕ, ◌+◌, List, [], ◌∷◌, Option, None, true, nat_lt, refl, codes}
 use Rattle.bd_base.specs.declared.act.Act.TheVariants as acts
 use Rattle.bd_base.specs.declared.act.ApplyEnd.TheVariants as ends
@@ -17,6 +17,8 @@ use Rattle.bd_machine.specs.Run.{refused_or}
 use Rattle.bd_machine.specs.Step.{first_failing}
 use Rattle.bd_machine.specs.View.{View}
 use Rattle.bd_machine.proofs.RemovalTraces.{stack_removed_setup, stack_removed}
+use Rattle.bd_machine.proofs.DrainTimeTraces.{drain_timed_setup, drain_timed}
+use Rattle.bd_machine.proofs.ResizeTraces.{device_grown_setup, device_grown}
 use Rattle.bd_machine.proofs.ResetTraces.{resets_in_turn_setup, resets_in_turn}
 use Rattle.bd_machine.proofs.Words.{at, line, script, dev, handle, req, write}
 use Rattle.bd_turns.specs.Laws.{view_at_start, shared_at_start, with_view}
@@ -44,7 +46,7 @@ two_threads = record {
 
 abbrev turns : List Entry
 turns =
-    at 1 1 (acts.Reg (events.Open (codes "Null0") true) (answers.Opened (handle 0) (dev 0))) ∷
+    at 1 1 (acts.Reg (events.Open (codes "Null0") true) (answers.Opened (handle 0) (dev 0) 4)) ∷
     at 2 1 (acts.Reg (events.GetChannel (dev 0)) (answers.Got true [])) ∷
     at 3 1 (acts.Script 1 outcomes.Done) ∷
     at 4 1 (acts.Accept (dev 0) 0 (handle 0) (req 1 0) (write 5) 1) ∷
@@ -85,3 +87,11 @@ removal_is_let_through = refl
 resets_are_let_through : rule_broken_by resets_in_turn_setup (view_at_start resets_in_turn_setup []) (shared_at_start resets_in_turn_setup) resets_in_turn ≡ None
 unfolding local_after
 resets_are_let_through = refl
+
+resize_is_let_through : rule_broken_by device_grown_setup (view_at_start device_grown_setup []) (shared_at_start device_grown_setup) device_grown ≡ None
+unfolding local_after
+resize_is_let_through = refl
+
+drain_time_is_let_through : rule_broken_by drain_timed_setup (view_at_start drain_timed_setup []) (shared_at_start drain_timed_setup) drain_timed ≡ None
+unfolding local_after
+drain_time_is_let_through = refl

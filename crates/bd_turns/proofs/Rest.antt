@@ -23,7 +23,7 @@ use Rattle.bd_machine.specs.Admission.{is_gone}
 use Rattle.bd_machine.specs.Asked.{is_script_blocked, open_on}
 use Rattle.bd_machine.specs.BlockMap.{home, base_of}
 use Rattle.bd_machine.specs.Lines.{shutdown_at}
-use Rattle.bd_machine.specs.Marks.{is_marked}
+use Rattle.bd_machine.specs.Marks.{has_any_mark}
 use Rattle.bd_machine.specs.Placement.{place_of}
 use Rattle.bd_machine.specs.Rest.{is_ring, is_nothing_due, is_nowhere, is_request, is_walk, are_all_taken, are_all_put, are_all_completed, are_walks_ended, is_nothing_owed, are_all_done, is_left_open, are_gone_closed, is_resting_kept, is_resting_token, are_all_pended, is_at_rest, are_scripts_blocked}
 use Rattle.bd_machine.specs.Run.{is_destructed, owes_nothing, is_nothing_left, is_finished}
@@ -191,7 +191,7 @@ module _ (setup : Setup) (s : State) (views : ℕ → View) (shared : Shared) (t
 
     pended_by : (t : ℕ) (req : ReqId) (kept : Kept) → t < setup.threads → req.thread ≡ t → is_pended_in setup (views t) kept ≡ true → is_resting_kept setup s req kept ≡ true
     pended_by t req (keeps.Request r) lt is h =
-        let pended : Part → Type 0 = λ p. (r.pended && is_none r.aborted && not (is_marked setup p r.dev)) ≡ true in
+        let pended : Part → Type 0 = λ p. (r.pended && is_none r.aborted && not (has_any_mark setup p r.dev)) ≡ true in
         subst pended (sym (ap (part_of s) is ∙ part_is t lt)) h
     pended_by t req (keeps.Piece p) lt is h = refl
     pended_by t req (keeps.Walk w) lt is h = refl
@@ -265,9 +265,9 @@ module _ (setup : Setup) (s : State) (views : ℕ → View) (shared : Shared) (t
   abbrev shut_locally : ℕ → Local
   shut_locally stamp = local_after setup 0 (record { view = views 0; shared = shared }) (shutdown_at stamp)
 
-  shut_view : (stamp : ℕ) → (views 0).part.injection ≡ None → (local_after setup 0 (record { view = views 0; shared = shared }) (shutdown_at stamp)).view ≡ views 0
+  shut_view : (stamp : ℕ) → (views 0).part.prior ≡ None → (local_after setup 0 (record { view = views 0; shared = shared }) (shutdown_at stamp)).view ≡ views 0
   unfolding local_after
-  shut_view stamp none = λ i. record (views 0) { part = record (views 0).part { injection = sym none i } }
+  shut_view stamp none = λ i. record (views 0) { part = record (views 0).part { prior = sym none i } }
 
   shut_shared : (stamp : ℕ) → shared.shut ≡ false → (local_after setup 0 (record { view = views 0; shared = shared }) (shutdown_at stamp)).shared ≡ record shared { stamp = stamp; shut = true }
   unfolding local_after
@@ -276,7 +276,7 @@ module _ (setup : Setup) (s : State) (views : ℕ → View) (shared : Shared) (t
       now : shared.shut ≡ false → (shared.shut || true) ≡ true
       now h = ap (λ b. b || true) h
 
-  tied_shut : (stamp : ℕ) → (views 0).part.injection ≡ None → IsAllowed setup s (shutdown_at stamp) → shared.shut ≡ false → IsTied setup (after setup s (shutdown_at stamp)) views (record shared { stamp = stamp; shut = true })
+  tied_shut : (stamp : ℕ) → (views 0).part.prior ≡ None → IsAllowed setup s (shutdown_at stamp) → shared.shut ≡ false → IsTied setup (after setup s (shutdown_at stamp)) views (record shared { stamp = stamp; shut = true })
   tied_shut stamp none ok not_shut =
       let tied_now = tied_after setup s views shared (shutdown_at stamp) tied some ok (record { guards_are = refl; change_is = refl }) (λ a n what is. let bad : acts.Shutdown ≡ acts.Took a n what = is in cc) in
       subst (IsTied setup (after setup s (shutdown_at stamp)) views) (shut_shared stamp not_shut)

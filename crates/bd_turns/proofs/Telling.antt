@@ -48,13 +48,16 @@ use Rattle.bd_machine.specs.Asked.{owes_removal, job_of, next_line}
 use Rattle.bd_machine.specs.BlockMap.{below, home, size_of}
 use Rattle.bd_machine.specs.Changes.{is_dropped}
 use Rattle.bd_machine.specs.Destruction.{named}
-use Rattle.bd_machine.specs.Events.{decided_by, paid, owing, with_due, alone, device_due, channel_due, gone_due, go_due, closed_by, destruct_of, born, all_born, got_by, put_down_by, put_paid, dropped_by, removal_paid, with_reset, advanced, reset_finishes, freed_by, removing, reset_begun, reset_thaws, injection_taken, change_reg, first_req}
-use Rattle.bd_machine.specs.Homes.{base_here, change_applied, is_told}
+use Rattle.bd_machine.specs.Events.{decided_by, paid, owing, with_due, alone, device_due, channel_due, gone_due, go_due, closed_by, destruct_of, born, all_born, got_by, put_down_by, put_paid, dropped_by, removal_paid, with_reset, advanced, reset_finishes, freed_by, removing, reset_begun, reset_thaws, injection_taken, drain_time, due_to, resizing, resized, sized_due, change_reg, first_req}
+use Rattle.bd_machine.specs.Homes.{base_here, change_applied, change_grow, is_told}
 use Rattle.bd_machine.specs.Kept.{request_here, piece_here, walk_here}
 use Rattle.bd_machine.specs.Limits.{arrived, departed, next_limited, waits_at, is_limited}
-use Rattle.bd_machine.specs.Marks.{remarked, frozen_as, freeze_set, removal_set}
+use Rattle.bd_machine.specs.declared.state.Marking.{Marking}
+use Rattle.bd_machine.specs.declared.state.FreezeMark.TheVariants.{Not}
+use Rattle.bd_machine.specs.Grace.{dev_if_any, ended, ending_mark, remarked_if_any, softened}
+use Rattle.bd_machine.specs.Marks.{remarked, with_frozen, with_until, hardened, freeze_set, removal_set}
 use Rattle.bd_machine.specs.Messages.{is_due_to, due_after, news_of, request_took, removals_owed, told_part, freezes, went, told_walk, taken_by, arrived_walk, closed_notice}
-use Rattle.bd_machine.specs.Registry.{made, device_named, close_answer, drop_answer, handle_of, references, is_count}
+use Rattle.bd_machine.specs.Registry.{made, device_named, close_answer, drop_answer, end_resize_answer, growing_of, handle_of, references, is_count}
 use Rattle.bd_machine.specs.Same.{same_answer, same_dev, same_owed, is_the}
 use Rattle.bd_machine.specs.Scripts.{posted, mark_to}
 use Rattle.bd_machine.specs.Step.{guards_in, change_in}
@@ -62,7 +65,7 @@ use Rattle.bd_machine.specs.Table.{without_first, write}
 use Rattle.bd_machine.specs.Threads.{is_nobody}
 use Rattle.bd_machine.specs.Users.{is_base_handle, users}
 use Rattle.bd_machine.specs.View.{View, Came, Change, view, part_of, came_for, destructed_by, id_of}
-use Rattle.bd_machine.specs.Walks.{staged, numbered, over_nobody, begin_walk, after_walk, is_at_end, walked, drain_threads, put_owed, marked_by, visited, walked_if_any, reset_of}
+use Rattle.bd_machine.specs.Walks.{staged, numbered, over_nobody, begin_walk_with, begin_walk, time_of_walk, after_walk, is_at_end, walked, drain_threads, put_owed, marked_by, visited, walked_if_any, reset_of}
 use Rattle.bd_machine.proofs.Acts.{Passes, passed}
 use Rattle.bd_turns.specs.Told.{is_device_kept, is_device_due}
 
@@ -179,6 +182,10 @@ gone_none : (hs : List (HandleId × ThreadId)) (dev : DevId) → list_any (is_de
 gone_none [] dev = refl
 gone_none (h ∷ hs) dev = gone_none hs dev
 
+sized_none : (blocks : ℕ) (hs : List (HandleId × ThreadId)) (dev : DevId) → list_any (is_device_due dev) (map (sized_due blocks) hs) ≡ false
+sized_none blocks [] dev = refl
+sized_none blocks (h ∷ hs) dev = sized_none blocks hs dev
+
 posted_none : (mark : List ℕ) (ts : List ℕ) (dev : DevId) → list_any (is_device_due dev) (map (mark_to mark) ts) ≡ false
 posted_none mark [] dev = refl
 posted_none mark (u ∷ ts) dev = posted_none mark ts dev
@@ -229,13 +236,13 @@ nobody_alike Drain req p = staged_alike req stages.Drained 1 p
 nobody_alike Thaw req p = staged_alike req stages.Thawed 1 p
 nobody_alike Removal req p = record { due_is = refl; owed_is = refl }
 
-begin_alike : (t : ℕ) (kind : WalkKind) (dev : DevId) (threads : ThreadSet) (req : Option ReqId) (c : Change) → Alike c.part (begin_walk t kind dev threads req c).part
-begin_alike t kind dev threads req c = alike_cond (is_nobody threads) c.part _ _ (nobody_alike kind req c.part) (record { due_is = refl; owed_is = refl })
+begin_alike : (t : ℕ) (kind : WalkKind) (dev : DevId) (threads : ThreadSet) (req : Option ReqId) (time : ℕ) (c : Change) → Alike c.part (begin_walk_with t kind dev threads req time c).part
+begin_alike t kind dev threads req time c = alike_cond (is_nobody threads) c.part _ _ (nobody_alike kind req c.part) (record { due_is = refl; owed_is = refl })
 
 after_alike : (t : ℕ) (w : OpenWalk) (kind : WalkKind) (c : Change) → Alike c.part (after_walk t w kind c).part
 after_alike t w Freeze c =
     let d : Change = record { part = staged w.request stages.Draining c.part; moves = c.moves } in
-    alike_then c.part d.part (begin_walk t Drain w.dev (drain_threads c.part w.request) w.request d).part (stage_alike w.request stages.Draining c.part) (begin_alike t Drain w.dev (drain_threads c.part w.request) w.request d)
+    alike_then c.part d.part (begin_walk t Drain w.dev (drain_threads c.part w.request) w.request d).part (stage_alike w.request stages.Draining c.part) (begin_alike t Drain w.dev (drain_threads c.part w.request) w.request 0 d)
 after_alike t w Drain c = stage_alike w.request stages.Drained c.part
 after_alike t w Thaw c = stage_alike w.request stages.Thawed c.part
 after_alike t w Removal c = same_as c.part
@@ -251,7 +258,7 @@ went_alike : (t : ℕ) (req : ReqId) (threads : ThreadSet) (x : Option Resetting
 went_alike t req threads None c = same_as c.part
 went_alike t req threads (Some r) c =
     let d : Change = record { part = freezes req threads c.part; moves = c.moves } in
-    alike_then c.part d.part (begin_walk t Freeze r.dev threads (Some req) d).part (record { due_is = refl; owed_is = refl }) (begin_alike t Freeze r.dev threads (Some req) d)
+    alike_then c.part d.part (begin_walk_with t Freeze r.dev threads (Some req) r.time d).part (record { due_is = refl; owed_is = refl }) (begin_alike t Freeze r.dev threads (Some req) r.time d)
 
 told_walk_alike : (t : ℕ) (told : News) (c : Change) → Alike c.part (told_walk t told c).part
 told_walk_alike t (news.Go req threads) c = went_alike t req threads (reset_of c.part req) c
@@ -259,15 +266,26 @@ told_walk_alike t (news.Mark mark) c = same_as c.part
 told_walk_alike t (news.Gone handle) c = same_as c.part
 told_walk_alike t (news.Channel dev) c = same_as c.part
 told_walk_alike t (news.Device dev) c = same_as c.part
+told_walk_alike t (news.Grow dev blocks) c = same_as c.part
+told_walk_alike t (news.Sized handle blocks) c = same_as c.part
 
 put_owed_less : (setup : Setup) (t : ℕ) (dev : DevId) (p : Part) → Less p (put_owed setup t dev p)
 put_owed_less setup t dev p = less_cond (is_limited setup dev && (home setup dev == t)) p (owing (owes.Put dev) p) p (owing_less (owes.Put dev) p (λ d. (refl, refl))) (less_self p)
 
-marked_less : (setup : Setup) (t : ℕ) (v : View) (dev : DevId) (kind : WalkKind) → Less v.part (marked_by setup t v dev kind)
-marked_less setup t v dev Freeze = less_cond _ v.part (remarked dev freeze_set v.part) v.part (less_of v.part _ (record { due_is = refl; owed_is = refl })) (less_self v.part)
-marked_less setup t v dev Drain = less_self v.part
-marked_less setup t v dev Thaw = less_of v.part _ (record { due_is = refl; owed_is = refl })
-marked_less setup t v dev Removal = less_then v.part (remarked dev removal_set v.part) (put_owed setup t dev (remarked dev removal_set v.part)) (less_of v.part _ (record { due_is = refl; owed_is = refl })) (put_owed_less setup t dev (remarked dev removal_set v.part))
+marked_less : (setup : Setup) (t : ℕ) (v : View) (walk : WalkId) (dev : DevId) (kind : WalkKind) → Less v.part (marked_by setup t v walk dev kind)
+marked_less setup t v walk dev Freeze = less_cond _ v.part (remarked dev (freeze_set walk (time_of_walk (walk_here v walk))) v.part) v.part (less_of v.part _ (record { due_is = refl; owed_is = refl })) (less_self v.part)
+marked_less setup t v walk dev Drain = less_self v.part
+marked_less setup t v walk dev Thaw = less_of v.part _ (record { due_is = refl; owed_is = refl })
+marked_less setup t v walk dev Removal = less_then v.part (remarked dev removal_set v.part) (put_owed setup t dev (remarked dev removal_set v.part)) (less_of v.part _ (record { due_is = refl; owed_is = refl })) (put_owed_less setup t dev (remarked dev removal_set v.part))
+
+remarked_alike : (o : Option DevId) (f : Marking → Marking) (p : Part) → Alike p (remarked_if_any o f p)
+remarked_alike None f p = same_as p
+remarked_alike (Some dev) f p = record { due_is = refl; owed_is = refl }
+
+ended_alike : (walk : WalkId) (now : ℕ) (p : Part) → Alike p (ended walk now p)
+ended_alike walk now p =
+    let q : Part = remarked_if_any (dev_if_any (ending_mark p walk)) hardened p in
+    alike_then p q (ended walk now p) (remarked_alike (dev_if_any (ending_mark p walk)) hardened p) (record { due_is = refl; owed_is = refl })
 
 -- ---- messages
 
@@ -310,6 +328,8 @@ told_from setup (news.Device d) p = record {
     at dev (inl k) = inl k
     at dev (inr k) = inr (or_false (same_dev dev d) k)
 told_from setup (news.Go req threads) p = from_of p _ None _ None (less_self p)
+told_from setup (news.Grow d blocks) p = from_of p _ None _ None (owing_less (owes.Grow d blocks) p (λ dev. (refl, refl)))
+told_from setup (news.Sized handle blocks) p = from_of p _ None _ None (less_of p _ (record { due_is = refl; owed_is = refl }))
 
 notice_from : (setup : Setup) (t : ℕ) (told : News) (p : Part) (id : Id) → From p (told_walk t told (record { part = told_part setup told p; moves = closed_notice id told })).part None (Some (keeps.Notice told)) None
 notice_from setup t told p id =
@@ -355,9 +375,9 @@ put_down_less t dev _ p = less_self p
 
 dropped_less : (t : ℕ) (dev : DevId) (a : Answer) (p : Part) → Less p (dropped_by t dev a p)
 dropped_less t dev (answers.Dropped what zero destruct) p =
-    let q : Part = cond (is_dropped what) (remarked dev (frozen_as false) p) p in
+    let q : Part = cond (is_dropped what) (remarked dev (with_frozen Not) p) p in
     less_then p q (with_due (channel_due t zero) q)
-    (less_cond (is_dropped what) p (remarked dev (frozen_as false) p) p (less_of p _ (record { due_is = refl; owed_is = refl })) (less_self p))
+    (less_cond (is_dropped what) p (remarked dev (with_frozen Not) p) p (less_of p _ (record { due_is = refl; owed_is = refl })) (less_self p))
     (due_less (channel_due t zero) q (λ d. channel_none t zero d))
 dropped_less t dev _ p = less_self p
 
@@ -380,18 +400,27 @@ finishes_less dev _ p = less_self p
 begun_alike : (t : ℕ) (dev : DevId) (req : ReqId) (a : Answer) (p : Part) → Alike p (reset_begun t dev req a p).part
 begun_alike t dev req (answers.ResetStarted threads) p =
     let c : Change = alone (with_reset req dev stages.Freezing threads p) in
-    alike_then p c.part (begin_walk t Freeze dev threads (Some req) c).part (record { due_is = refl; owed_is = refl }) (begin_alike t Freeze dev threads (Some req) c)
+    let time : ℕ = drain_time p req in
+    alike_then p c.part (begin_walk_with t Freeze dev threads (Some req) time c).part (record { due_is = refl; owed_is = refl }) (begin_alike t Freeze dev threads (Some req) time c)
 begun_alike t dev req _ p = record { due_is = refl; owed_is = refl }
 
 thaws_alike : (t : ℕ) (dev : DevId) (a : Answer) (p : Part) → Alike p (reset_thaws t dev a p).part
 thaws_alike t dev (answers.ResetEnded threads) p =
     let c : Change = alone (advanced dev stages.Drained stages.Thawing p) in
-    alike_then p c.part (begin_walk t Thaw dev threads (first_req p.resets dev stages.Drained) c).part (record { due_is = refl; owed_is = refl }) (begin_alike t Thaw dev threads (first_req p.resets dev stages.Drained) c)
+    alike_then p c.part (begin_walk t Thaw dev threads (first_req p.resets dev stages.Drained) c).part (record { due_is = refl; owed_is = refl }) (begin_alike t Thaw dev threads (first_req p.resets dev stages.Drained) 0 c)
 thaws_alike t dev _ p = same_as p
 
 injection_alike : (v : View) (req : ReqId) (a : Answer) → Alike v.part (injection_taken v req a).part
 injection_alike v req (answers.Injected decision) = same_as v.part
 injection_alike v req _ = same_as v.part
+
+resizing_less : (blocks : ℕ) (a : Answer) (p : Part) → Less p (resizing blocks a p)
+resizing_less blocks (answers.Resizing dev at) p = due_less (due_to at.0 (news.Grow dev blocks)) p (λ d. refl)
+resizing_less blocks _ p = less_self p
+
+resized_less : (a : Answer) (p : Part) → Less p (resized a p)
+resized_less (answers.Resized handles blocks destruct) p = due_less (map (sized_due blocks) handles) p (λ d. sized_none blocks handles d)
+resized_less _ p = less_self p
 
 -- what the answer to a removal names
 removing_from : (setup : Setup) (t : ℕ) (name : List ℕ) (a : Answer) (p : Part) (m : Option Kept) → From p (removing setup t a p).part (named (acts.Reg (events.BeginRemove name) a)) m None
@@ -403,7 +432,7 @@ removing_from setup t name (answers.Removing dev threads handles destruct) p m =
       owed = λ d k. inl k;
       reports = λ d k. inl k;
     })
-    (less_of q _ (begin_alike t Removal dev threads None (alone q)))
+    (less_of q _ (begin_alike t Removal dev threads None 0 (alone q)))
   where
     later : (d : DevId) → (list_any (is_device_due d) (map gone_due handles) ≡ true) ⊎ (list_any (is_device_due d) (device_due setup destruct) ≡ true) → is_the same_dev d destruct ≡ true
     later d (inl k) = absurd (let x : false ≡ true = sym (gone_none handles d) ∙ k in cc)
@@ -428,13 +457,26 @@ close_named setup r t id None (answers.Dropped what zero d) h = wrong h
 close_named setup r t id (Some hd) (answers.Dropped what zero d) h = neither (answers.Dropped what zero d) _ _ (hd.thread.0 == t) refl refl h
 close_named setup r t id None (answers.Removing dev threads handles d) h = wrong h
 close_named setup r t id (Some hd) (answers.Removing dev threads handles d) h = neither (answers.Removing dev threads handles d) _ _ (hd.thread.0 == t) refl refl h
+close_named setup r t id None (answers.Resized handles blocks d) h = wrong h
+close_named setup r t id (Some hd) (answers.Resized handles blocks d) h = neither (answers.Resized handles blocks d) _ _ (hd.thread.0 == t) refl refl h
 close_named setup r t id o _ h = refl
 
 drop_named : (setup : Setup) (r : Registry) (t : ℕ) (dev : DevId) (a : Answer) → same_answer a (drop_answer setup r t dev) ≡ true → destruct_of a ≡ named (acts.Reg (events.DropChannel dev) a)
 drop_named setup r t dev (answers.Dropped what zero d) h = refl
 drop_named setup r t dev (answers.Closed d) h = neither (answers.Closed d) _ _ (is_count 0 (references r t dev)) refl refl h
 drop_named setup r t dev (answers.Removing x threads handles d) h = neither (answers.Removing x threads handles d) _ _ (is_count 0 (references r t dev)) refl refl h
+drop_named setup r t dev (answers.Resized handles blocks d) h = neither (answers.Resized handles blocks d) _ _ (is_count 0 (references r t dev)) refl refl h
 drop_named setup r t dev _ h = refl
+
+resize_named : (setup : Setup) (r : Registry) (dev : DevId) (o : Option ℕ) (a : Answer) → same_answer a (end_resize_answer setup r dev o) ≡ true → destruct_of a ≡ named (acts.Reg (events.EndResize dev) a)
+resize_named setup r dev o (answers.Resized handles blocks d) h = refl
+resize_named setup r dev None (answers.Closed d) h = wrong h
+resize_named setup r dev (Some n) (answers.Closed d) h = wrong h
+resize_named setup r dev None (answers.Dropped what zero d) h = wrong h
+resize_named setup r dev (Some n) (answers.Dropped what zero d) h = wrong h
+resize_named setup r dev None (answers.Removing x threads handles d) h = wrong h
+resize_named setup r dev (Some n) (answers.Removing x threads handles d) h = wrong h
+resize_named setup r dev o _ h = refl
 
 reg_from : (setup : Setup) (s : State) (t : ℕ) (came : Came) (event : RegEvent) (a : Answer) (m : Option Kept) → Passes (guards_in setup s t (acts.Reg event a)) → From (part_of s t) (change_reg setup t (view s t) came event a).part (named (acts.Reg event a)) m None
 reg_from setup s t came (events.Open name write) a m h = from_of (part_of s t) _ None m None (less_of (part_of s t) _ (decided_alike came a (part_of s t)))
@@ -473,6 +515,16 @@ reg_from setup s t came (events.Destructed dev) a m h =
     let p : Part = part_of s t in
     let q : Part = paid (owes.Report dev) p in
     from_of p _ None m None (less_then p q (freed_by a q) (paid_less (owes.Report dev) p) (freed_less a q))
+reg_from setup s t came (events.BeginResize name blocks) a m h =
+    let p : Part = part_of s t in
+    let q : Part = decided_by came a p in
+    from_of p _ None m None (less_then p q (resizing blocks a q) (less_of p q (decided_alike came a p)) (resizing_less blocks a q))
+reg_from setup s t came (events.EndResize dev) a m h =
+    let p : Part = part_of s t in
+    let q : Part = paid (owes.EndResize dev) p in
+    subst (λ (n : Option DevId). From p (with_due (device_due setup (destruct_of a)) (resized a q)) n m None)
+    (resize_named setup s.registry dev (growing_of s.registry dev) a (passed (guards_in setup s t (acts.Reg (events.EndResize dev) a)) h).0)
+    (from_device setup p (resized a q) (destruct_of a) m None (less_then p q (resized a q) (paid_less (owes.EndResize dev) p) (resized_less a q)))
 
 -- ---- acts
 
@@ -506,8 +558,8 @@ parts_from setup s t (acts.Abort req cause) h =
     record { due = λ d k. inl (f.due d k); owed = λ d k. inl (f.owed d k); reports = λ d k. inl (f.reports d k) }
 parts_from setup s t (acts.Visit walk dev kind) h =
     let v : View = view s t in
-    let p : Part = marked_by setup t v dev kind in
-    let f = less_then v.part p (walked_if_any t walk p (walk_here v walk)).part (marked_less setup t v dev kind) (less_of p _ (walked_if_alike t walk p (walk_here v walk))) in
+    let p : Part = marked_by setup t v walk dev kind in
+    let f = less_then v.part p (walked_if_any t walk p (walk_here v walk)).part (marked_less setup t v walk dev kind) (less_of p _ (walked_if_alike t walk p (walk_here v walk))) in
     record { due = λ d k. inl (f.due d k); owed = λ d k. inl (f.owed d k); reports = λ d k. inl (f.reports d k) }
 parts_from setup s t (acts.Script line outcome) h = let v : View = view s t in record {
   due = λ dev k. inl (any_first (is_device_due dev) (part_of s t).due (posted setup (option_map job_of (next_line setup t v.part))) (job_none setup (option_map job_of (next_line setup t v.part)) dev) k);
@@ -537,4 +589,17 @@ parts_from setup s t (acts.Destruct d digest) h =
     at : (dev : DevId) → (list_any (same_owed (owes.Report dev)) (without_first (same_owed (owes.Destruct d)) (part_of s t).owed) ≡ true) ⊎ (list_any (same_owed (owes.Report dev)) (cond (is_told (view s t) d) (owes.Report d ∷ []) []) ≡ true) → (list_any (same_owed (owes.Report dev)) (part_of s t).owed ≡ true) ⊎ (same_dev dev d ≡ true)
     at dev (inl k) = inl (any_without (same_owed (owes.Report dev)) (same_owed (owes.Destruct d)) (part_of s t).owed k)
     at dev (inr k) = inr (this dev (is_told (view s t) d) k)
+parts_from setup s t (acts.Grow dev blocks) h =
+    let p : Part = part_of s t in
+    let q : Part = paid (owes.Grow dev blocks) p in
+    let f = less_then p q _ (paid_less (owes.Grow dev blocks) p) (less_then q (owing (owes.EndResize dev) q) _ (owing_less (owes.EndResize dev) q (λ d. (refl, refl))) (less_of (owing (owes.EndResize dev) q) (change_grow setup (view s t) dev blocks).part (record { due_is = refl; owed_is = refl }))) in
+    record { due = λ d k. inl (f.due d k); owed = λ d k. inl (f.owed d k); reports = λ d k. inl (f.reports d k) }
+parts_from setup s t (acts.Grace walk until) h =
+    let p : Part = part_of s t in
+    let f = less_of p _ (remarked_alike (softened walk p.prior) (with_until until) p) in
+    record { due = λ d k. inl (f.due d k); owed = λ d k. inl (f.owed d k); reports = λ d k. inl (f.reports d k) }
+parts_from setup s t (acts.Due walk now) h =
+    let p : Part = part_of s t in
+    let f = less_of p _ (ended_alike walk now p) in
+    record { due = λ d k. inl (f.due d k); owed = λ d k. inl (f.owed d k); reports = λ d k. inl (f.reports d k) }
 parts_from setup s t _ h = record { due = λ dev k. inl k; owed = λ dev k. inl k; reports = λ dev k. inl k }

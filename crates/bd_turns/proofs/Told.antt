@@ -84,6 +84,7 @@ destructed_stays setup t v act came dev h = go (is_plain act) refl
     others : (act : Act) → is_plain act ≡ false → list_any (same_dev dev) (change setup t v act came).part.destructed ≡ true
     others (acts.Put to number what) e = h
     others (acts.Tick d now slices) e = h
+    others (acts.Grow d blocks) e = h
     others (acts.Accept d lba handle req op count) e = h
     others (acts.Apply req k d end) e = subst (λ (ds : List DevId). list_any (same_dev dev) ds ≡ true) (sym (applied_same v req k d end (size_of setup d) (piece_here v req k) (base_here v d))) h
     others (acts.Destruct d digest) e = append_left (same_dev dev) v.part.destructed d h

@@ -14,7 +14,7 @@ use Rattle.bd_machine.specs.Asked.{is_script_blocked, open_on}
 use Rattle.bd_machine.specs.BlockMap.{home}
 use Rattle.bd_machine.specs.Content.{Told}
 use Rattle.bd_machine.specs.Lines.{shutdown_at}
-use Rattle.bd_machine.specs.Marks.{is_marked}
+use Rattle.bd_machine.specs.Marks.{has_any_mark}
 use Rattle.bd_machine.specs.Registry.{references}
 use Rattle.bd_machine.specs.Rest.{is_nothing_owed}
 use Rattle.bd_machine.specs.Run.{IsRunFrom, after_all, is_finished}
@@ -67,9 +67,9 @@ TurnIsRun = (setup : Setup) (s : State) (views : ℕ → View) (shared : Shared)
 abbrev pub is_left_open_in : Setup → View → Handle → Bool
 is_left_open_in setup v h = not (is_base_handle setup h.id) && is_gone v.part h.id && (open_on v.part h.id == 0)
 
--- it is a request, kept without an answer, and nothing stops it
+-- it is a request, kept without an answer, no abort stopped it, and no mark is below
 abbrev pub is_pended_in : Setup → View → Kept → Bool
-is_pended_in setup v (keeps.Request r) = r.pended && is_none r.aborted && not (is_marked setup v.part r.dev)
+is_pended_in setup v (keeps.Request r) = r.pended && is_none r.aborted && not (has_any_mark setup v.part r.dev)
 is_pended_in setup v _ = true
 
 -- of the tokens that are here, a request is the thread's own and pended, and there is no walk
@@ -79,14 +79,14 @@ is_resting_here setup t v (Request req) (Some kept) = (req.thread == t) && is_pe
 is_resting_here setup t v (Walk walk) (Some kept) = false
 is_resting_here setup t v _ (Some kept) = true
 
--- before Shutdown: no message is on its way; no thread has a message still to put, and none has more to do than to remove a device that is being removed already; none has a handle that it closes by itself; no walk is on a thread, and a request only pended, on its own thread; thread 0's last entry took no injection, since its Shutdown would drop that
+-- before Shutdown: no message is on its way; no thread has a message still to put, and none has more to do than to remove a device that is being removed already; none has a handle that it closes by itself; no walk is on a thread, and a request only pended, on its own thread; thread 0's last entry took no injection, set no soft mark and let no device grow, since its Shutdown would drop that
 pub record AreAtRest (setup : Setup) (views : ℕ → View) (shared : Shared) : Type 0 where
   pub none_queued : (r : ℕ) → shared.queues r ≡ []
   pub none_due : (t : ℕ) → t < setup.threads → (views t).part.due ≡ []
   pub owed_idle : (t : ℕ) → t < setup.threads → is_nothing_owed shared.registry (views t).part ≡ true
   pub closed : (t : ℕ) → t < setup.threads → list_any (is_left_open_in setup (views t)) (views t).handles ≡ false
   pub resting : (t : ℕ) → t < setup.threads → (id : Id) → is_resting_here setup t (views t) id ((views t).here id) ≡ true
-  pub untaken : (views 0).part.injection ≡ None
+  pub untaken : (views 0).part.prior ≡ None
 
 -- at the end: no message is on its way, no token is on a thread, and no thread has a message still to put or anything else still to do
 pub record AreDone (setup : Setup) (views : ℕ → View) (shared : Shared) : Type 0 where

@@ -175,6 +175,7 @@ module _ {D : Type 0} (state : D → DiskState) (w : Wires) (s : Seat D) (links 
           later = a.later;
           met = a.met;
           times = a.times;
+          held = a.held;
           once = a.once;
           replica = ap (λ (x : Links). x.registry.state) links-is ∙ a.replica;
           course = λ lowest. subst (λ (x : Links). IsCourse setup t p (sent_more c posts) (told_local setup contents (local s.worker.thread x))) (sym links-is) (course lowest);

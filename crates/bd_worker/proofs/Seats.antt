@@ -1,5 +1,5 @@
 -- A seat goes on: posts come and go, and its worker works, without the registry and with it.
-use Rattle.std.proofs.Common.{◌≡◌, ℕ, ◌<◌, ◌≤◌, List, [], ◌∷◌, ◌++◌, map, vec_len, refl, sym, ◌∙◌, ap, subst, arith}
+use Rattle.std.proofs.Common.{◌≡◌, ℕ, ◌<◌, ◌≤◌, List, [], ◌∷◌, ◌++◌, map, max, vec_len, refl, sym, ◌∙◌, ap, subst, arith}
 use Rattle.std.specs.List.{AllByRecursion}
 use Rattle.bd_base.specs.declared.act.Entry.{Entry}
 use Rattle.bd_base.specs.declared.id.DevId.{DevId}
@@ -12,6 +12,7 @@ use Rattle.bd_links.specs.Queues.{queues_of}
 use Rattle.bd_log.specs.Log.{Written}
 use Rattle.bd_law_logs.specs.Rows.{message_of}
 use Rattle.bd_ring.specs.Rings.{Receiver}
+use Rattle.bd_law_held.proofs.Ends.{end_later}
 use Rattle.bd_law_threads.specs.Course.{Course, IsCourse, Phase}
 use Rattle.bd_law_threads.specs.Steps.{arrived_more, with_arrived, with_queues}
 use Rattle.bd_law_threads.proofs.Arriving.{arrivals_are_met}
@@ -19,7 +20,7 @@ use Rattle.bd_seat.specs.Incoming.{Fetched, IsMet}
 use Rattle.bd_thread.specs.declared.links.Links.{Links}
 use Rattle.bd_disks.specs.Contents.{contents_of}
 use Rattle.bd_thread.specs.Asleep.{begun_at}
-use Rattle.bd_thread.specs.Seen.{local}
+use Rattle.bd_thread.specs.Seen.{local, time_of}
 use Rattle.bd_thread.specs.Timely.{IsOnTime}
 use Rattle.bd_thread.proofs.OnTime.{on_time_begun}
 use Rattle.bd_thread.proofs.Tickets.{same_tickets}
@@ -67,10 +68,14 @@ begun_worker setup t p c past contents now w a = record {
   later = a.later;
   met = a.met;
   times = on_time_begun w.thread now (past.entries ++ w.log.entries) a.times;
+  held = end_later setup (time_of w.thread).moment (time_of (begun_at now w.thread)).moment c.held (later (time_of w.thread).moment now) a.held;
   once = a.once;
   replica = a.replica;
   course = a.course;
 }
+  where
+    later : (m now : ℕ) → m ≤ max m now
+    later m now = omega arith
 
 pub begun_continues : {D : Type 0} (state : D → DiskState) (w : Wires) (now : ℕ) (s : Seat D) → Continues state w s (begun_seat now s)
 begun_continues {D} state w now s = record {
@@ -143,6 +148,7 @@ module _ {D : Type 0} (state : D → DiskState) (w : Wires) (s : Seat D) (take :
           later = subst (λ (es : List Entry). AllByRecursion (λ x. past.met < x.stamp) es) (sym entries-are) a.later;
           met = (let n : s.worker.log.last ≤ log.last = f.later in let m : past.met ≤ s.worker.log.last = a.met in omega (arith, n, m));
           times = subst (λ (es : List Entry). IsOnTime s.worker.thread (past.entries ++ es)) (sym entries-are) a.times;
+          held = a.held;
           once = a.once;
           replica = ap (λ (x : Links). x.registry.state) links-is ∙ a.replica;
           course = λ lowest.

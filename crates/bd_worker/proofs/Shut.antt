@@ -168,13 +168,14 @@ shut_with setup p c past contents w seen lent r log stamp lent' left setup-is st
         met = (let m : past.met ≤ w.log.last = a.met in omega (arith, m, above, logged.last));
         times =
             subst (IsOnTime w.thread) (append_assoc past.entries w.log.entries (record { stamp = stamp; thread = w.log.thread; act = acts.Shutdown } ∷ []) ∙ ap (λ (xs : List Entry). past.entries ++ xs) (sym logged.entries))
-            (on_time_still w.thread (past.entries ++ w.log.entries) (record { stamp = stamp; thread = w.log.thread; act = acts.Shutdown }) a.times refl refl);
+            (on_time_still w.thread (past.entries ++ w.log.entries) (record { stamp = stamp; thread = w.log.thread; act = acts.Shutdown }) a.times refl);
+        held = a.held;
         once = a.once;
         replica =
             caught.replica
             ∙ sym (registry_on setup (registry_at_start setup) lent.journal (shutdown_at stamp ∷ []));
         course = λ lowest.
-            subst (λ (v : View). IsCourse setup 0 (record { served = c.served; earlier = all_rows p c ++ shutdown_of stamp 0; from = v; since = stamp }) (course_then stamp 0 c') (with_shutdown l'))
+            subst (λ (v : View). IsCourse setup 0 (record { served = c.served; held = c.held; earlier = all_rows p c ++ shutdown_of stamp 0; from = v; since = stamp }) (course_then stamp 0 c') (with_shutdown l'))
             (caught_up_view setup 0 p c past contents w seen lent r lowest a lends left state-is) (begun lowest);
       };
       posts = record { taken = refl; sent = refl };
@@ -311,6 +312,7 @@ learns_shut stamp s other above state w = record {
             later = a.later;
             met = (let m : past.met ≤ s.worker.log.last = a.met in omega (arith, m));
             times = a.times;
+            held = a.held;
             once = a.once;
             replica = a.replica ∙ ap (λ (js : List Entry). registry_by setup (registry_at_start setup) js) same;
             course = λ lowest. shutdown_begins_a_phase setup t p c l stamp later (a.course lowest);

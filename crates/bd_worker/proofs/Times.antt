@@ -1,17 +1,16 @@
 -- The moments and timeslices of a worker's log, and what a turn leaves of the moments of its thread.
-use Rattle.std.proofs.Common.{◌≡◌, ℕ, ◌+◌, ◌<◌, ◌≤◌, Bool, true, false, cond, max, List, [], ◌∷◌, ◌++◌, Option, Some, None, refl, sym, ◌∙◌, ap, subst, arith}
+use Rattle.std.proofs.Common.{◌≡◌, ℕ, ◌+◌, ◌<◌, ◌≤◌, Bool, true, false, cond, max, List, [], ◌∷◌, Option, Some, None, refl, sym, ◌∙◌, ap, subst, arith}
 use Rattle.std.specs.List.{AllByRecursion}
 use Rattle.std.specs.Prelude.{IfSome}
-use Rattle.bd_base.specs.declared.act.Act.{Act}
 use Rattle.bd_base.specs.declared.act.Entry.{Entry}
 use Rattle.bd_base.specs.declared.id.DevId.{DevId}
 use Rattle.bd_law_threads.specs.Course.{acts_of, restamped}
 use Rattle.bd_machine.specs.Timeslices.{slices_of, Fits}
 use Rattle.bd_outside.specs.Clock.{IsWithin, Moments}
 use Rattle.bd_thread.specs.declared.thread.Thread.{Thread}
-use Rattle.bd_thread.specs.Seen.{setup_of, time_of}
-use Rattle.bd_thread.specs.Timely.{moment_named, slices_at, slices_in, until_named, AreTimely, EndsInTime, HadTurn, IsBetween, IsOnTime}
-use Rattle.bd_thread.proofs.OnTime.{ends_later, held_weaker, named_all, told_begun}
+use Rattle.bd_thread.specs.Seen.{time_of}
+use Rattle.bd_thread.specs.Timely.{moment_named, slices_at, slices_in, AreTimely, HadTurn, IsBetween, IsOnTime}
+use Rattle.bd_thread.proofs.OnTime.{named_all, told_begun}
 use Rattle.bd_worker.specs.Seats.{AreTimesWithin}
 
 -- ---- other stamps
@@ -19,10 +18,6 @@ use Rattle.bd_worker.specs.Seats.{AreTimesWithin}
 named_restamped : (P : ℕ → Type 0) (t last : ℕ) (es : List Entry) → AllByRecursion (λ e. IfSome (moment_named e.act) P) es → AllByRecursion (λ e. IfSome (moment_named e.act) P) (restamped t last (acts_of es))
 named_restamped P t last [] h = tt
 named_restamped P t last (e ∷ es) h = (h.0, named_restamped P t (last + 1) es h.1)
-
-held_restamped : (P : ℕ → Type 0) (t last : ℕ) (es : List Entry) → AllByRecursion (λ e. IfSome (until_named e.act) P) es → AllByRecursion (λ e. IfSome (until_named e.act) P) (restamped t last (acts_of es))
-held_restamped P t last [] h = tt
-held_restamped P t last (e ∷ es) h = (h.0, held_restamped P t (last + 1) es h.1)
 
 slices_restamped : (dev : DevId) (t last : ℕ) (es : List Entry) → slices_in dev (restamped t last (acts_of es)) ≡ slices_in dev es
 slices_restamped dev t last [] = refl
@@ -36,7 +31,6 @@ pub timely_restamped : (t last : ℕ) (es : List Entry) (old new : Thread) → A
 timely_restamped t last es old new h = record {
   time = h.time;
   named = named_restamped (λ n. n ≡ (time_of old).moment) t last es h.named;
-  held = held_restamped (EndsInTime old.setup.now (time_of old).moment) t last es h.held;
   fits = λ dev. fits_restamped dev (time_of old).start (slices_at old.part dev) t last es (h.fits dev);
   slices = λ dev. h.slices dev ∙ ap (λ n. slices_at old.part dev + n) (sym (slices_restamped dev t last es));
 }
@@ -80,16 +74,9 @@ named_within range t es h times = named_all t es (IsWithin range) h (λ given n 
     by given k n between = within_between range (time_of t).start (time_of t).moment n k.0 k.1 between
 
 -- no moment of a thread is greater than the greatest that the clock tells
-moment_most : (r : Moments) (given : Bool) (start moment : ℕ) → AreTimesWithin (Some r) given start moment → moment ≤ r.greatest
+pub moment_most : (r : Moments) (given : Bool) (start moment : ℕ) → AreTimesWithin (Some r) given start moment → moment ≤ r.greatest
 moment_most r true start moment h = h.1.1
 moment_most r false start moment h = omega (arith, h)
-
--- all that it holds, it holds in time from that greatest on
-pub held_within : (r : Moments) (t : Thread) (es : List Entry) → IsOnTime t es → AreTimesWithin (Some r) (time_of t).given (time_of t).start (time_of t).moment
-    → AllByRecursion (λ e. IfSome (until_named e.act) (EndsInTime (setup_of t) r.greatest)) es
-held_within r t es h times =
-    held_weaker (EndsInTime (setup_of t) (time_of t).moment) (EndsInTime (setup_of t) r.greatest)
-    (λ n. ends_later (setup_of t) (time_of t).moment r.greatest n (moment_most r (time_of t).given (time_of t).start (time_of t).moment times)) es h.held
 
 -- and so is the one since which the timeslices passed that it told
 pub start_within : (range : Option Moments) (t : Thread) (es : List Entry) (dev : DevId) → IsOnTime t es → 0 < slices_in dev es → AreTimesWithin range (time_of t).given (time_of t).start (time_of t).moment

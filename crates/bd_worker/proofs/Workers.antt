@@ -22,6 +22,9 @@ use Rattle.bd_outside.specs.Disk.{DiskState}
 use Rattle.bd_registry.specs.State.{Registered, start_of}
 use Rattle.bd_law_served.specs.Served.{served_led, served_over, ServedPiece}
 use Rattle.bd_law_served.proofs.Over.{over_serves_as_told}
+use Rattle.bd_law_held.specs.Held.{held_led, held_over, EndInTime, Holding}
+use Rattle.bd_law_held.proofs.Ends.{both_end}
+use Rattle.bd_law_held.proofs.Over.{over_holds_as_told}
 use Rattle.bd_law_threads.specs.Course.{acts_of, restamped, Course, IsCourse, Phase}
 use Rattle.bd_law_threads.specs.Steps.{with_registry, GoesOn, IsLonger, SeesOwn}
 use Rattle.bd_law_threads.proofs.Acting.{acts_on, any_stamp}
@@ -36,7 +39,7 @@ use Rattle.bd_thread.specs.declared.links.Links.{Links}
 use Rattle.bd_thread.specs.declared.thread.Thread.{Thread}
 use Rattle.bd_thread.specs.Over.{WentOver}
 use Rattle.bd_thread.specs.Looking.{KeepsOwn}
-use Rattle.bd_thread.specs.Seen.{local, number_of, setup_of}
+use Rattle.bd_thread.specs.Seen.{local, number_of, setup_of, time_of}
 use Rattle.bd_thread.specs.Timely.{AreTimely, HasBegun, IsOnTime}
 use Rattle.bd_thread.proofs.OnTime.{on_time_then}
 use Rattle.bd_worker.proofs.Times.{timely_restamped}
@@ -70,6 +73,7 @@ met_at setup t p c past contents w last le a = record {
   later = a.later;
   met = (let m : past.met ≤ w.log.last = a.met in let n : w.log.last ≡ c.last = a.log_last in omega (arith, le, m, n));
   times = a.times;
+  held = a.held;
   once = a.once;
   replica = a.replica;
   course = λ lowest. stamps_are_met setup t p c (seen_over setup contents w) last le (a.course lowest);
@@ -121,6 +125,7 @@ caught_up_at setup t p c past contents w seen lent r a lends left setup-is state
       later = a.later;
       met = a.met;
       times = a.times;
+      held = a.held;
       once = a.once;
       replica = state-is ∙ left;
       course = λ lowest.
@@ -147,27 +152,30 @@ bare_entries : (es : List Entry) → entries (map bare es) ≡ es
 bare_entries [] = refl
 bare_entries (e ∷ es) = ap (λ (xs : List Entry). e ∷ xs) (bare_entries es)
 
--- a course with these entries and these pieces more, which is one where base devices stand on nothing
-pub record GoesOver (setup : Setup) (t : ℕ) (p : Phase) (c : Course) (es : List Entry) (more : DevId → List ServedPiece) (l' : Local) : Type 0 where
+-- a course with these entries, these pieces and these holds more, which is one where base devices stand on nothing
+pub record GoesOver (setup : Setup) (t : ℕ) (p : Phase) (c : Course) (es : List Entry) (more : DevId → List ServedPiece) (holds : List Holding) (l' : Local) : Type 0 where
   pub course : Course
   pub longer : IsLonger t c (restamped t c.last (acts_of es)) course
   pub served : (dev : DevId) → course.served dev ≡ c.served dev ++ more dev
+  pub held : course.held ≡ c.held ++ holds
   pub is_course : AreBasesLowest setup → IsCourse setup t p course l'
 
-pub goes_over : (setup : Setup) (t : ℕ) (p : Phase) (c : Course) (es : List Entry) (more : DevId → List ServedPiece) (l l' : Local)
+pub goes_over : (setup : Setup) (t : ℕ) (p : Phase) (c : Course) (es : List Entry) (more : DevId → List ServedPiece) (holds : List Holding) (l l' : Local)
     → (AreBasesLowest setup → GoesOn setup t p c es l l')
     → (AreBasesLowest setup → (dev : DevId) → served_led setup t dev l es ≡ more dev)
-    → GoesOver setup t p c es more l'
-goes_over setup t p c es more l l' on led = go (lowest_or_not setup)
+    → (AreBasesLowest setup → held_led setup t l es ≡ holds)
+    → GoesOver setup t p c es more holds l'
+goes_over setup t p c es more holds l l' on led kept = go (lowest_or_not setup)
   where
     added : List Entry
     added = restamped t c.last (acts_of es)
 
-    go : AreBasesLowest setup ⊎ (AreBasesLowest setup → ⊥) → GoesOver setup t p c es more l'
+    go : AreBasesLowest setup ⊎ (AreBasesLowest setup → ⊥) → GoesOver setup t p c es more holds l'
     go (inl lowest) = record {
       course = (on lowest).course;
       longer = (on lowest).longer;
       served = λ dev. (on lowest).served dev ∙ ap (λ (ps : List ServedPiece). c.served dev ++ ps) (led lowest dev);
+      held = (on lowest).held ∙ ap (λ (hs : List Holding). c.held ++ hs) (kept lowest);
       is_course = λ is. (on lowest).is_course;
     }
     go (inr not_so) = record {
@@ -178,6 +186,7 @@ goes_over setup t p c es more l l' on led = go (lowest_or_not setup)
         sent = c.sent;
         seen = c.seen ++ events added;
         served = λ dev. c.served dev ++ more dev;
+        held = c.held ++ holds;
         last = c.last + length added;
       };
       longer = record {
@@ -188,6 +197,7 @@ goes_over setup t p c es more l l' on led = go (lowest_or_not setup)
         last = refl;
       };
       served = λ dev. refl;
+      held = refl;
       is_course = λ lowest. absurd (not_so lowest);
     }
 
@@ -230,11 +240,12 @@ acted_at setup t p c past before after w thread links log a begun acted tickets 
     let over : LeadsOver setup t before l es after l' =
     subst (λ (n : ℕ). LeadsOver setup n before l es after l') a.number
     (subst (λ (s : Setup). LeadsOver s w.thread.me before l es after l') setup-is acted.leads) in
-    let on : GoesOver setup t p c es (serves setup t before w es) (told_local setup after l') =
-    goes_over setup t p c es (serves setup t before w es) (told_local setup before l) (told_local setup after l')
+    let on : GoesOver setup t p c es (serves setup t before w es) (held_over setup t before l es) (told_local setup after l') =
+    goes_over setup t p c es (serves setup t before w es) (held_over setup t before l es) (told_local setup before l) (told_local setup after l')
     (λ lowest. acts_on setup t p c (told_local setup before l) (told_local setup after l') es
     (over_is_told setup before t l es after l' (memory_is_apart setup lowest) a.once over) (a.course lowest))
-    (λ lowest dev. over_serves_as_told setup before t dev l es after l' (memory_is_apart setup lowest) a.once over) in
+    (λ lowest dev. over_serves_as_told setup before t dev l es after l' (memory_is_apart setup lowest) a.once over)
+    (λ lowest. over_holds_as_told setup before t l es after l' (memory_is_apart setup lowest) a.once over) in
     let added : List Entry = restamped t c.last (acts_of es) in
     let added-is : restamped w.log.thread w.log.last (acts_of links.entries) ≡ added = ap₂ (λ (n m : ℕ). restamped n m (acts_of links.entries)) a.log_thread a.log_last ∙ ap (λ (xs : List Entry). restamped t c.last (acts_of xs)) es-are in
     let last : log.last ≡ w.log.last + length added = appends.last ∙ ap (λ (xs : List Entry). w.log.last + length xs) added-is in
@@ -266,8 +277,14 @@ acted_at setup t p c past before after w thread links log a begun acted tickets 
         met = (let m : past.met ≤ w.log.last = a.met in omega (arith, m, last));
         times =
             subst (IsOnTime thread) (append_assoc past.entries w.log.entries (restamped w.log.thread w.log.last (acts_of links.entries)) ∙ ap (λ (xs : List Entry). past.entries ++ xs) (sym appends.entries))
-            (on_time_then (past.entries ++ w.log.entries) (restamped w.log.thread w.log.last (acts_of links.entries)) w.thread thread (ap (λ s. s.now) acted.setup) a.times begun
+            (on_time_then (past.entries ++ w.log.entries) (restamped w.log.thread w.log.last (acts_of links.entries)) w.thread thread a.times begun
             (timely_restamped w.log.thread w.log.last links.entries w.thread thread (subst (λ (xs : List Entry). AreTimely xs w.thread thread) (sym es-are) acted.timely)));
+        held =
+            subst (EndInTime setup (time_of thread).moment) (sym on.held)
+            (subst (λ (n : ℕ). EndInTime setup n (c.held ++ held_over setup t before l es)) (sym (ap (λ x. x.moment) acted.timely.time))
+            (both_end setup (time_of w.thread).moment c.held (held_over setup t before l es) a.held
+            (subst (λ (n : ℕ). EndInTime setup (time_of w.thread).moment (held_over setup n before l es)) a.number
+            (subst (λ (s : Setup). EndInTime s (time_of w.thread).moment (held_over s w.thread.me before l es)) setup-is acted.held))));
         once = λ dev. subst (λ (n : ℕ). n ≤ 1) (sym (over_keeps_bases setup before t l es after l' over dev)) (a.once dev);
         replica =
             over_registry setup t before l es after l' over

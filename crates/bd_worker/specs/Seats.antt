@@ -16,6 +16,7 @@ use Rattle.bd_law_logs.specs.Rows.{entries}
 use Rattle.bd_law_logs.specs.Journals.{registry_by}
 use Rattle.bd_ring.specs.SlotRule.{AddsOwn, StartsWith}
 use Rattle.bd_law_served.specs.Served.{ServedPiece}
+use Rattle.bd_law_held.specs.Held.{EndInTime}
 use Rattle.bd_law_threads.specs.Course.{all_rows, Course, IsCourse, Phase}
 use Rattle.bd_disks.specs.Contents.{contents_of}
 use Rattle.bd_disks.specs.Done.{AreDoneBy}
@@ -72,6 +73,8 @@ pub record IsAt (setup : Setup) (t : ℕ) (p : Phase) (c : Course) (past : Past)
   pub met : past.met ≤ w.log.last
   -- the moments and timeslices of all that it did are those of its turns
   pub times : IsOnTime w.thread (past.entries ++ w.log.entries)
+  -- what it held, as it saw it, ends in time from its last turn on
+  pub held : EndInTime setup (time_of w.thread).moment c.held
   -- each device has one base at most, and the registry is what the journal leaves of which it saw the rows
   pub once : (dev : DevId) → IsOnce dev w.thread.part.bases
   pub replica : w.links.registry.state ≡ registry_by setup (registry_at_start setup) c.seen

@@ -3,6 +3,7 @@ use Rattle.std.proofs.Common.{◌≡◌, ℕ, Bool, true, false, ◌⊎◌, inl,
 use Rattle.std.specs.Prelude.{codes, if◌then◌else◌}
 use Rattle.std.proofs.lemmas.Slice.Eq.{bytes_eq-Decides}
 use Rattle.bd_base.specs.Name.{same_name}
+use Rattle.bd_outside.specs.Clock.{Moments}
 use Rattle.bd_outside.specs.Host.{HostState}
 use Rattle.bd_outside.specs.Sink.{SinkState}
 use Rattle.bd_top.specs.declared.fault.Fault.{Fault}
@@ -47,27 +48,27 @@ in_form_too words host form = record { asked = form.asked; named = asked_too (as
 
 module _ (words : List (List ℕ)) (old new : HostState) (kept later before after : SinkState) (quiet : NothingFails old new before after) where
   -- where what the words name is in form and neither the files nor this other output fail, the fault is out of memory
-  pub only_memory_kept : IsInForm words old → (fault : Fault) → Cause words old new kept later fault → kept_fault fault ≡ faults.OutOfMemory
-  only_memory_kept form faults.WriteFault cause = refl
-  only_memory_kept form faults.Usage cause = only_memory words old new before after (in_form_too words old form) quiet faults.Usage cause
-  only_memory_kept form (faults.NoFile name) cause = only_memory words old new before after (in_form_too words old form) quiet (faults.NoFile name) cause
-  only_memory_kept form (faults.TooLong name) cause = only_memory words old new before after (in_form_too words old form) quiet (faults.TooLong name) cause
-  only_memory_kept form (faults.ReadFault name) cause = only_memory words old new before after (in_form_too words old form) quiet (faults.ReadFault name) cause
-  only_memory_kept form faults.ConfigText cause = only_memory words old new before after (in_form_too words old form) quiet faults.ConfigText cause
-  only_memory_kept form (faults.ConfigShape place) cause = only_memory words old new before after (in_form_too words old form) quiet (faults.ConfigShape place) cause
-  only_memory_kept form (faults.Method index code) cause = only_memory words old new before after (in_form_too words old form) quiet (faults.Method index code) cause
-  only_memory_kept form (faults.JobText line) cause = only_memory words old new before after (in_form_too words old form) quiet (faults.JobText line) cause
-  only_memory_kept form faults.OutOfMemory cause = refl
+  pub only_memory_kept : (range : Option Moments) → IsInForm words old → (fault : Fault) → Cause range words old new kept later fault → kept_fault fault ≡ faults.OutOfMemory
+  only_memory_kept range form faults.WriteFault cause = refl
+  only_memory_kept range form faults.Usage cause = only_memory words old new before after (in_form_too words old form) quiet range faults.Usage cause
+  only_memory_kept range form (faults.NoFile name) cause = only_memory words old new before after (in_form_too words old form) quiet range (faults.NoFile name) cause
+  only_memory_kept range form (faults.TooLong name) cause = only_memory words old new before after (in_form_too words old form) quiet range (faults.TooLong name) cause
+  only_memory_kept range form (faults.ReadFault name) cause = only_memory words old new before after (in_form_too words old form) quiet range (faults.ReadFault name) cause
+  only_memory_kept range form faults.ConfigText cause = only_memory words old new before after (in_form_too words old form) quiet range faults.ConfigText cause
+  only_memory_kept range form (faults.ConfigShape place) cause = only_memory words old new before after (in_form_too words old form) quiet range (faults.ConfigShape place) cause
+  only_memory_kept range form (faults.Method index code) cause = only_memory words old new before after (in_form_too words old form) quiet range (faults.Method index code) cause
+  only_memory_kept range form (faults.JobText line) cause = only_memory words old new before after (in_form_too words old form) quiet range (faults.JobText line) cause
+  only_memory_kept range form faults.OutOfMemory cause = refl
 
   -- where one thing is wrong with the files and neither they nor this other output fail, the fault is that one or out of memory
-  pub only_this_kept : (fault : Fault) → IsWrong words old fault → (given : Fault) → Cause words old new kept later given → (kept_fault given ≡ fault) ⊎ (kept_fault given ≡ faults.OutOfMemory)
-  only_this_kept fault wrong faults.WriteFault cause = inr refl
-  only_this_kept fault wrong faults.Usage cause = only_this words old fault wrong new before after quiet faults.Usage cause
-  only_this_kept fault wrong (faults.NoFile name) cause = only_this words old fault wrong new before after quiet (faults.NoFile name) cause
-  only_this_kept fault wrong (faults.TooLong name) cause = only_this words old fault wrong new before after quiet (faults.TooLong name) cause
-  only_this_kept fault wrong (faults.ReadFault name) cause = only_this words old fault wrong new before after quiet (faults.ReadFault name) cause
-  only_this_kept fault wrong faults.ConfigText cause = only_this words old fault wrong new before after quiet faults.ConfigText cause
-  only_this_kept fault wrong (faults.ConfigShape place) cause = only_this words old fault wrong new before after quiet (faults.ConfigShape place) cause
-  only_this_kept fault wrong (faults.Method index code) cause = only_this words old fault wrong new before after quiet (faults.Method index code) cause
-  only_this_kept fault wrong (faults.JobText line) cause = only_this words old fault wrong new before after quiet (faults.JobText line) cause
-  only_this_kept fault wrong faults.OutOfMemory cause = inr refl
+  pub only_this_kept : (range : Option Moments) (fault : Fault) → IsWrong words old fault → (given : Fault) → Cause range words old new kept later given → (kept_fault given ≡ fault) ⊎ (kept_fault given ≡ faults.OutOfMemory)
+  only_this_kept range fault wrong faults.WriteFault cause = inr refl
+  only_this_kept range fault wrong faults.Usage cause = only_this words old fault wrong new before after quiet range faults.Usage cause
+  only_this_kept range fault wrong (faults.NoFile name) cause = only_this words old fault wrong new before after quiet range (faults.NoFile name) cause
+  only_this_kept range fault wrong (faults.TooLong name) cause = only_this words old fault wrong new before after quiet range (faults.TooLong name) cause
+  only_this_kept range fault wrong (faults.ReadFault name) cause = only_this words old fault wrong new before after quiet range (faults.ReadFault name) cause
+  only_this_kept range fault wrong faults.ConfigText cause = only_this words old fault wrong new before after quiet range faults.ConfigText cause
+  only_this_kept range fault wrong (faults.ConfigShape place) cause = only_this words old fault wrong new before after quiet range (faults.ConfigShape place) cause
+  only_this_kept range fault wrong (faults.Method index code) cause = only_this words old fault wrong new before after quiet range (faults.Method index code) cause
+  only_this_kept range fault wrong (faults.JobText line) cause = only_this words old fault wrong new before after quiet range (faults.JobText line) cause
+  only_this_kept range fault wrong faults.OutOfMemory cause = inr refl

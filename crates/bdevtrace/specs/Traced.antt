@@ -3,6 +3,7 @@ use Rattle.std.specs.Prelude.{◌≡◌, ℕ, Bool, false, List, [], ◌∷◌, 
 use Rattle.std.specs.Io.KnownBytes.{Appends}
 use Rattle.bd_base.specs.Name.{same_name}
 use Rattle.bd_base.specs.declared.act.Entry.{Entry}
+use Rattle.bd_outside.specs.Clock.{Moments}
 use Rattle.bd_outside.specs.Host.{HostState}
 use Rattle.bd_outside.specs.Sink.{SinkState, Fails}
 use Rattle.bd_report.specs.Writing.{AppendsPrefix}
@@ -25,33 +26,33 @@ traced_of words = if asks_for_script words then None else asked_of words
 
 -- ---- Ok
 
--- what the words ask was played: this is the history, and this its report
-pub record WasPlayed (words : List (List ℕ)) (old new : HostState) (trace : List Entry) (report : List ℕ) : Type 0 where
+-- what the words ask was played by a clock that tells its moments, if it tells any: this is the history, and this its report
+pub record WasPlayed (range : Option Moments) (words : List (List ℕ)) (old new : HostState) (trace : List Entry) (report : List ℕ) : Type 0 where
   pub asked : Asked
   pub named : traced_of words ≡ Some asked
-  pub done : IsDone asked old new trace report
+  pub done : IsDone range asked old new trace report
 
 -- it was played with this history, and the output gained the report and then the text of the history
-pub record IsTraced (words : List (List ℕ)) (old new : HostState) (trace : List Entry) (before after : SinkState) : Type 0 where
+pub record IsTraced (range : Option Moments) (words : List (List ℕ)) (old new : HostState) (trace : List Entry) (before after : SinkState) : Type 0 where
   pub report : List ℕ
-  pub played : WasPlayed words old new trace report
+  pub played : WasPlayed range words old new trace report
   pub output : Appends before.written after.written (report ++ history_text trace)
 
 -- ---- faults
 
 -- it was played, and the output failed, after a prefix of the report and the text of the history
-pub record IsCutOff (words : List (List ℕ)) (old new : HostState) (before after : SinkState) : Type 0 where
+pub record IsCutOff (range : Option Moments) (words : List (List ℕ)) (old new : HostState) (before after : SinkState) : Type 0 where
   pub trace : List Entry
   pub report : List ℕ
-  pub played : WasPlayed words old new trace report
+  pub played : WasPlayed range words old new trace report
   pub prefix : AppendsPrefix before.written after.written (report ++ history_text trace)
   pub failed : Fails before after
 
 -- when each fault comes; but for the words and the output it is as of bdevrun
-abbrev pub TraceCause : List (List ℕ) → HostState → HostState → SinkState → SinkState → Fault → Type 0
-TraceCause words old new before after Usage = traced_of words ≡ None
-TraceCause words old new before after WriteFault = IsCutOff words old new before after
-TraceCause words old new before after fault = Cause words old new before after fault
+abbrev pub TraceCause : Option Moments → List (List ℕ) → HostState → HostState → SinkState → SinkState → Fault → Type 0
+TraceCause range words old new before after Usage = traced_of words ≡ None
+TraceCause range words old new before after WriteFault = IsCutOff range words old new before after
+TraceCause range words old new before after fault = Cause range words old new before after fault
 
 -- the fault of a run whose output was kept in memory, for this fault of it
 abbrev pub kept_fault : Fault → Fault

@@ -55,10 +55,10 @@ fn play<R: AllocGlobal + Threads + Wait + Sync, H: Host, C: Clock + Sync, G: Gat
 ) -> Result<Played, Fault>
 where
     H::Disk: Send,
-    ensures played { IfOk result (λ p. WasPlayed (map string_bytes words.now) (H.state host.old) (H.state host.new) p.ran.trace p.report.items) }
+    ensures played { IfOk result (λ p. WasPlayed (C.range clock.now) (map string_bytes words.now) (H.state host.old) (H.state host.new) p.ran.trace p.report.items) }
     ensures status { IfOk result (λ p. p.ran.status ≡ 0) }
     ensures usage { traced_of (map string_bytes words.now) ≡ None → result ≡ Err Fault.Usage }
-    ensures cause { (before after : SinkState) → IfErr result (TraceCause (map string_bytes words.now) (H.state host.old) (H.state host.new) before after) }
+    ensures cause { (before after : SinkState) → IfErr result (TraceCause (C.range clock.now) (map string_bytes words.now) (H.state host.old) (H.state host.new) before after) }
     ensures complete { (before after : SinkState) → IsInForm (map string_bytes words.now) (H.state host.old)
         → NothingFails (H.state host.old) (H.state host.new) before after
         → IfErr result (λ fault. fault ≡ Fault.OutOfMemory) }
@@ -108,10 +108,10 @@ pub(crate) fn trace<
 >(rt: &R, words: &[String], host: &mut H, out: &mut K, clock: &C, gate: &G) -> Result<Ran, Fault>
 where
     H::Disk: Send,
-    ensures traced { IfOk result (λ r. IsTraced (map string_bytes words.now) (H.state host.old) (H.state host.new) r.trace (K.state out.old) (K.state out.new)) }
+    ensures traced { IfOk result (λ r. IsTraced (C.range clock.now) (map string_bytes words.now) (H.state host.old) (H.state host.new) r.trace (K.state out.old) (K.state out.new)) }
     ensures status { IfOk result (λ r. r.status ≡ 0) }
     ensures usage { traced_of (map string_bytes words.now) ≡ None → result ≡ Err Fault.Usage }
-    ensures cause { IfErr result (TraceCause (map string_bytes words.now) (H.state host.old) (H.state host.new) (K.state out.old) (K.state out.new)) }
+    ensures cause { IfErr result (TraceCause (C.range clock.now) (map string_bytes words.now) (H.state host.old) (H.state host.new) (K.state out.old) (K.state out.new)) }
     ensures complete { IsInForm (map string_bytes words.now) (H.state host.old)
         → NothingFails (H.state host.old) (H.state host.new) (K.state out.old) (K.state out.new)
         → IfErr result (λ fault. fault ≡ Fault.OutOfMemory) }

@@ -43,7 +43,7 @@ const TWO: ReqId = ReqId { thread: 0, seq: 2 };
 
 // The whole history of the script, with the stamps 1, 2, 3 and so on.
 const TRACE: [Deed; 39] = [
-    Deed::Reg(Ask::Open(0)),
+    Deed::Reg(Ask::Open(0, 64)),
     Deed::Reg(Ask::Get(true)),
     Deed::Script(1, Outcome::Done),
     Deed::Accept(ZERO, 0, WRITE, 0, 1),
@@ -88,7 +88,7 @@ const TRACE: [Deed; 39] = [
 const REFUSED: [(u32, usize, Deed); 52] = [
     // a pend of a request that isn't there, a reset that the line doesn't ask for
     (13, 0, Deed::Pend),
-    (8, 3, Deed::Accept(ZERO, 0, Op::Reset, 0, 1)),
+    (8, 3, Deed::Accept(ZERO, 0, Op::Reset(0), 0, 1)),
     // a put with the wrong number; of a piece that there isn't; of one that is out; of one that
     // wasn't served; of a channel that has a reference; a take before its put; a take of what was
     // taken; of a channel that wasn't put
@@ -102,17 +102,17 @@ const REFUSED: [(u32, usize, Deed); 52] = [
     (5, 30, Deed::Took(4, What::Channel)),
     // a handle number that isn't the next one, a channel that isn't there yet, a removal that
     // sees no handle, a second claim of a handle, an open that its own claim refuses
-    (6, 0, Deed::Reg(Ask::Open(7))),
+    (6, 0, Deed::Reg(Ask::Open(7, 64))),
     (6, 1, Deed::Reg(Ask::Get(false))),
     (6, 3, Deed::Reg(Ask::Remove)),
     (6, 26, Deed::Reg(Ask::Claim)),
-    (6, 26, Deed::Reg(Ask::Open(1))),
+    (6, 26, Deed::Reg(Ask::Open(1, 64))),
     // an open, a close and a claim that no line asks
-    (7, 3, Deed::Reg(Ask::Open(1))),
+    (7, 3, Deed::Reg(Ask::Open(1, 64))),
     (7, 5, Deed::Reg(Ask::Close)),
     (7, 5, Deed::Reg(Ask::Claim)),
     // between an open and its channel another open, a close; a second channel
-    (7, 1, Deed::Reg(Ask::Open(1))),
+    (7, 1, Deed::Reg(Ask::Open(1, 64))),
     (7, 1, Deed::Reg(Ask::Close)),
     (7, 2, Deed::Reg(Ask::Get(false))),
     // a close before its put, a get and a drop between the two, a drop before its message

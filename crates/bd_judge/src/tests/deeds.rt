@@ -14,7 +14,8 @@ const HANDLE: HandleId = HandleId(0);
 /// What thread 0 asks of the registry, with the answer, by what differs.
 #[derive(Clone, Copy)]
 pub(crate) enum Ask {
-    Open(u128),
+    // The number of the handle, and how many blocks the device has.
+    Open(u128, u64),
     // Whether the channel is made by this get.
     Get(bool),
     Claim,
@@ -58,7 +59,7 @@ fn req(seq: u64) -> ReqId {
 fn event(alloc: Global, ask: Ask) -> Result<RegEvent, OutOfMemory> {
     let name = name(alloc, "Malloc0")?;
     match ask {
-        Ask::Open(_) => Ok(RegEvent::Open { name, write: true }),
+        Ask::Open(..) => Ok(RegEvent::Open { name, write: true }),
         Ask::Get(_) => Ok(RegEvent::GetChannel { dev: DEV }),
         Ask::Claim => Ok(RegEvent::Claim {
             handle: HANDLE,
@@ -77,9 +78,10 @@ fn event(alloc: Global, ask: Ask) -> Result<RegEvent, OutOfMemory> {
 
 fn answer(alloc: Global, ask: Ask) -> Answer {
     match ask {
-        Ask::Open(handle) => Answer::Opened {
+        Ask::Open(handle, blocks) => Answer::Opened {
             handle: HandleId(handle),
             dev: DEV,
+            blocks,
         },
         Ask::Get(fresh) => Answer::Got {
             fresh,

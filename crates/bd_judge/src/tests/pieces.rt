@@ -31,7 +31,7 @@ const ZERO: ReqId = ReqId { thread: 0, seq: 0 };
 const ONE: ReqId = ReqId { thread: 0, seq: 1 };
 
 const TRACE: [Deed; 32] = [
-    Deed::Reg(Ask::Open(0)),
+    Deed::Reg(Ask::Open(0, 16)),
     Deed::Reg(Ask::Get(true)),
     Deed::Script(1, Outcome::Done),
     Deed::Accept(ZERO, 0, WRITE, 4, 8),

@@ -1,6 +1,6 @@
-//! Sleeps and delays by a clock that goes on, or back, by a step with each turn.
+//! Sleeps, delays and drain times by a clock that goes on, or back, by a step with each turn.
 use crate::tests::clocked::{Case, REACTOR, history};
-use bd_base::{Act, Entry};
+use bd_base::{Act, Entry, Status};
 use bd_outside::{Clock, StepClock};
 use std::alloc::Global;
 use std::sync::Wait;
@@ -12,6 +12,9 @@ const DELAY: &str =
 
 const NINETY_NINE: &str =
     ",{\"method\":\"bdev_delay_create\",\"params\":{\"base_bdev_name\":\"M\",\"name\":\"D\",\"avg_read_latency\":0,\"p99_read_latency\":1000000,\"avg_write_latency\":0,\"p99_write_latency\":0}}";
+
+const HANGS: &str =
+    ",{\"method\":\"bdev_error_create\",\"params\":{\"base_name\":\"M\"}},{\"method\":\"bdev_error_inject_error\",\"params\":{\"name\":\"EE_M\",\"io_type\":\"read\",\"error_type\":\"pending\"}}";
 
 // How long a turn by this clock takes, in microseconds.
 const STEP: u64 = 250;
@@ -28,6 +31,31 @@ fn held(alloc: Global, trace: &[Entry]) -> Result<(Vec<u64>, Vec<u64>), Fail> {
         }
     }
     Ok((until, released))
+}
+
+// The moments until which soft marks lasted, in order, and those at which they became hard.
+fn softened(alloc: Global, trace: &[Entry]) -> Result<(Vec<u64>, Vec<u64>), Fail> {
+    let mut until = Vec::new(alloc);
+    let mut hardened = Vec::new(alloc);
+    for entry in trace {
+        match &entry.act {
+            Act::Grace { until: moment, .. } => until.push(*moment)?,
+            Act::Due { now, .. } => hardened.push(*now)?,
+            _ => {}
+        }
+    }
+    Ok((until, hardened))
+}
+
+// How many requests ended with this status.
+fn ended(trace: &[Entry], status: Status) -> usize {
+    let mut count = 0usize;
+    for entry in trace {
+        if matches!(&entry.act, Act::Complete { status: with, .. } if *with == status) {
+            count = count.saturating_add(1);
+        }
+    }
+    count
 }
 
 // How many turns a run of these jobs takes on one thread of a reactor.
@@ -93,6 +121,56 @@ fn the_hundredth_read_waits_longer(rt: HostRuntime) -> Result<(), Fail> {
             "{place} {until:?}"
         );
     }
+    Ok(())
+}
+
+#[test]
+fn a_drain_time_lasts_from_the_visit_on(rt: HostRuntime) -> Result<(), Fail> {
+    let alloc = rt.alloc();
+    // the reset begins at 0, and its walk comes at 250
+    let case = Case {
+        commands: HANGS,
+        jobs: "0 open h EE_M w\n0 read h 0 1\n0 reset h 1000\n0 wait\n0 close h\n",
+        threads: "1",
+        drive: REACTOR,
+    };
+    let trace = history(&rt, case, &StepClock::new(0, STEP))?;
+    let (until, hardened) = softened(alloc, trace.as_slice())?;
+    assert!(rt;
+        until.len() == 1 && until.as_slice().first() == Some(&1250),
+        "{until:?}"
+    );
+    assert!(rt;
+        hardened.len() == 1 && hardened.as_slice().first() == Some(&1250),
+        "{hardened:?}"
+    );
+    let aborted = ended(trace.as_slice(), Status::Aborted);
+    let done = ended(trace.as_slice(), Status::Success);
+    assert!(rt; aborted == 1 && done == 1, "{aborted} {done}");
+    Ok(())
+}
+
+#[test]
+fn what_ends_within_a_drain_time_is_not_aborted(rt: HostRuntime) -> Result<(), Fail> {
+    let alloc = rt.alloc();
+    // the read is held from 500 to 1500
+    let case = Case {
+        commands: DELAY,
+        jobs: "0 open h D r\n0 read h 0 1\n0 reset h 5000\n0 wait\n0 close h\n",
+        threads: "1",
+        drive: REACTOR,
+    };
+    let trace = history(&rt, case, &StepClock::new(0, STEP))?;
+    let (until, hardened) = softened(alloc, trace.as_slice())?;
+    assert!(rt;
+        until.len() == 1 && until.as_slice().first() == Some(&5250),
+        "{until:?}"
+    );
+    assert!(rt; hardened.len() == 0, "{hardened:?}");
+    let (_until, released) = held(alloc, trace.as_slice())?;
+    assert!(rt; released.as_slice().first() == Some(&1500), "{released:?}");
+    let done = ended(trace.as_slice(), Status::Success);
+    assert!(rt; done == 2, "{done}");
     Ok(())
 }
 

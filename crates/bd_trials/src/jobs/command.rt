@@ -17,6 +17,8 @@ pub(crate) fn told(alloc: Global, job: &Job) -> Result<String, OutOfMemory> {
             count,
         } => submission(alloc, handle, op, *lba, *count)?,
         Job::Remove { dev } => format!(in alloc; "{word} {dev}")?,
+        Job::Resize { dev, blocks } => format!(in alloc; "{word} {dev} {blocks}")?,
+        Job::Sized { handle, blocks } => format!(in alloc; "{word} {handle} {blocks}")?,
         Job::Wait => String::from_str(alloc, word)?,
         Job::Sleep(micros) => format!(in alloc; "{word} {micros}")?,
         Job::Post(mark) | Job::Await(mark) => format!(in alloc; "{word} {mark}")?,
@@ -50,7 +52,8 @@ fn submission(
         Op::Zeroes => "zeroes",
         Op::Unmap => "unmap",
         Op::Flush => "flush",
-        Op::Reset => return Ok(format!(in alloc; "reset {handle}")?),
+        Op::Reset(0) => return Ok(format!(in alloc; "reset {handle}")?),
+        Op::Reset(time) => return Ok(format!(in alloc; "reset {handle} {time}")?),
         Op::Abort(line) => return Ok(format!(in alloc; "abort {handle} {line}")?),
     };
     Ok(format!(in alloc; "{word} {handle} {lba} {count}")?)

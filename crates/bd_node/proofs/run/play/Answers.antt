@@ -61,9 +61,9 @@ returns-in-Ok-play_out-clause-starts g c lowest =
     c.settle.ensures.starts range (turned.times (c.in-Ok.ensures.times range)) (subst (λ (s : Setup). AreBasesLowest s) (sym setup-is) lowest)
 
 pub returns-in-Ok-play_out-clause-holds : goal.returns-in-Ok-play_out-clause-holds
-returns-in-Ok-play_out-clause-holds g c =
+returns-in-Ok-play_out-clause-holds g c lowest =
     let range = g.C.Clock.range c.args.outside.now.clock.now in
     let turned = c.in-Ok-play_out.ensures in
     let setup-is : setup_in c.play_out.new.node ≡ c.args.setup.now = ap (λ s. s.now) turned.setup ∙ c.in-Ok.ensures.setup in
     subst (λ (s : Setup). IfOk c.settle.result.0 (λ run. AreHoldsWithin range s run.history)) setup-is
-    (c.settle.ensures.holds range (turned.times (c.in-Ok.ensures.times range)))
+    (c.settle.ensures.holds range (turned.times (c.in-Ok.ensures.times range)) (subst (λ (s : Setup). AreBasesLowest s) (sym setup-is) lowest))

@@ -12,7 +12,7 @@ use Rattle.bd_outside.specs.declared.opening.Opening.{Opening}
 use Rattle.bd_machine.specs.Content.{Told}
 use Rattle.bd_machine.specs.Run.{IsCompleteRun}
 use Rattle.bd_node.specs.Disks.{told_of, SaysOfDisks}
-use Rattle.bd_node.specs.Times.{AreStartsWithin}
+use Rattle.bd_node.specs.Times.{AreHoldsWithin, AreStartsWithin}
 use Rattle.bd_base.specs.declared.act.Entry.{Entry}
 use Rattle.bd_report.specs.declared.stats.Stats.{Stats}
 use Rattle.bd_report.specs.Report.{report_with}
@@ -33,7 +33,10 @@ returns-clause-played g c alone earlier =
     let counted : c.in_ok-trace.field-0.stats ≡ stats_of setup c.in_ok-trace.field-0.history = search rules in
     let complete : IsCompleteRun setup told c.in_ok-trace.field-0.history =
     subst (λ (threads : List (List (DevId × g.row.H-Disk.Denot))). IsCompleteRun setup (told_of state setup threads) c.in_ok-trace.field-0.history) c.in-Ok.ensures.items shelved in
-    played setup told c.args.full c.in_ok-trace.field-0.history c.in_ok-text.text.items earlier complete (c.in_ok-text.ensures ∙ ap₂ (λ (es : List Entry) (stats : Stats). report_with c.args.full setup es stats) c.entries.ensures counted)
+    let range = g.C.Clock.range c.args.outside.now.clock.now in
+    let held : IfOk c.play-played.result.0 (λ run. AreHoldsWithin range setup run.history) = c.play-played.ensures.holds (bases_lowest setup alone) in
+    let holds : AreHoldsWithin range setup c.in_ok-trace.field-0.history = search rules in
+    played range setup told c.args.full c.in_ok-trace.field-0.history c.in_ok-text.text.items earlier complete holds (c.in_ok-text.ensures ∙ ap₂ (λ (es : List Entry) (stats : Stats). report_with c.args.full setup es stats) c.entries.ensures counted)
 
 pub returns-clause-disks : goal.returns-clause-disks
 returns-clause-disks g c told base alone are =

@@ -46,10 +46,16 @@ returns-clause-moments g c range within =
     (moments_within g.D.Disk.state c.requires.node.starts n c.requires.node.node c.requires.left range within)
 
 pub returns-clause-holds : goal.returns-clause-holds
-returns-clause-holds g c range within =
+returns-clause-holds g c range within lowest =
     let n = c.args.self in
+    let state = g.D.Disk.state in
+    let starts = c.requires.node.starts in
+    let node = c.requires.node.node in
+    let settled = node_settles state starts n node lowest c.requires.done c.in-Ok.taken.items c.in-Ok.ensures.passes
+    c.disconnect-registry.ensures.delivered c.disconnect-registry.result c.disconnect-registry.ensures.journal c.journal-journal.ensures.ordered c.journal-journal.ensures.replay
+    n.trace.items (trace_is_merge state starts n node c.requires.left) in
     subst (λ (es : List Entry). AreHoldsWithin range (setup_in n) es) (sym (c.of-history.ensures ∙ c.from_vec.ensures))
-    (holds_within g.D.Disk.state c.requires.node.starts n c.requires.node.node c.requires.left range within)
+    (holds_within state starts n node c.requires.left range within (told_of state (setup_in n) starts) settled.complete.0 settled.held)
 
 pub returns-clause-starts : goal.returns-clause-starts
 returns-clause-starts g c range within lowest =

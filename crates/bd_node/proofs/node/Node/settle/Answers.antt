@@ -62,9 +62,9 @@ pub returns-in-Ok-clause-moments : goal.returns-in-Ok-clause-moments
 returns-in-Ok-clause-moments g c range within = c.end.ensures.moments range (c.in-Ok.ensures.times range within)
 
 pub returns-in-Ok-clause-holds : goal.returns-in-Ok-clause-holds
-returns-in-Ok-clause-holds g c range within =
+returns-in-Ok-clause-holds g c range within lowest =
     let setup-is : setup_in c.gather_and_count.new.self ≡ setup_in c.args.self = ap (λ s. s.now) c.in-Ok.ensures.same.setup in
-    IfOk-weaker c.end.result.0 _ _ (λ run is. subst (λ (s : Setup). AreHoldsWithin range s run.history) setup-is is) (c.end.ensures.holds range (c.in-Ok.ensures.times range within))
+    IfOk-weaker c.end.result.0 _ _ (λ run is. subst (λ (s : Setup). AreHoldsWithin range s run.history) setup-is is) (c.end.ensures.holds range (c.in-Ok.ensures.times range within) (subst (λ (s : Setup). AreBasesLowest s) (sym setup-is) lowest))
 
 pub returns-in-Ok-clause-starts : goal.returns-in-Ok-clause-starts
 returns-in-Ok-clause-starts g c range within lowest =

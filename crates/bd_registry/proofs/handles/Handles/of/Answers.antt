@@ -9,7 +9,7 @@ pub loop-handle-preserved : goal.loop-handle-preserved
 loop-handle-preserved c =
     let hs : List Handle = c.args.handles.now in
     let i = c.loop-handle.handle-index in
-    let none : Handle = record { id = record { 0 = 0 }; dev = record { 0 = 0 }; thread = record { 0 = 0 }; write = false; claim = None } in
+    let none : Handle = record { id = record { 0 = 0 }; dev = record { 0 = 0 }; thread = record { 0 = 0 }; write = false; claim = None; blocks = 0 } in
     let less = c.loop-handle-test.true in
     let at = counted_at 0 hs i none less c.requires in
     let next = c.loop-handle.invariant.next in

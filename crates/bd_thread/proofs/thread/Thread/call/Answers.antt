@@ -1,3 +1,4 @@
+use Rattle.std.proofs.Common.{◌∙◌}
 use Rattle.bd_thread.specs.Calls.{NoCallOf, NoResetOf}
 use Rattle.bd_thread.specs.Injections.{NoDecisionOf}
 use Rattle.bd_thread.specs.Waits.{Idles, StandsOf}
@@ -25,5 +26,6 @@ returns c =
     record {
       acted = acted_then o a p d n e both carried.acted;
       tickets = λ keeps. carried.tickets (asked.tickets (decided.tickets keeps));
+      noted = carried.noted ∙ asked.noted ∙ decided.noted;
       quiet = idle_then {P = NoCallOf req} {Q = StandsOf c.in_ok-carry.field-0 req} {R = NoCallOf req} o a p d n e both carried.acted (λ uncalled stands. uncalled) none carried.quiet;
     }

@@ -20,12 +20,14 @@ use Rattle.bd_thread.proofs.Idle.{cuts_more, idle_here, idle_then, stops_more}
 use Rattle.bd_thread.proofs.Limiting.{not_here}
 use Rattle.bd_thread.proofs.Naming.{stops_named_alone, stops_named_idle}
 use Rattle.bd_thread.proofs.Injecting.{pend_is_due, pends_alone, pends_more}
+use Rattle.bd_thread.proofs.Noted.{cuts_noted, pends_noted, stops_named_noted, stops_noted}
 use Rattle.bd_thread.proofs.thread.Thread.carry.Goals as goal
 
 pub returns-then-not-is_here : goal.returns-then-not-is_here
 returns-then-not-is_here c = record {
   acted = acted_none _ _;
   tickets = λ keeps. keeps;
+  noted = refl;
   quiet = idle_here _ _ (not_here c.args.req c.args.self.now c.args.links.now (sym c.is_here.ensures ∙ c.if-not-is_here.true));
   alone = alone_none _;
 }
@@ -40,6 +42,7 @@ returns-in_ok-stop-in-Abort c =
     record {
       acted = c.in_ok-stop-in-Abort.ensures.acted;
       tickets = c.in_ok-stop-in-Abort.ensures.tickets;
+      noted = stops_noted req cause t links c.stop.new.self c.stop.new.links c.in_ok-stop-in-Abort.ensures.stops;
       quiet = λ few. absurd (stops_more req cause t links c.stop.new.self c.stop.new.links (abort_is_due req cause t links may) c.in_ok-stop-in-Abort.ensures.stops few);
       alone = stops_alone req cause t links c.stop.new.self c.stop.new.links c.in_ok-stop-in-Abort.ensures.stops;
     }
@@ -54,6 +57,7 @@ returns-in_ok-cut-in-Cut c =
     record {
       acted = c.in_ok-cut-in-Cut.ensures.acted;
       tickets = c.in_ok-cut-in-Cut.ensures.tickets;
+      noted = cuts_noted req t links c.cut.new.self c.cut.new.links n c.in_ok-cut-in-Cut.ensures.cut;
       quiet = λ few. absurd (cuts_more req t links c.cut.new.self c.cut.new.links n (cut_is_due req t links may) c.in_ok-cut-in-Cut.ensures.cut few);
       alone = cuts_alone req t links c.cut.new.self c.cut.new.links n c.in_ok-cut-in-Cut.ensures.cut;
     }
@@ -68,6 +72,7 @@ returns-in_ok-pend-in-Pend c =
     record {
       acted = c.in_ok-pend-in-Pend.ensures.acted;
       tickets = c.in_ok-pend-in-Pend.ensures.tickets;
+      noted = pends_noted req t links c.pend.new.self c.pend.new.links done c.in_ok-pend-in-Pend.ensures.pends;
       quiet = λ few. absurd (pends_more req t links c.pend.new.self c.pend.new.links done (pend_is_due req t links may) c.in_ok-pend-in-Pend.ensures.pends few);
       alone = pends_alone req t links c.pend.new.self c.pend.new.links done c.in_ok-pend-in-Pend.ensures.pends;
     }
@@ -106,6 +111,7 @@ returns-in_ok-go_out-in_default c =
     record {
       acted = acted_then _ _ _ _ _ _ first-acted out.acted;
       tickets = λ keeps. out.tickets (gone.tickets (stops.tickets keeps));
+      noted = out.noted ∙ gone.noted ∙ stops_named_noted req t links c.stop_named.new.self c.stop_named.new.links stops.stops;
       quiet = λ few.
           let i = all few in
           let no_way : NoWayOut req (next_step t.setup.now t.me (view_of t links) req) t links = subst (λ (s : Step). NoWayOut req s t links) step-is i.waits.2 in

@@ -1,6 +1,6 @@
 use Rattle.std.proofs.Common.{arith}
 use Rattle.bd_thread.proofs.Going.{acted_none, acted_then}
-use Rattle.bd_thread.proofs.Idle.{discharges_idle, idle_here, idle_so, idle_then}
+use Rattle.bd_thread.proofs.Idle.{idle_here, idle_so, idle_then}
 use Rattle.bd_thread.proofs.Waiting.{none_owed}
 use Rattle.bd_thread.proofs.thread.Thread.discharge_all.Goals as goal
 
@@ -9,16 +9,16 @@ loop-round-init c = record { acted = acted_none _ _; tickets = λ keeps. keeps; 
 
 pub loop-round-preserved : goal.loop-round-preserved
 loop-round-preserved c = record {
-  acted = acted_then _ _ _ _ _ _ c.loop-round.invariant.acted c.in_ok-discharge.ensures.acted;
-  tickets = λ keeps. c.in_ok-discharge.ensures.tickets (c.loop-round.invariant.tickets keeps);
-  quiet = idle_then _ _ _ _ _ _ c.loop-round.invariant.acted c.in_ok-discharge.ensures.acted (λ before now begun. now) c.loop-round.invariant.quiet (discharges_idle _ _ _ _ _ c.in_ok-discharge.ensures.discharges);
+  acted = acted_then _ _ _ _ _ _ c.loop-round.invariant.acted c.in_ok-do_owed.ensures.acted;
+  tickets = λ keeps. c.in_ok-do_owed.ensures.tickets (c.loop-round.invariant.tickets keeps);
+  quiet = idle_then _ _ _ _ _ _ c.loop-round.invariant.acted c.in_ok-do_owed.ensures.acted (λ before now begun. now) c.loop-round.invariant.quiet c.in_ok-do_owed.ensures.quiet;
 }
 
 pub returns-then-not-branch : goal.returns-then-not-branch
 returns-then-not-branch c = record {
-  acted = acted_then _ _ _ _ _ _ c.loop-round.invariant.acted c.in_ok-discharge.ensures.acted;
-  tickets = λ keeps. c.in_ok-discharge.ensures.tickets (c.loop-round.invariant.tickets keeps);
-  quiet = idle_then _ _ _ _ _ _ c.loop-round.invariant.acted c.in_ok-discharge.ensures.acted (λ before now. now) c.loop-round.invariant.quiet (discharges_idle _ _ _ _ _ c.in_ok-discharge.ensures.discharges);
+  acted = acted_then _ _ _ _ _ _ c.loop-round.invariant.acted c.in_ok-do_owed.ensures.acted;
+  tickets = λ keeps. c.in_ok-do_owed.ensures.tickets (c.loop-round.invariant.tickets keeps);
+  quiet = idle_then _ _ _ _ _ _ c.loop-round.invariant.acted c.in_ok-do_owed.ensures.acted (λ before now. now) c.loop-round.invariant.quiet c.in_ok-do_owed.ensures.quiet;
 }
 
 pub returns-after-loop-round : goal.returns-after-loop-round

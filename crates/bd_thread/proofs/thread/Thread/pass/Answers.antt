@@ -2,6 +2,7 @@ use Rattle.std.proofs.Common.{◌≡◌, ℕ, List, ◌++◌, Option, Some, refl
 use Rattle.bd_base.specs.declared.act.Act.TheVariants as acts
 use Rattle.bd_machine.specs.declared.state.OpenWalk.{OpenWalk}
 use Rattle.bd_machine.specs.declared.state.Part.{Part}
+use Rattle.bd_machine.specs.declared.state.Prior.{Prior}
 use Rattle.bd_machine.specs.Alone.{held_after}
 use Rattle.bd_machine.specs.View.{Change, Move, View}
 use Rattle.bd_machine.specs.Walks.{marked_by, walked}
@@ -13,9 +14,9 @@ use Rattle.bd_thread.specs.declared.links.Links.{Links}
 use Rattle.bd_thread.specs.declared.thread.Thread.{Thread}
 use Rattle.bd_thread.specs.Acted.{Acted}
 use Rattle.bd_thread.specs.Requests.{KeepsTickets}
-use Rattle.bd_thread.specs.Seen.{untaken, view_of}
+use Rattle.bd_thread.specs.Seen.{left_by, view_of}
 use Rattle.bd_steps.specs.Sending.{goes_on, sent_off}
-use Rattle.bd_thread.specs.Walking.{visit_change, visit_due, IsVisited}
+use Rattle.bd_thread.specs.Walking.{visit_change, visit_due, visit_prior, IsVisited}
 use Rattle.bd_thread.proofs.Going.{carried}
 use Rattle.bd_thread.proofs.Took.{held_then}
 use Rattle.bd_thread.proofs.Walking.{change_is, marked_as, visit_may, visited_acted, visited_tickets}
@@ -32,12 +33,12 @@ returns c =
     let due : visit_due t links id ≡ Some w = c.requires in
     let may = visit_may t links id w due in
     let after = c.visited-after.result in
-    let marks : Part = marked_by setup me (view_of t links) w.dev w.kind in
+    let marks : Part = marked_by setup me (view_of t links) id w.dev w.kind in
     let changed : visit_change t links id w ≡ walked me id after marks =
     change_is t links id w may.here ∙ ap (λ (x : OpenWalk). walked me id x marks) (sym c.visited-after.ensures) in
     let marked : c.mark.new.part ≡ marks = c.in_ok-mark.ensures
-    ∙ ap (λ (channel : Option ℕ). marked_by setup me (with_channel t.part channel) w.dev w.kind) (c.channels-channel.ensures ∙ ap (λ (v : View). v.channels w.dev) c.seen.ensures)
-    ∙ marked_as setup me (view_of t links) w.dev w.kind in
+    ∙ ap (λ (channel : Option ℕ). marked_by setup me (with_channel t.part channel w.time) id w.dev w.kind) (c.channels-channel.ensures ∙ ap (λ (v : View). v.channels w.dev) c.seen.ensures)
+    ∙ marked_as setup me (view_of t links) id w may.here in
     let part : c.walk_on.new.part ≡ (visit_change t links id w).part =
     c.in_ok-next.ensures.part ∙ ap (λ (p : Part). (walked me id after p).part) marked ∙ sym (ap (λ (x : Change). x.part) changed) in
     let moves : walk_moved me id after ++ begun c.in_ok-next.next ≡ (visit_change t links id w).moves =
@@ -47,10 +48,11 @@ returns c =
     began.here ∙ ap (held_after (begun c.in_ok-next.next)) c.in_ok-hold_walk.ensures.ok
     ∙ sym (held_then (walk_moved me id after) (begun c.in_ok-next.next) (here_in t.held.items))
     ∙ ap (λ (ms : List Move). held_after ms (here_in t.held.items)) moves in
-    let new : Thread = record t { part = untaken (visit_change t links id w).part; held = c.begin_walk.new.tokens; outbox = c.send_on.new.outbox } in
+    let new : Thread = record t { part = left_by (visit_prior t links id w) (visit_change t links id w).part; held = c.begin_walk.new.tokens; outbox = c.send_on.new.outbox } in
     let shared : Links = record links { entries = longer me links.entries (acts.Visit id w.dev w.kind) } in
-    let thread = c.in_ok-note.ensures.thread ∙ ap (λ (p : Part). let m : Thread = record new { part = untaken p } in m) part in
-    let entries = c.in_ok-note.ensures.links in
+    let thread = c.in_ok-note_as.ensures.thread ∙ ap (λ (p : Part). let m : Thread = record new { part = left_by c.softening-prior.result p } in m) part
+    ∙ ap (λ (o : Option Prior). let m : Thread = record new { part = left_by o (visit_change t links id w).part } in m) c.softening-prior.ensures in
+    let entries = c.in_ok-note_as.ensures.links in
     let is : IsVisited id w t links new shared = record {
       next = c.in_ok-next.next;
       begins = sym moves ∙ ap (λ (x : OpenWalk). walk_moved me id x ++ begun c.in_ok-next.next) c.visited-after.ensures;

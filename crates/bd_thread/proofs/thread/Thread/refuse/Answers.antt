@@ -7,8 +7,8 @@ use Rattle.bd_thread.proofs.Going.{carried}
 use Rattle.bd_thread.proofs.Submissions.{refused_acted}
 use Rattle.bd_thread.proofs.thread.Thread.refuse.Goals as goal
 
-pub returns : goal.returns
-returns c =
+pub returns-clause-ok : goal.returns-clause-ok
+returns-clause-ok c =
     let old = c.args.self.now in
     let before = c.args.links.now in
     let new : Thread = record old { part = refused c.args.errno old.part } in

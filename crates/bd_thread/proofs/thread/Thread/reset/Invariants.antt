@@ -1,4 +1,4 @@
-use Rattle.std.proofs.Common.{◌<◌}
+use Rattle.std.proofs.Common.{◌≡◌, ◌<◌}
 use Rattle.bd_thread.specs.Acted.{Acted}
 use Rattle.bd_thread.specs.Calls.{NoResetOf}
 use Rattle.bd_thread.specs.Requests.{KeepsTickets}
@@ -9,5 +9,6 @@ abbrev pub invariant-loop-round : goal.invariant-loop-round
 invariant-loop-round l = record {
   acted : Acted l.initial.self l.initial.links l.self l.links;
   tickets : KeepsTickets l.initial.self → KeepsTickets l.self;
+  noted : l.self.calls ≡ l.initial.self.calls;
   quiet : Idles (λ t links. 0 < l._round → NoResetOf l.req t links) l.initial.self l.initial.links l.self l.links;
 }

@@ -22,5 +22,5 @@ returns-in-Some-clause-submits c =
 pub returns-in_ok-refuse-in-None-clause-tickets : goal.returns-in_ok-refuse-in-None-clause-tickets
 returns-in_ok-refuse-in-None-clause-tickets c =
     let old = c.args.self.now in
-    let thread = c.in_ok-refuse-in-None.ensures.thread in
+    let thread = c.in_ok-refuse-in-None.ensures.ok.thread in
     same_tickets old c.refuse.new.self (ap (λ (t : Thread). t.purse.ids) thread) (ap (λ (t : Thread). t.part.requests) thread) (ap (λ (t : Thread). t.part.next_request) thread)
