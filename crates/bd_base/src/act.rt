@@ -23,9 +23,9 @@ pub enum Token {
     Device(DevId),
     /// A script's mark.
     Mark(Name),
-    /// The content of this device is to grow to so many blocks.
+    /// The content of this device is to grow to this many blocks.
     Grow(DevId, u64),
-    /// The device of this handle has so many blocks from now on.
+    /// The device of this handle has this many blocks from now on.
     Sized(HandleId, u64),
 }
 

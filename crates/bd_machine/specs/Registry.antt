@@ -286,11 +286,11 @@ most_blocks setup dev = cond (is_malloc setup dev) 2097152 1099511627776
 abbrev pub blocks_to_come : Registry → DevId → ℕ
 blocks_to_come registry dev = unwrap_or (growing_of registry dev) (blocks_in registry dev)
 
--- the bytes of a malloc device, where this one were to have so many blocks
+-- the bytes of a malloc device, where this one were to have this many blocks
 abbrev pub malloc_bytes_at : Setup → Registry → DevId → ℕ → DevId → ℕ
 malloc_bytes_at setup registry dev blocks d = cond (is_malloc setup d) (cond (same_dev d dev) blocks (blocks_to_come registry d) * size_of setup d) 0
 
--- the bytes of all malloc devices, destructed ones too, where this one were to have so many blocks
+-- the bytes of all malloc devices, destructed ones too, where this one were to have this many blocks
 abbrev pub malloc_bytes : Setup → Registry → DevId → ℕ → ℕ
 malloc_bytes setup registry dev blocks = sum_by (malloc_bytes_at setup registry dev blocks) (all_devices setup)
 

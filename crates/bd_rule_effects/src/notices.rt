@@ -46,7 +46,7 @@ fn size_place(sizes: &[(HandleId, u64)], handle: HandleId) -> Option<usize>
     sizes.iter().position(|row| row.0.0 == handle.0)
 }
 
-// The device of a handle has so many blocks from now on.
+// The device of a handle has this many blocks from now on.
 fn note_size(
     sizes: &mut Rows<(HandleId, u64)>,
     handle: HandleId,

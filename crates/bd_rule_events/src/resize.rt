@@ -8,7 +8,7 @@ use bd_base::{Answer, DevId, HandleId, OutOfMemory, Setup, ThreadId};
 use bd_machine::{News, Owed, Part};
 use bd_rule_effects::{decide, destruct_of, device_due, make_due, pay};
 
-/// What the answer to a BeginResize to so many blocks makes: it decides the line that asked, and the home is to be
+/// What the answer to a BeginResize to this many blocks makes: it decides the line that asked, and the home is to be
 /// told to let the content grow. Out of memory leaves the part unspecified.
 pub fn resizing(
     part: &mut Part,

@@ -36,7 +36,7 @@ fn most_blocks(setup: &Setup, dev: DevId) -> u64
     }
 }
 
-// The bytes of device d, if it is a malloc device, where `dev` were to have so many blocks.
+// The bytes of device d, if it is a malloc device, where `dev` were to have this many blocks.
 fn malloc_bytes_at<R: Records>(
     setup: &Setup,
     registry: &R,
@@ -58,7 +58,7 @@ fn malloc_bytes_at<R: Records>(
 }
 
 // Whether the malloc devices, destructed ones too, would have more than 1 GiB together, where this device were to
-// have so many blocks. More devices than 32 bits count answer out of memory.
+// have this many blocks. More devices than 32 bits count answer out of memory.
 #[tactic(auto, using(crate::proofs::Sums::passes, crate::proofs::Sums::fits, crate::proofs::Sums::leaves))]
 fn passes_memory<R: Records>(
     setup: &Setup,
@@ -124,7 +124,7 @@ fn resize_refusal<R: Records>(
     }
 }
 
-/// The answer to a resize to so many blocks of the device at this place, or of none. A place that passes 32
+/// The answer to a resize to this many blocks of the device at this place, or of none. A place that passes 32
 /// bits, and more devices than 32 bits count, answer out of memory.
 pub(crate) fn resize_answer<R: Records>(
     setup: &Setup,

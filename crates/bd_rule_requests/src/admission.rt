@@ -46,7 +46,7 @@ pub fn size_of_handle(part: &Part, handle: &Handle) -> u64
     handle.blocks
 }
 
-// Whether no request on a device of so many blocks may have the range.
+// Whether no request on a device of this many blocks may have the range.
 fn is_outside(setup: &Setup, dev: DevId, blocks: u64, lba: u64, count: u64) -> bool
     ensures { result ≡ is_outside setup.now dev blocks lba count }
 {
