@@ -19,7 +19,7 @@ pub use bases::{base_place, find_base};
 pub use bd_stack::{
     at, base_handle, base_of, below, blocks_of, boundary_of, depth_of, device_named, firsts, home,
     is_aio, is_base_handle, is_below, is_delay, is_error, is_home, is_malloc, is_null, is_over,
-    number_named, row_of, size_of, stands_on, users,
+    number_named, row_of, size_of, stands_on, users, whole_base,
 };
 pub use channels::{get_channel, references, set_count};
 pub use digest::{digest_due, is_digest_due};

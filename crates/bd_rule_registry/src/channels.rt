@@ -1,7 +1,8 @@
 //! Answers about channels: a get, a put and a drop.
-ghost use Rattle.std.specs.Prelude.{◌≡◌, ◌==◌, filter, IfOk, slice_get};
+ghost use Rattle.std.specs.Prelude.{◌≡◌, ◌==◌, IfOk, slice_get};
 ghost use Rattle.bd_machine.specs.BlockMap.{below};
 ghost use Rattle.bd_machine.specs.Registry.{drop_answer, get_answer, is_born_frozen, is_count, made, put_answer, references, zero_by_drop};
+ghost use Rattle.bd_rule_registry.specs.Born.{born_frozen};
 
 use crate::bare::{freed_by_drop, has_no_other_channel, if_so};
 use crate::standing::are_live;
@@ -42,18 +43,23 @@ pub fn made<R: Records>(
     Ok(devs)
 }
 
-// Those of the devices whose new channels are born frozen.
+// Those that are born frozen of the channels that a get of the device's channel by a thread makes.
 fn born_frozen<R: Records>(
     alloc: Global,
+    setup: &Setup,
     registry: &R,
-    devs: &[DevId],
+    thread: u32,
+    dev: DevId,
 ) -> Result<DevList, OutOfMemory>
-    ensures { IfOk result (λ frozen. frozen ≡ filter (λ d. is_born_frozen (slice_get (R.registry_of registry.now).devices d.0)) devs.now) }
+    ensures { IfOk result (λ frozen. frozen ≡ born_frozen (R.registry_of registry.now) thread (below setup.now dev)) }
 {
     let mut frozen = Rows::new(alloc);
-    for d in devs {
-        if is_born_frozen(registry, *d) {
-            frozen.push(*d)?;
+    for d in below(setup, dev) {
+        if registry.references(thread, d).is_some() {
+            break;
+        }
+        if is_born_frozen(registry, d) {
+            frozen.push(d)?;
         }
     }
     Ok(frozen)
@@ -73,8 +79,7 @@ pub(crate) fn get_answer<R: Records>(
         return Ok(Answer::Refused(Errno::NoDev));
     }
     let fresh = registry.references(thread, dev).is_none();
-    let new = made(alloc, setup, registry, thread, dev)?;
-    let frozen = born_frozen(alloc, registry, new.as_slice())?;
+    let frozen = born_frozen(alloc, setup, registry, thread, dev)?;
     Ok(Answer::Got { fresh, frozen })
 }
 

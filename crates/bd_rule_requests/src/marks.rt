@@ -78,17 +78,22 @@ pub fn stops_here(part: &Part, late: DevSet, dev: DevId) -> bool
 }
 
 // Whether a freeze mark, hard or soft, or a removal mark is set.
-fn carries_any(marking: Marking) -> bool
-    ensures { result ≡ carries_any marking }
+fn carries_any(marking: &Marking) -> bool
+    ensures { result ≡ carries_any marking.now }
 {
-    is_hard_mark(marking.frozen) || is_soft_mark(marking.frozen) || marking.removed
+    matches!(marking.frozen, FreezeMark::Hard | FreezeMark::Soft { .. }) || marking.removed
 }
 
 // Whether some row carries a mark.
 fn any_carries(rows: &[(DevId, Marking)]) -> bool
     ensures { result ≡ list_any carries_mark rows.now }
 {
-    rows.iter().any(|row| carries_any(row.1))
+    for row in rows {
+        if carries_any(&row.1) {
+            return true;
+        }
+    }
+    false
 }
 
 /// Whether a mark on the thread of the request's device, or of one below it, stops the request.
@@ -109,7 +114,7 @@ pub fn is_marked(setup: &Setup, part: &Part, r: &OpenRequest) -> bool
 fn has_mark(part: &Part, dev: DevId) -> bool
     ensures { result ≡ has_mark part.now dev }
 {
-    carries_any(marking_of(part, dev))
+    carries_any(&marking_of(part, dev))
 }
 
 /// Whether the device or one below it carries a mark on the thread, of whatever kind.

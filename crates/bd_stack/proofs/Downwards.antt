@@ -1,8 +1,10 @@
 -- The way down from a device.
-use Rattle.std.proofs.Common.{◌≡◌, ℕ, zero, suc, ◌+◌, List, [], ◌∷◌, length, map, Option, Some, None, refl, sym, ◌∙◌, ap, arith}
+use Rattle.std.proofs.Common.{◌≡◌, ℕ, zero, suc, ◌+◌, Bool, true, false, ◌&&◌, ◌||◌, ◌==◌, List, [], ◌∷◌, length, map, Option, Some, None, refl, sym, ◌∙◌, ap, arith}
+use Rattle.std.specs.List.{list_all}
+use Rattle.bd_base.specs.declared.device.DevRow.{DevRow}
 use Rattle.bd_base.specs.declared.id.DevId.{DevId}
 use Rattle.bd_base.specs.declared.setup.Setup.{Setup}
-use Rattle.bd_machine.specs.BlockMap.{Block, base_of, below, dev_of_block, last_of, path, path_within, row_of, shift_of_row, stands_on, under}
+use Rattle.bd_machine.specs.BlockMap.{Block, base_of, base_of_row, below, dev_of_block, has_kind, is_whole_kind, is_whole_or, last_of, path, path_within, row_of, shift_of_row, stands_on, under}
 use Rattle.bd_stack.specs.Walks.{devices_left}
 
 -- ---- the devices
@@ -40,11 +42,42 @@ last_block block (lower ∷ lowers) = last_block lower lowers
 pub base_is_last : (setup : Setup) (dev : DevId) → last_dev dev (below setup dev) ≡ base_of setup dev
 base_is_last setup dev = last_block (record { dev = dev; number = 0 }) (path setup dev 0)
 
-pub last_goes_on : (setup : Setup) (dev base lower : DevId) (was left : List DevId) → was ≡ lower ∷ left → last_dev base was ≡ base_of setup dev → last_dev lower left ≡ base_of setup dev
-last_goes_on setup dev base lower was left e h = sym (ap (last_dev base) e) ∙ h
+-- ---- so many steps down
 
-pub last_ends : (setup : Setup) (dev base : DevId) (left : List DevId) → left ≡ [] → last_dev base left ≡ base_of setup dev → base ≡ base_of setup dev
-last_ends setup dev base left e h = sym (ap (last_dev base) e) ∙ h
+-- the device at most n steps below
+abbrev pub bottom : Setup → ℕ → DevId → DevId
+bottom setup n dev = last_dev dev (devices_left setup n (Some dev))
+
+pub bottom_starts : (setup : Setup) (n : ℕ) (dev : DevId) → n ≡ length setup.devices → bottom setup n dev ≡ base_of setup dev
+bottom_starts setup n dev e = ap (last_dev dev) (below_is setup n dev e) ∙ base_is_last setup dev
+
+-- it stands on another
+left_lower : (setup : Setup) (n m : ℕ) (dev lower : DevId) → stands_on setup dev ≡ Some lower → n ≡ suc m → devices_left setup n (Some dev) ≡ dev ∷ devices_left setup m (Some lower)
+left_lower setup n m dev lower e f =
+    ap (λ (k : ℕ). devices_left setup k (Some dev)) f ∙ ap (λ (o : Option DevId). dev ∷ devices_left setup m o) e
+
+lower_first : (setup : Setup) (n : ℕ) (dev lower : DevId) → last_dev dev (devices_left setup n (Some lower)) ≡ bottom setup n lower
+lower_first setup zero dev lower = refl
+lower_first setup (suc n) dev lower = refl
+
+pub bottom_lower : (setup : Setup) (n m : ℕ) (dev lower : DevId) → stands_on setup dev ≡ Some lower → n ≡ suc m → bottom setup n dev ≡ bottom setup m lower
+bottom_lower setup n m dev lower e f = ap (last_dev dev) (left_lower setup n m dev lower e f) ∙ lower_first setup m dev lower
+
+-- one that has each block of the device that it stands on leaves it to those below
+pub whole_lower : (setup : Setup) (top dev lower : DevId) (row : DevRow) (n m : ℕ)
+    → row_of setup dev ≡ Some row
+    → is_whole_kind row.kind ≡ true
+    → row.base ≡ Some lower
+    → n ≡ suc m
+    → list_all (is_whole_or setup top) (devices_left setup m (Some lower)) ≡ list_all (is_whole_or setup top) (devices_left setup n (Some dev))
+whole_lower setup top dev lower row n m here kind base e =
+    let all : List DevId → Bool = list_all (is_whole_or setup top) in
+    let whole : is_whole_or setup top dev ≡ true = ap (λ (o : Option DevRow). (dev.0 == top.0) || has_kind is_whole_kind o) here ∙ ap (λ b. (dev.0 == top.0) || b) kind ∙ or_true (dev.0 == top.0) in
+    sym (ap all (left_lower setup n m dev lower (ap base_of_row here ∙ base) e) ∙ ap (λ b. b && all (devices_left setup m (Some lower))) whole)
+  where
+    or_true : (b : Bool) → (b || true) ≡ true
+    or_true true = refl
+    or_true false = refl
 
 -- ---- the blocks
 

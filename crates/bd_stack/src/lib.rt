@@ -11,4 +11,6 @@ pub use devices::{
     number_named, row_of, size_of, stands_on,
 };
 pub use groups::{base_handle, firsts, is_base_handle, users};
-pub use path::{Descent, at, base_of, below, home, is_aio, is_below, is_home, is_over, under};
+pub use path::{
+    Descent, at, base_of, below, home, is_aio, is_below, is_home, is_over, under, whole_base,
+};

@@ -1,5 +1,5 @@
 //! The way from a device down to its base device.
-ghost use Rattle.std.specs.Prelude.{◌≡◌, ◌+◌, IfOk, IfSome, suc};
+ghost use Rattle.std.specs.Prelude.{◌≡◌, ◌+◌, ◌&&◌, ◌==◌, cond, IfOk, IfSome, None, Some, suc};
 ghost use Rattle.std.specs.Option.{option_map};
 ghost use Rattle.std.specs.Iterator.{YieldsFirst, item_count};
 ghost use Rattle.bd_machine.specs.Aborts.{is_below};
@@ -76,8 +76,11 @@ pub fn base_of(setup: &Setup, dev: DevId) -> DevId
     ensures { result ≡ base_of setup.now dev }
 {
     let mut base = dev;
-    for lower in below(setup, dev) {
-        base = lower;
+    for _step in 0..setup.devices.len() {
+        match stands_on(setup, base) {
+            Some(lower) => base = lower,
+            None => break,
+        }
     }
     base
 }
@@ -135,6 +138,39 @@ pub fn is_over(setup: &Setup, base: DevId, dev: DevId) -> bool
         }
     }
     true
+}
+
+// The base device under a device that has just its blocks, where this part lies between them.
+fn base_if_over(setup: &Setup, dev: DevId, part: DevId) -> Option<DevId>
+    ensures { result ≡ cond ((part.0 == (base_of setup.now dev).0) && is_over setup.now (base_of setup.now dev) dev) (Some (base_of setup.now dev)) None }
+{
+    let base = base_of(setup, dev);
+    // In a circle of devices the part may be the base itself.
+    if part.0 == base.0 && is_over(setup, base, dev) {
+        Some(base)
+    } else {
+        None
+    }
+}
+
+/// The base device under a device that has just its blocks; none under one that is a part, or stands on a part.
+pub fn whole_base(setup: &Setup, dev: DevId) -> Option<DevId>
+    ensures { result ≡ cond (is_over setup.now (base_of setup.now dev) dev) (Some (base_of setup.now dev)) None }
+{
+    let mut base = dev;
+    for _step in 0..setup.devices.len() {
+        let Some(row) = row_of(setup, base) else {
+            break;
+        };
+        let Some(lower) = row.base else {
+            break;
+        };
+        if !is_whole_kind(row.kind) {
+            return base_if_over(setup, dev, base);
+        }
+        base = lower;
+    }
+    Some(base)
 }
 
 /// The block under a block of a device that stands on another; none for a base device. A number that

@@ -23,6 +23,7 @@ pub mod Idle
 pub mod Carried
 pub mod Waiting
 pub mod Gracing
+pub mod Lasting
 pub mod Walking
 pub mod Noted
 pub mod Aborting

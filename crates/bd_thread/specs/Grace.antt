@@ -62,6 +62,14 @@ walk_of_row now (Some row) = with_walk row.0 (ended_walk now row.1.frozen)
 abbrev pub next_due : Part → ℕ → Option (DevId × WalkId)
 next_due part now = walk_of_row now (find (is_due part now) part.marked)
 
+-- a mark is soft, and lasts until some moment
+abbrev pub lasts : FreezeMark → Bool
+lasts (Soft walk time (Some until)) = true
+lasts _ = false
+
+abbrev pub lasts_at : DevId × Marking → Bool
+lasts_at row = lasts row.1.frozen
+
 -- one Due, which names the turn's moment: the mark is hard from now on
 pub record IsHardened (walk : WalkId) (old : Thread) (before : Links) (new : Thread) (after : Links) : Type 0 where
   pub thread : new ≡ record old { part = untaken (change_due (view_of old before) walk old.time.moment).part }

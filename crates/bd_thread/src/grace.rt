@@ -1,8 +1,9 @@
 //! Drain times: until when a soft freeze mark lasts here, and that it becomes hard then.
 ghost use Rattle.std.specs.Prelude.{◌≡◌, ◌<◌, true, find, None, vec_len, IfOk, OnOk};
+ghost use Rattle.std.specs.List.{list_any};
 ghost use Rattle.bd_machine.specs.Grace.{is_mark_due};
 ghost use Rattle.bd_thread.specs.Acted.{Acted};
-ghost use Rattle.bd_thread.specs.Grace.{ended_walk, grace_until, is_due, lasts_for, least, next_due, soonest, until_of, Graces, Hardens, IsHardened, NoDue};
+ghost use Rattle.bd_thread.specs.Grace.{ended_walk, grace_until, is_due, lasts, lasts_at, lasts_for, least, next_due, soonest, until_of, Graces, Hardens, IsHardened, NoDue};
 ghost use Rattle.bd_thread.specs.Requests.{KeepsTickets};
 ghost use Rattle.bd_thread.specs.Waits.{Idles};
 ghost use Rattle.bd_thread.specs.Work.{AsksNothing};
@@ -55,6 +56,25 @@ fn next_due(part: &Part, now: u64) -> Option<(DevId, WalkId)>
     let (dev, marking) = due_row(part, now)?;
     let walk = ended_walk(now, marking.frozen)?;
     Some((dev, walk))
+}
+
+// Whether a mark is soft and lasts until some moment.
+fn lasts(mark: &FreezeMark) -> bool
+    ensures { result ≡ lasts mark.now }
+{
+    matches!(mark, FreezeMark::Soft { until: Some(_), .. })
+}
+
+// Whether one of these marks is soft and lasts until some moment.
+fn any_lasts(marked: &[(DevId, Marking)]) -> bool
+    ensures { result ≡ list_any lasts_at marked.now }
+{
+    for row in marked {
+        if lasts(&row.1.frozen) {
+            return true;
+        }
+    }
+    false
 }
 
 // The moment until which a soft mark lasts, once the thread named it.
@@ -151,9 +171,8 @@ impl<'a> Thread<'a> {
         Ok(true)
     }
 
-    /// Each soft mark whose moment is there at the turn's becomes hard, one after another, and stops what waits here for
-    /// its device, in the lines of limited devices too.
-    pub(crate) fn harden_all(&mut self, links: &mut Links) -> Result<(), OutOfMemory>
+    // The same as `harden_all`, whatever marks there are.
+    fn harden_due(&mut self, links: &mut Links) -> Result<(), OutOfMemory>
         requires { self.old.me < vec_len links.old.queues }
         ensures acted { OnOk result (Acted self.old links.old self.new links.new) }
         ensures tickets { OnOk result (KeepsTickets self.old → KeepsTickets self.new) }
@@ -166,6 +185,22 @@ impl<'a> Thread<'a> {
             }
         }
         Ok(())
+    }
+
+    /// Each soft mark whose moment is there at the turn's becomes hard, one after another, and stops what waits here for
+    /// its device, in the lines of limited devices too.
+    pub(crate) fn harden_all(&mut self, links: &mut Links) -> Result<(), OutOfMemory>
+        requires { self.old.me < vec_len links.old.queues }
+        ensures acted { OnOk result (Acted self.old links.old self.new links.new) }
+        ensures tickets { OnOk result (KeepsTickets self.old → KeepsTickets self.new) }
+        ensures quiet { OnOk result (Idles NoDue self.old links.old self.new links.new) }
+        ensures alone { OnOk result (AsksNothing links.old links.new) }
+    {
+        // Every turn comes here, and hardly any finds such a mark.
+        if !any_lasts(self.part.marked.as_slice()) {
+            return Ok(());
+        }
+        self.harden_due(links)
     }
 
     /// For how many microseconds from the moment of its turn on the first of its soft marks lasts; none where it has none

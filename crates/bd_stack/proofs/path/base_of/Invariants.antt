@@ -1,8 +1,8 @@
-use Rattle.std.proofs.Common.{◌≡◌}
+use Rattle.std.proofs.Common.{◌≡◌, ◌-◌, length}
 use Rattle.bd_machine.specs.BlockMap.{base_of}
-use Rattle.bd_stack.proofs.Downwards.{last_dev}
+use Rattle.bd_stack.proofs.Downwards.{bottom}
 use Rattle.bd_stack.proofs.path.base_of.Given as goal
 
--- the last of the devices that are left is the base
-abbrev pub invariant-loop-lower : goal.invariant-loop-lower
-invariant-loop-lower l = last_dev l.base l.lower-iterator ≡ base_of l.setup l.fn.dev
+-- the base lies so many steps down as are left
+abbrev pub invariant-loop-step : goal.invariant-loop-step
+invariant-loop-step l = bottom l.setup (length l.setup.devices - l._step) l.base ≡ base_of l.setup l.fn.dev

@@ -4,7 +4,7 @@ use Rattle.bd_thread.specs.Grace.{NoDue}
 use Rattle.bd_thread.specs.Requests.{KeepsTickets}
 use Rattle.bd_thread.specs.Waits.{Idles}
 use Rattle.bd_thread.specs.Work.{AsksNothing}
-use Rattle.bd_thread.proofs.thread.Thread.harden_all.Given as goal
+use Rattle.bd_thread.proofs.thread.Thread.harden_due.Given as goal
 
 abbrev pub invariant-loop-round : goal.invariant-loop-round
 invariant-loop-round l = record {
