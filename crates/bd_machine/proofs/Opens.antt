@@ -1,10 +1,14 @@
--- A list of open requests whose numbers rise, and the counts of each device's work, after one came or went.
+-- A list of open requests whose numbers rise, and the counts of each device's work and each handle's requests, after one
+-- came or went.
 use Rattle.std.proofs.Common.{◌≡◌, ℕ, zero, suc, ◌+◌, ◌-◌, ◌<◌, ◌≤◌, Bool, true, false, Option, Some, None, is_some, IfSome, cond, not, ◌&&◌, ◌==◌, filter, List, [], ◌∷◌, ◌++◌, length, get_or, take, drop, slice_index_or, eqb-true, eq-eqb, refl, sym, ◌∙◌, ap, subst, arith}
 use Rattle.std.proofs.lemmas.Bool.{and_parts}
+use Rattle.std.proofs.lemmas.List.Sums.{sum_by_push, sum_by-remove}
+use Rattle.bd_base.specs.declared.id.HandleId.{HandleId}
 use Rattle.bd_base.specs.declared.id.ReqId.{ReqId}
+use Rattle.bd_machine.specs.declared.handle_counts.HandleCounts.{HandleCounts}
 use Rattle.bd_machine.specs.declared.state.Open.{Open}
-use Rattle.bd_machine.specs.Opens.{work_of, work_on, CountsLess, CountsMore, IsRegular, RisesBetween, TakenOut}
-use Rattle.bd_machine.specs.Same.{same_request}
+use Rattle.bd_machine.specs.Opens.{count_of, open_of, work_of, work_on, CountsLess, CountsMore, CountsOneLess, CountsOneMore, IsRegular, RisesBetween, TakenOut}
+use Rattle.bd_machine.specs.Same.{same_handle, same_request}
 
 -- one with a greater number comes last
 rises_more : (low high : ℕ) (os : List Open) (o : Open) → RisesBetween low high os → high ≤ o.id.seq → RisesBetween low (o.id.seq + 1) (os ++ o ∷ [])
@@ -15,10 +19,16 @@ work_more : (n : ℕ) (os : List Open) (o : Open) → work_on n (os ++ o ∷ [])
 work_more n [] o = omega arith
 work_more n (x ∷ os) o = let ih : work_on n (os ++ o ∷ []) ≡ work_on n os + work_of n o = work_more n os o in omega (arith, ih)
 
-pub more_regular : (os : List Open) (old new : List ℕ) (next : ℕ) (o : Open) → IsRegular os old next → next ≤ o.id.seq → CountsMore old new o → length new ≡ length old → IsRegular (os ++ o ∷ []) new (o.id.seq + 1)
-more_regular os old new next o h q more len = record {
+-- 1 where the request is of the handle, or else 0
+abbrev one_of : HandleId → Open → ℕ
+one_of handle o = cond (same_handle o.handle handle) 1 0
+
+pub more_regular : (os : List Open) (old new : List ℕ) (was now : HandleCounts) (next : ℕ) (o : Open) → IsRegular os old was next → next ≤ o.id.seq → CountsMore old new o → length new ≡ length old
+    → CountsOneMore was now o.handle → IsRegular (os ++ o ∷ []) new now (o.id.seq + 1)
+more_regular os old new was now next o h q more len one = record {
   rises = rises_more 0 next os o h.rises q;
   counted = λ n. more n ∙ ap (λ (k : ℕ). k + work_of n o) (h.counted n) ∙ sym (work_more n os o);
+  handled = λ handle. one handle.0 ∙ ap (λ (k : ℕ). k + one_of handle o) (h.handled handle) ∙ sym (sum_by_push (one_of handle) os o);
   few = omega (arith, h.few, len);
 }
 
@@ -82,28 +92,35 @@ only_one low high req (x ∷ os) (suc i) o within at same h =
     go true false e less ih = ap (λ zs. x ∷ zs) ih
     go false false e less ih = ap (λ zs. x ∷ zs) ih
 
-pub less_regular : (os : List Open) (old new : List ℕ) (next i : ℕ) (o : Open) → IsRegular os old next → i < length os → o ≡ get_or os i o → CountsLess old new o → length new ≡ length old
-    → IsRegular (take i os ++ drop (suc i) os) new next
-less_regular os old new next i o h within at less len = record {
+pub less_regular : (os : List Open) (old new : List ℕ) (was now : HandleCounts) (next i : ℕ) (o : Open) → IsRegular os old was next → i < length os → o ≡ get_or os i o → CountsLess old new o → length new ≡ length old
+    → CountsOneLess was now o.handle → IsRegular (take i os ++ drop (suc i) os) new now next
+less_regular os old new was now next i o h within at less len one = record {
   rises = rises_less 0 next os i h.rises;
   counted = λ n. less n ∙ counted n (h.counted n) (work_less n os i o within at);
+  handled = λ handle. one handle.0 ∙ handled handle (h.handled handle) (sum_by-remove (one_of handle) os i o within);
   few = omega (arith, h.few, len);
 }
   where
+    handled : (handle : HandleId) → count_of was handle.0 ≡ open_of handle os → open_of handle (take i os ++ drop (suc i) os) + one_of handle (get_or os i o) ≡ open_of handle os
+        → count_of was handle.0 - one_of handle o ≡ open_of handle (take i os ++ drop (suc i) os)
+    handled handle p q =
+        let this : open_of handle (take i os ++ drop (suc i) os) + one_of handle o ≡ open_of handle os = subst (λ (z : Open). open_of handle (take i os ++ drop (suc i) os) + one_of handle z ≡ open_of handle os) (sym at) q in
+        omega (arith, p, this)
+
     counted : (n : ℕ) → slice_index_or old n 0 ≡ work_on n os → work_on n os ≡ work_on n (take i os ++ drop (suc i) os) + work_of n o → slice_index_or old n 0 - work_of n o ≡ work_on n (take i os ++ drop (suc i) os)
     counted n p q = omega (arith, p, q)
 
 -- one was taken out, where numbers rise
-pub taken_regular : (req : ReqId) (os new : List Open) (old left : List ℕ) (next : Option ℕ) (o : Open) → IfSome next (IsRegular os old) → TakenOut req os new o
-    → CountsLess old left o → length left ≡ length old → IfSome next (IsRegular new left)
-taken_regular req os new old left None o h taken less len = tt
-taken_regular req os new old left (Some next) o h taken less len =
-    subst (λ (zs : List Open). IsRegular zs left next) (sym taken.rest) (less_regular os old left next taken.place o h taken.within taken.at less len)
+pub taken_regular : (req : ReqId) (os new : List Open) (old left : List ℕ) (was now : HandleCounts) (next : Option ℕ) (o : Open) → IfSome next (IsRegular os old was) → TakenOut req os new o
+    → CountsLess old left o → length left ≡ length old → CountsOneLess was now o.handle → IfSome next (IsRegular new left now)
+taken_regular req os new old left was now None o h taken less len one = tt
+taken_regular req os new old left was now (Some next) o h taken less len one =
+    subst (λ (zs : List Open). IsRegular zs left now next) (sym taken.rest) (less_regular os old left was now next taken.place o h taken.within taken.at less len one)
 
-pub taken_is : (req : ReqId) (os new : List Open) (old : List ℕ) (next : Option ℕ) (o : Open) → is_some next ≡ true → IfSome next (IsRegular os old) → TakenOut req os new o
+pub taken_is : (req : ReqId) (os new : List Open) (old : List ℕ) (was : HandleCounts) (next : Option ℕ) (o : Open) → is_some next ≡ true → IfSome next (IsRegular os old was) → TakenOut req os new o
     → new ≡ filter (λ o. not (same_request o.id req)) os
-taken_is req os new old None o some h taken = cc
-taken_is req os new old (Some next) o some h taken =
+taken_is req os new old was None o some h taken = cc
+taken_is req os new old was (Some next) o some h taken =
     taken.rest ∙ only_one 0 next req os taken.place o taken.within taken.at (equal_ids o.id req taken.thread taken.seq) h.rises
   where
     equal_ids : (a b : ReqId) → a.thread ≡ b.thread → a.seq ≡ b.seq → same_request a b ≡ true

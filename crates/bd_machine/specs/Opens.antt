@@ -1,9 +1,14 @@
--- What a list of open requests knows of its rows: that their numbers rise, and how many are on each device.
-use Rattle.std.specs.Prelude.{◌≡◌, ℕ, ◌+◌, ◌-◌, ◌^◌, ◌<◌, ◌≤◌, Bool, true, false, cond, ◌&&◌, ◌==◌, List, [], ◌∷◌, length, remove, slice_index_or}
+-- What a list of open requests knows of its rows: that their numbers rise, and how many each device and each handle has.
+use Rattle.std.specs.Prelude.{◌≡◌, ℕ, ◌+◌, ◌-◌, ◌^◌, ◌<◌, ◌≤◌, Bool, true, false, cond, ◌&&◌, ◌==◌, List, [], ◌∷◌, count_by, length, nat_eq, remove, slice_index_or}
+use Rattle.std.specs.HashMap.{get, HashMap}
+use Rattle.std.specs.Option.{unwrap_or}
+use Rattle.bd_base.specs.declared.id.HandleId.{HandleId}
 use Rattle.bd_base.specs.declared.request.Op.{Op}
 use Rattle.bd_base.specs.declared.request.Op.TheVariants as ops
 use Rattle.bd_base.specs.declared.id.ReqId.{ReqId}
+use Rattle.bd_machine.specs.declared.handle_counts.HandleCounts.{HandleCounts}
 use Rattle.bd_machine.specs.declared.state.Open.{Open}
+use Rattle.bd_machine.specs.Same.{same_handle}
 
 -- it is no reset
 abbrev pub is_work : Op → Bool
@@ -35,15 +40,40 @@ CountsMore old new o = (n : ℕ) → slice_index_or new n 0 ≡ slice_index_or o
 abbrev pub CountsLess : List ℕ → List ℕ → Open → Type 0
 CountsLess old new o = (n : ℕ) → slice_index_or new n 0 ≡ slice_index_or old n 0 - work_of n o
 
+-- the count that a map has of a handle by its number: 0 where it has none
+abbrev pub count_in : {S : Type 0} → HashMap ℕ ℕ S → ℕ → ℕ
+count_in counts h = unwrap_or (get nat_eq counts h) 0
+
+-- how many requests of a handle are counted, by its number
+abbrev pub count_of : HandleCounts → ℕ → ℕ
+count_of counts h = cond (counts.handle == h) counts.here 0 + count_in counts.others h
+
+-- how many requests are of a handle
+abbrev pub open_of : HandleId → List Open → ℕ
+open_of handle os = count_by (λ o. same_handle o.handle handle) os
+
+-- how many requests of each handle there are
+abbrev pub CountsHandles : HandleCounts → List Open → Type 0
+CountsHandles counts os = (handle : HandleId) → count_of counts handle.0 ≡ open_of handle os
+
+-- the counts of one request more of a handle
+abbrev pub CountsOneMore : HandleCounts → HandleCounts → HandleId → Type 0
+CountsOneMore old new handle = (h : ℕ) → count_of new h ≡ count_of old h + cond (handle.0 == h) 1 0
+
+-- the counts of one request less of a handle
+abbrev pub CountsOneLess : HandleCounts → HandleCounts → HandleId → Type 0
+CountsOneLess old new handle = (h : ℕ) → count_of new h ≡ count_of old h - cond (handle.0 == h) 1 0
+
 -- the numbers of requests rise strictly, from the first number on and below the last
 abbrev pub RisesBetween : ℕ → ℕ → List Open → Type 0
 RisesBetween low high [] = low ≤ high
 RisesBetween low high (o ∷ os) = (low ≤ o.id.seq) × RisesBetween (o.id.seq + 1) high os
 
--- the numbers rise, below the next one, and each device's work is counted
-pub record IsRegular (os : List Open) (counts : List ℕ) (next : ℕ) : Type 0 where
+-- the numbers rise, below the next one, and each device's work and each handle's requests are counted
+pub record IsRegular (os : List Open) (counts : List ℕ) (handles : HandleCounts) (next : ℕ) : Type 0 where
   pub rises : RisesBetween 0 next os
   pub counted : CountsWork counts os
+  pub handled : CountsHandles handles os
   pub few : length counts ≤ 2 ^ 32
 
 -- a request of this id was taken out from among them, and no other

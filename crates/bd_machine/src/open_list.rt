@@ -3,24 +3,28 @@ ghost use Rattle.std.specs.Prelude.{◌≡◌, ◌<◌, ◌≤◌, ◌^◌, ◌+
 ghost use Rattle.std.specs.Iterator.Runs.{YieldsRefsInOrder};
 ghost use Rattle.std.specs.List.{HoldsAt};
 ghost use Rattle.std.specs.VecDeque.Iter.{deque_iter_rest, deque_iter_steps};
-ghost use Rattle.bd_machine.specs.Opens.{is_work, CountsLess, CountsMore, CountsWork, IsRegular, TakenOut};
+ghost use Rattle.bd_machine.specs.Opens.{is_work, open_of, CountsLess, CountsMore, CountsOneMore, CountsWork, IsRegular, TakenOut};
 ghost use Rattle.bd_machine.specs.Same.{same_request};
 ghost use Rattle.bd_machine.specs.declared.state.Open.{Open};
 
+use crate::handle_counts::HandleCounts;
 use crate::state::Open;
-use bd_base::{DevId, Op, OutOfMemory, ReqId};
+use bd_base::{DevId, HandleId, Op, OutOfMemory, ReqId};
 use std::alloc::Global;
 use std::collections::VecDeque;
 use std::collections::vec_deque::Iter;
 use std::marker::Model;
 
 /// Open requests in order of acceptance, seen as their list. One of many is taken out without going
-/// through them, and how many are on a device is at hand, while the numbers of requests rise.
+/// through them, and how many are on a device or of a handle is at hand, while the numbers of requests
+/// rise.
 #[derive(Drop)]
 pub struct OpenList {
     items: VecDeque<Open>,
     // by the number of a device, how many are open on it but resets
     counts: Vec<usize>,
+    // how many are open of each handle
+    handles: HandleCounts,
     // a number above those of all, while they rise strictly and the counts are right
     next: Option<u64>,
 }
@@ -35,7 +39,7 @@ impl Model for OpenList {
 
     ghost view = { λ l. l.items.items };
 
-    ghost invariant = { λ l. IfSome l.next (IsRegular l.items.items l.counts.items) };
+    ghost invariant = { λ l. IfSome l.next (IsRegular l.items.items l.counts.items l.handles) };
 }
 
 // Whether a request of this type is more than a reset.
@@ -93,14 +97,29 @@ fn uncount(counts: &mut Vec<usize>, request: Open)
     }
 }
 
+// Counts a request on its device and of its handle. False where it can't be counted.
+fn count_both(counts: &mut Vec<usize>, handles: &mut HandleCounts, request: Open) -> bool
+    ensures more { IsTrue result → CountsMore counts.old.items counts.new.items request }
+    ensures len { length counts.new.items ≡ length counts.old.items }
+    ensures handles { IsTrue result → CountsOneMore handles.old handles.new request.handle }
+{
+    count(counts, request) && handles.add(request.handle)
+}
+
 // A request comes last: it is counted, and the number above all is the one after its own. None where
 // its number isn't above the others', or it can't be counted.
-fn next_after(counts: &mut Vec<usize>, next: Option<u64>, request: Open) -> Option<u64>
-    ensures { (os : List Open) → IfSome next (IsRegular os counts.old.items) → IfSome result (IsRegular (os ++ request ∷ []) counts.new.items) }
+fn next_after(
+    counts: &mut Vec<usize>,
+    handles: &mut HandleCounts,
+    next: Option<u64>,
+    request: Open,
+) -> Option<u64>
+    ensures { (os : List Open) → IfSome next (IsRegular os counts.old.items handles.old)
+        → IfSome result (IsRegular (os ++ request ∷ []) counts.new.items handles.new) }
 {
     let least = next?;
     let after = request.id.seq.checked_add(1)?;
-    if request.id.seq < least || !count(counts, request) {
+    if request.id.seq < least || !count_both(counts, handles, request) {
         return None;
     }
     Some(after)
@@ -138,6 +157,13 @@ fn take_out(items: &mut VecDeque<Open>, rises: bool, req: ReqId) -> Option<Open>
     }
 }
 
+// How many of the requests are of a handle.
+fn count_all(items: &VecDeque<Open>, handle: HandleId) -> usize
+    ensures { result ≡ open_of handle items.now.items }
+{
+    items.iter().filter(|r| r.handle.0 == handle.0).count()
+}
+
 impl OpenList {
     /// No requests. It takes no memory.
     pub fn new(alloc: Global) -> OpenList
@@ -146,6 +172,7 @@ impl OpenList {
         OpenList {
             items: VecDeque::new(alloc),
             counts: Vec::new(alloc),
+            handles: HandleCounts::new(alloc),
             next: Some(0),
         }
     }
@@ -183,14 +210,36 @@ impl OpenList {
         }
     }
 
+    /// How many requests are of a handle. It goes through them only once a request came whose number wasn't
+    /// above those before it, or one was to be taken out that wasn't there.
+    pub fn count_of(&self, handle: HandleId) -> usize
+        ensures { result ≡ open_of handle self.now }
+    {
+        match self.counted(handle) {
+            Some(count) => count,
+            None => count_all(&self.items, handle),
+        }
+    }
+
+    // How many requests are of a handle, where they are counted.
+    fn counted(&self, handle: HandleId) -> Option<usize>
+        ensures { IfSome result (λ n. n ≡ open_of handle self.now) }
+    {
+        match self.next {
+            Some(_) => self.handles.of(handle),
+            None => None,
+        }
+    }
+
     /// Appends a request; out of memory, the requests stay as they were.
     pub fn push(&mut self, request: Open) -> Result<(), OutOfMemory>
         ensures ok { OnOk result (self.new ≡ self.old ++ request ∷ []) }
         ensures err { OnErr result (self.new ≡ self.old) }
     {
         make_count(&mut self.counts, request.dev)?;
+        self.handles.reserve(request.handle)?;
         self.items.push_back(request)?;
-        self.next = next_after(&mut self.counts, self.next, request);
+        self.next = next_after(&mut self.counts, &mut self.handles, self.next, request);
         Ok(())
     }
 
@@ -204,6 +253,7 @@ impl OpenList {
             return;
         };
         uncount(&mut self.counts, request);
+        self.handles.remove(request.handle);
     }
 
     /// Equal requests, or out of memory.
@@ -215,9 +265,11 @@ impl OpenList {
         let mut items = Vec::from_slice(alloc, first)?;
         items.extend_from_slice(rest)?;
         let counts = Vec::from_slice(alloc, self.counts.as_slice())?;
+        let handles = self.handles.copy()?;
         Ok(OpenList {
             items: VecDeque::from_vec(items),
             counts,
+            handles,
             next: self.next,
         })
     }

@@ -52,10 +52,7 @@ pub fn bound_to(part: &Part, name: &Name) -> Option<HandleId>
 pub fn open_on(part: &Part, handle: HandleId) -> usize
     ensures { result ≡ open_on part.now handle }
 {
-    part.requests
-        .iter()
-        .filter(|r| r.handle.0 == handle.0)
-        .count()
+    part.requests.count_of(handle)
 }
 
 /// Whether the mark was taken.

@@ -12,11 +12,11 @@ returns-in_default c =
 
 pub invariant_of-self-2 : goal.invariant_of-self-2
 invariant_of-self-2 c =
-    taken_regular c.args.req c.self.inside.items.items c.take_out.new.items.items c.self.inside.counts.items c.uncount.new.counts.items c.self.inside.next c.in-Some.request
-    c.self.invariant c.in-Some.ensures.some c.uncount.ensures.less c.uncount.ensures.len
+    taken_regular c.args.req c.self.inside.items.items c.take_out.new.items.items c.self.inside.counts.items c.uncount.new.counts.items c.self.inside.handles c.remove.new.self c.self.inside.next c.in-Some.request
+    c.self.invariant c.in-Some.ensures.some c.uncount.ensures.less c.uncount.ensures.len c.remove.ensures
 
 pub returns : goal.returns
 returns c =
-    taken_is c.args.req c.self.inside.items.items c.take_out.new.items.items c.self.inside.counts.items c.self.inside.next c.in-Some.request
+    taken_is c.args.req c.self.inside.items.items c.take_out.new.items.items c.self.inside.counts.items c.self.inside.handles c.self.inside.next c.in-Some.request
     (sym c.is_some.ensures ∙ c.in-Some.ensures.rises) c.self.invariant c.in-Some.ensures.some
     ∙ ap (filter (λ (o : Open). not (same_request o.id c.args.req))) c.self.view_is
