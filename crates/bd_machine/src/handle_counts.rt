@@ -17,7 +17,7 @@ pub(crate) struct HandleCounts {
     others: HashMap<u128, usize>,
 }
 
-// Counts so many more there. False, and nothing changed, where they can't be counted.
+// Counts so many more there. False where they can't be counted; then counts are no longer to be asked.
 fn add_to(others: &mut HashMap<u128, usize>, handle: u128, count: usize) -> bool
     ensures { IsTrue result → (h : ℕ) → count_in others.new h ≡ count_in others.old h + cond (handle == h) count 0 }
 {
@@ -87,8 +87,8 @@ impl HandleCounts {
         Ok(())
     }
 
-    /// Counts one more of a handle. False, and no count changes, where it can't be counted. It takes no memory where it
-    /// was taken before.
+    /// Counts one more of a handle. False where it can't be counted; then counts are no longer to be asked. It takes no
+    /// memory where it was taken before.
     pub(crate) fn add(&mut self, handle: HandleId) -> bool
         ensures { IsTrue result → CountsOneMore self.old self.new handle }
     {

@@ -142,7 +142,8 @@ pub fn is_over(setup: &Setup, base: DevId, dev: DevId) -> bool
 
 // The base device under a device that has just its blocks, where this part lies between them.
 fn base_if_over(setup: &Setup, dev: DevId, part: DevId) -> Option<DevId>
-    ensures { result ≡ cond ((part.0 == (base_of setup.now dev).0) && is_over setup.now (base_of setup.now dev) dev) (Some (base_of setup.now dev)) None }
+    ensures { result ≡ cond ((part.0 == (base_of setup.now dev).0) && is_over setup.now (base_of setup.now dev) dev)
+        (Some (base_of setup.now dev)) None }
 {
     let base = base_of(setup, dev);
     // In a circle of devices the part may be the base itself.
