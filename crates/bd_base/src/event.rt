@@ -73,10 +73,10 @@ pub enum Answer {
     PutDown {
         left: u128,
     },
-    /// `zero`: the base whose count on this thread reached zero by this drop.
+    /// `zero`: the bases whose counts on this thread reached zero by this drop, in their order.
     Dropped {
         what: Dropped,
-        zero: Option<DevId>,
+        zero: DevList,
         destruct: Option<DevId>,
     },
     /// The threads that have a channel, and the open handles, by rising number.
@@ -100,9 +100,9 @@ pub enum Answer {
     Injected {
         decision: Decision,
     },
-    /// The base handle whose last user was destructed.
+    /// The open base handles whose last user was destructed, with their threads.
     Freed {
-        close: Option<HandleId>,
+        close: HandleList,
     },
     /// The thread that is to let the content grow.
     Resizing {

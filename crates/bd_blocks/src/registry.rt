@@ -1,7 +1,8 @@
 //! What the registry has before any entry.
-ghost use Rattle.std.specs.Prelude.{◌≡◌, [], ◌∷◌, map, IfOk};
-ghost use Rattle.bd_machine.specs.Start.{bare_registry, device_at_start, handles_from, registry_at_start};
-ghost use Rattle.bd_machine.specs.Users.{all_devices, firsts};
+ghost use Rattle.std.specs.Prelude.{◌≡◌, map, IfOk};
+ghost use Rattle.bd_machine.specs.Start.{bare_registry, base_handle_at_start, device_at_start, handles_from, registry_at_start};
+ghost use Rattle.bd_machine.specs.Users.{all_devices, handle_on};
+ghost use Rattle.bd_stack.specs.Openers.{base_handle};
 
 use crate::channels::get_channel;
 use crate::limits::is_limited;
@@ -9,7 +10,7 @@ use bd_base::{
     ClaimKind, DevId, ErrKind, HandleId, Injection, Injections, OutOfMemory, Rows, Setup, ThreadId,
 };
 use bd_machine::{Device, Handle, Registry, ResetState, Standing};
-use bd_stack::{blocks_of, firsts, home, stands_on};
+use bd_stack::{base_handles, blocks_of, home};
 use std::alloc::Global;
 
 const NO_INJECTION: Injection = Injection {
@@ -56,28 +57,32 @@ fn devices_at_start(alloc: Global, setup: &Setup) -> Result<Rows<Device>, OutOfM
     Ok(devices)
 }
 
-// The base handle of this number, which the first device of a group has open.
-fn base_handle(setup: &Setup, number: u128, first: DevId) -> Handle
-    ensures { handles_from setup.now number (first ∷ []) ≡ result ∷ [] }
+// The base handle of this number, by which the first device of a group has a base open.
+fn handle_at_start(setup: &Setup, number: u128, first: DevId, base: DevId) -> Handle
+    ensures { result ≡ base_handle_at_start setup.now number (handle_on first base) }
 {
-    let dev = stands_on(setup, first).unwrap_or(first);
     Handle {
         id: HandleId(number),
-        dev,
+        dev: base,
         thread: ThreadId(home(setup, first)),
         write: true,
         claim: Some(ClaimKind::Exclusive),
-        blocks: blocks_of(setup, dev),
+        blocks: blocks_of(setup, base),
     }
 }
 
 // The base handles, which are open from the start.
-fn base_handles(alloc: Global, setup: &Setup, firsts: &[DevId]) -> Result<Rows<Handle>, OutOfMemory>
-    ensures { IfOk result (λ hs. hs ≡ handles_from setup.now 0 firsts.now) }
+fn handles_at_start(
+    alloc: Global,
+    setup: &Setup,
+    openers: &[(DevId, DevId)],
+) -> Result<Rows<Handle>, OutOfMemory>
+    ensures { IfOk result (λ hs. hs ≡ handles_from setup.now 0 (map base_handle openers.now)) }
 {
     let mut handles = Rows::new(alloc);
-    for (number, first) in firsts.iter().enumerate() {
-        handles.push(base_handle(setup, number as u128, *first))?;
+    for (number, opener) in openers.iter().enumerate() {
+        let (first, base) = *opener;
+        handles.push(handle_at_start(setup, number as u128, first, base))?;
     }
     Ok(handles)
 }
@@ -86,10 +91,10 @@ fn base_handles(alloc: Global, setup: &Setup, firsts: &[DevId]) -> Result<Rows<H
 fn bare_registry(alloc: Global, setup: &Setup) -> Result<Registry, OutOfMemory>
     ensures { IfOk result (λ r. r ≡ bare_registry setup.now) }
 {
-    let firsts = firsts(alloc, setup)?;
+    let openers = base_handles(alloc, setup)?;
     Ok(Registry {
-        handles: base_handles(alloc, setup, firsts.as_slice())?,
-        next: firsts.len() as u128,
+        handles: handles_at_start(alloc, setup, openers.as_slice())?,
+        next: openers.len() as u128,
         devices: devices_at_start(alloc, setup)?,
         channels: Rows::new(alloc),
         between: None,

@@ -1,4 +1,5 @@
 pub mod AioSteps
+pub mod Least
 pub mod Numbered
 pub mod Settings
 pub mod Steps

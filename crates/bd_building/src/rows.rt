@@ -2,10 +2,12 @@
 ghost use Rattle.std.specs.Prelude.{◌≡◌, [], ◌∷◌, length, IfOk};
 ghost use Rattle.bd_building.specs.Rows.{base_named, devices_of, error_name, whole_over};
 
-use crate::base::{Base, base_named};
+use crate::base::{Base, base_named, bases_named, only};
 use crate::parts::split_over;
-use bd_base::{DevRow, Kind, Name, OutOfMemory, Setup};
+use crate::sets::set_over;
+use bd_base::{Kind, Name, OutOfMemory, Rows, Setup};
 use bd_config::Command;
+use bd_devices::NewDevice;
 use std::alloc::Global;
 
 // The number of a group that no device has yet.
@@ -26,12 +28,12 @@ fn error_name(alloc: Global, base: &Name) -> Result<Name, OutOfMemory>
     Ok(Name::from_vec(name))
 }
 
-// The one row.
-fn one(alloc: Global, row: DevRow) -> Result<Vec<DevRow>, OutOfMemory>
-    ensures { IfOk result (λ rows. rows.items ≡ row ∷ []) }
+/// The one device.
+pub(crate) fn one(alloc: Global, device: NewDevice) -> Result<Vec<NewDevice>, OutOfMemory>
+    ensures { IfOk result (λ rows. rows.items ≡ device ∷ []) }
 {
     let mut rows = Vec::new(alloc);
-    rows.push(row)?;
+    rows.push(device)?;
     Ok(rows)
 }
 
@@ -42,16 +44,16 @@ fn whole_over(
     kind: Kind,
     name: Name,
     base: Option<Base>,
-) -> Result<Vec<DevRow>, OutOfMemory>
+) -> Result<Vec<NewDevice>, OutOfMemory>
     ensures { IfOk result (λ rows. rows.items ≡ whole_over group kind name base) }
 {
     let Some(base) = base else {
         return Ok(Vec::new(alloc));
     };
-    let row = DevRow {
+    let device = NewDevice {
         name,
         kind,
-        base: Some(base.dev),
+        bases: only(alloc, base.dev)?,
         blocks: base.blocks,
         size: base.size,
         boundary: 0,
@@ -59,7 +61,7 @@ fn whole_over(
         file: None,
         group,
     };
-    one(alloc, row)
+    one(alloc, device)
 }
 
 /// The devices that a command asks for, in order, where the file that it opens has this number of blocks.
@@ -68,7 +70,7 @@ pub(crate) fn devices_of(
     setup: &Setup,
     command: &Command,
     disk: u64,
-) -> Result<Vec<DevRow>, OutOfMemory>
+) -> Result<Vec<NewDevice>, OutOfMemory>
     ensures { IfOk result (λ rows. rows.items ≡ devices_of setup.now command.now disk) }
 {
     let group = next_group(setup)?;
@@ -81,10 +83,10 @@ pub(crate) fn devices_of(
             depth,
         } => one(
             alloc,
-            DevRow {
+            NewDevice {
                 name: name.copy()?,
                 kind: Kind::Malloc,
-                base: None,
+                bases: Rows::new(alloc),
                 blocks: *blocks,
                 size: *size,
                 boundary: *boundary,
@@ -101,10 +103,10 @@ pub(crate) fn devices_of(
             depth,
         } => one(
             alloc,
-            DevRow {
+            NewDevice {
                 name: name.copy()?,
                 kind: Kind::Null,
-                base: None,
+                bases: Rows::new(alloc),
                 blocks: *blocks,
                 size: *size,
                 boundary: *boundary,
@@ -120,10 +122,10 @@ pub(crate) fn devices_of(
             depth,
         } => one(
             alloc,
-            DevRow {
+            NewDevice {
                 name: name.copy()?,
                 kind: Kind::Aio,
-                base: None,
+                bases: Rows::new(alloc),
                 blocks: disk,
                 size: *size,
                 boundary: 0,
@@ -176,6 +178,19 @@ pub(crate) fn devices_of(
             Kind::Error,
             error_name(alloc, base)?,
             base_named(setup, base)?,
+        ),
+        Command::Raid {
+            name,
+            striped,
+            strip_kb,
+            bases,
+        } => set_over(
+            alloc,
+            group,
+            name,
+            *striped,
+            *strip_kb,
+            bases_named(alloc, setup, bases.as_slice())?.as_slice(),
         ),
         _ => Ok(Vec::new(alloc)),
     }

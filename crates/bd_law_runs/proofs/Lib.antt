@@ -1,4 +1,5 @@
 pub mod Sums
+pub mod Stacked
 pub mod Channels
 pub mod Fields
 pub mod Names

@@ -45,10 +45,10 @@ fn removing(alloc: Global) -> Answer {
     }
 }
 
-fn dropped() -> Answer {
+fn dropped(alloc: Global) -> Answer {
     Answer::Dropped {
         what: Dropped::Last,
-        zero: None,
+        zero: Rows::new(alloc),
         destruct: None,
     }
 }
@@ -74,9 +74,11 @@ fn answer(alloc: Global, ask: &[&str]) -> Answer {
         ["claim"] => Answer::Claimed,
         ["put"] => Answer::PutDown { left: 0 },
         ["close"] => Answer::Closed { destruct: None },
-        ["drop"] => dropped(),
+        ["drop"] => dropped(alloc),
         ["remove"] => removing(alloc),
-        _ => Answer::Freed { close: None },
+        _ => Answer::Freed {
+            close: Rows::new(alloc),
+        },
     }
 }
 

@@ -1,4 +1,4 @@
 mod Least
 mod Joined
-mod Striped
+pub mod Striped
 mod Sets

@@ -73,7 +73,7 @@ fn copy_answer(answer: &Answer) -> Result<Answer, OutOfMemory>
             destruct,
         } => Answer::Dropped {
             what: *what,
-            zero: *zero,
+            zero: zero.copy()?,
             destruct: *destruct,
         },
         Answer::Removing {
@@ -94,7 +94,9 @@ fn copy_answer(answer: &Answer) -> Result<Answer, OutOfMemory>
         Answer::Injected { decision } => Answer::Injected {
             decision: *decision,
         },
-        Answer::Freed { close } => Answer::Freed { close: *close },
+        Answer::Freed { close } => Answer::Freed {
+            close: close.copy()?,
+        },
         Answer::Resizing { dev, home } => Answer::Resizing {
             dev: *dev,
             home: *home,

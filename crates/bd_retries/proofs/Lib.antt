@@ -1,2 +1,3 @@
+mod At
 mod Left
 mod Answered

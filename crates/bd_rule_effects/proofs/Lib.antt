@@ -3,6 +3,7 @@ pub mod Dues
 pub mod Each
 mod Handles
 pub mod Firsts
+pub mod Leaving
 pub mod Left
 pub mod Places
 pub mod Written

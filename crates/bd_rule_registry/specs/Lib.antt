@@ -1,2 +1,1 @@
-pub mod Born
 pub mod Named

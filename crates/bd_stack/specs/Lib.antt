@@ -1,1 +1,4 @@
+pub mod Lowers
+pub mod Once
+pub mod Openers
 pub mod Walks

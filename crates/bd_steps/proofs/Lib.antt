@@ -1,4 +1,6 @@
 mod Left
+mod Spreading
+mod Freeing
 pub mod Completing
 pub mod Overs
 mod Holding

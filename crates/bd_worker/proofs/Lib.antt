@@ -1,5 +1,4 @@
 pub mod Places
-pub mod Lowest
 pub mod Over
 pub mod Times
 pub mod Workers
