@@ -52,7 +52,7 @@ OTHERS = ["null", "true", "false", '""', '"64"', "[]", "[64]", "{}", '{"a":1}', 
           '"tab\there"', '"' + "n" * 200 + '"', '"' + "n" * 201 + '"', '"' + "n" * 100000 + '"', "'M'", "nul", "True", "undefined"]
 BYTES = [b"\xff", b"\xc0\xaf", b"\xed\xa0\x80", b"\xf4\x90\x80\x80", b"\xe2\x82", b"\x80", b"\x00", b"\xef\xbb\xbf", b"\xf0\x9f\x98\x80", b"\xc3\xa9"]
 METHODS = ["bdev_null_create", "bdev_aio_create", "bdev_passthru_create", "bdev_split_create", "bdev_delay_create", "bdev_error_create",
-           "bdev_error_inject_error", "bdev_set_qos_limit", "bdev_raid_create", "bdev_rbd_create", "bdev_set_options", "bdev_malloc_set_options", "_set_options", "bdev_examine", "",
+           "bdev_error_inject_error", "bdev_set_qos_limit", "bdev_raid_create", "bdev_set_options", "bdev_malloc_set_options", "_set_options", "bdev_examine", "",
            "bdev_malloc_creat", "BDEV_MALLOC_CREATE", "bdev_malloc_create ", "bdev_malloc_delete", "nvmf_create_transport"]
 KEYS = {
     "bdev_null_create": {"name": "N", "num_blocks": 64, "block_size": 512},
@@ -61,7 +61,6 @@ KEYS = {
     "bdev_split_create": {"base_bdev": "M", "split_count": 2},
     "bdev_delay_create": {"base_bdev_name": "M", "name": "D", "avg_read_latency": 1, "p99_read_latency": 2, "avg_write_latency": 3, "p99_write_latency": 4},
     "bdev_error_create": {"base_name": "M"},
-    "bdev_raid_create": {"name": "R", "raid_level": "raid0", "strip_size_kb": 4, "base_bdevs": ["M"]},
     "bdev_error_inject_error": {"name": "EE_M", "io_type": "read", "error_type": "failure"},
     "bdev_set_qos_limit": {"name": "M", "rw_ios_per_sec": 1000},
 }

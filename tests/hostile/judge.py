@@ -234,21 +234,10 @@ class Call:
         return value
 
     def name(self, key):
-        return self.named(self.text(key))
-
-    def named(self, name):
-        if not isinstance(name, str) or not 1 <= len(name.encode()) <= 200 or not all("!" <= char <= "~" for char in name):
+        name = self.text(key)
+        if not 1 <= len(name.encode()) <= 200 or not all("!" <= char <= "~" for char in name):
             raise Wrong
         return name
-
-    def names(self, key):
-        """An array of names, or one text of them."""
-        value = self.params.get(key)
-        if isinstance(value, str):
-            value = [word for word in value.split(" ") if word]
-        if not isinstance(value, list) or not 1 <= len(value) <= 16:
-            raise Wrong
-        return [self.named(each) for each in value]
 
     def filename(self):
         filename = self.text("filename")
@@ -313,13 +302,6 @@ def error(call):
     return ("error", call.name("base_name"))
 
 
-def raid(call):
-    level, strip = call.text("raid_level"), call.whole("strip_size_kb", 4, 1024)
-    if level not in ("raid0", "0", "concat") or strip not in (4, 8, 16, 32, 64, 128, 256, 512, 1024):
-        raise Wrong
-    return ("raid", call.names("base_bdevs"), call.name("name"), level == "concat", strip)
-
-
 def inject(call):
     name = call.name("name")
     call.whole("num", 0, (1 << 32) - 1, 1)
@@ -349,7 +331,6 @@ OTHERS = {
     "bdev_split_create": split,
     "bdev_delay_create": delay,
     "bdev_error_create": error,
-    "bdev_raid_create": raid,
     "bdev_error_inject_error": inject,
     "bdev_set_qos_limit": limits,
 }
@@ -422,10 +403,8 @@ class Devices:
     def __init__(self):
         self.made, self.memory, self.errors = {}, 0, set()
 
-    def bases_of(self, command):
-        if command[0] in ("malloc", "null", "aio", *SETS):
-            return []
-        return command[1] if command[0] == "raid" else [command[1]]
+    def base_of(self, command):
+        return None if command[0] in ("malloc", "null", "aio", *SETS) else command[1]
 
     def rows(self, command):
         """What the command asks for: names, with blocks, size and layers."""
@@ -433,8 +412,6 @@ class Devices:
             return [(command[1], (command[2], command[3], 1))]
         if command[0] == "aio":
             return [(command[1], (disk_blocks(command[2], command[3]), command[3], 1))]
-        if command[0] == "raid":
-            return [(command[2], self.set_row(command))]
         blocks, size, layers = self.made[command[1]][:3]
         if command[0] in ("passthru", "delay"):
             return [(command[2], (blocks, size, layers + 1))]
@@ -446,16 +423,6 @@ class Devices:
         count = min(count, blocks // each) if each else 0
         return [("%sp%d" % (command[1], i), (each, size, layers + 1)) for i in range(count)]
 
-    def set_row(self, command):
-        """The blocks, size and layers of a set; no blocks where its members don't go together."""
-        members = [self.made[name] for name in command[1]]
-        size, layers = members[0][1], 1 + max(member[2] for member in members)
-        strip = command[4] * 1024 // size
-        used = [member[0] - member[0] % strip for member in members]
-        if any(member[1] != size for member in members) or 0 in used:
-            return (0, size, layers)
-        return (sum(used) if command[3] else min(used) * len(used), size, layers)
-
     def do(self, command):
         if command[0] in SETS:
             # It makes nothing, and doesn't wait.
@@ -464,16 +431,16 @@ class Devices:
             if command[0] == "inject" and command[1] not in self.errors:
                 raise Refused(TOO_MUCH)
             return
-        rows, bases = self.rows(command), self.bases_of(command)
+        rows, base = self.rows(command), self.base_of(command)
         if any(name in self.made for name, _ in rows):
             raise Refused(EXISTS)
-        if any(self.made[base][3] for base in bases) or len(set(bases)) < len(bases):
+        if base is not None and self.made[base][3]:
             raise Refused(CLAIMED)
         memory = self.memory + (command[2] * command[3] if command[0] == "malloc" else 0)
         names_fit = all(len(name) <= MOST_NAME for name, _ in rows)
         if command[0] == "delay" and not command[3]:
             raise Refused(TOO_MUCH)
-        if command[0] in ("aio", "raid") and not 1 <= rows[0][1][0] <= 1 << 40:
+        if command[0] == "aio" and not 1 <= rows[0][1][0] <= 1 << 40:
             raise Refused(TOO_MUCH)
         if not rows or not names_fit or memory > MOST_MEMORY or len(self.made) + len(rows) > MOST_DEVICES or rows[0][1][2] > MOST_LAYERS:
             raise Refused(TOO_MUCH)
@@ -482,11 +449,11 @@ class Devices:
             self.made[name] = [*row, False]
             if command[0] == "error":
                 self.errors.add(name)
-        for base in bases:
+        if base is not None:
             self.made[base][3] = True
 
     def is_ready(self, command):
-        return all(base in self.made for base in self.bases_of(command))
+        return self.base_of(command) is None or self.base_of(command) in self.made
 
 
 def devices_fault(commands):

@@ -26,7 +26,7 @@ def method_of(dice):
     """A command with good parameters: its method, and its parameters' texts."""
     name, base = dice.of(NAMES) if dice.below(3) == 0 else "D%d" % dice.below(1000), dice.of(NAMES)
     blocks = dice.of(["1", "8", "64", "65", "2048", "8192"])
-    kind = dice.below(18)
+    kind = dice.below(16)
     if kind < 3:
         return "bdev_malloc_create", [("name", json.dumps(name)), ("num_blocks", blocks), ("block_size", dice.of(["512", "4096"]))]
     if kind < 5:
@@ -47,10 +47,6 @@ def method_of(dice):
     if kind == 15:
         keys = dice.of([["rw_ios_per_sec"], ["rw_mbytes_per_sec"], ["r_mbytes_per_sec", "w_mbytes_per_sec"]])
         return "bdev_set_qos_limit", [("name", json.dumps(dice.of(["M", base, name]))), *((key, dice.of(["0", "1", "1000000"])) for key in keys)]
-    if kind in (16, 17):
-        members = [dice.of([*NAMES, "D%d" % dice.below(1000)]) for _ in range(1 + dice.below(3))]
-        level = [("raid_level", json.dumps(dice.of(["raid0", "0", "concat"]))), ("strip_size_kb", dice.of(["4", "8", "64", "1024"]))]
-        return "bdev_raid_create", [("name", json.dumps(name)), *level, ("base_bdevs", json.dumps(members if dice.below(2) else " ".join(members)))]
     if kind == 10:
         return dice.of(["bdev_set_options", "bdev_examine", "bdev_wait_for_examine", "iobuf_set_options"]), [("whatever", "1")]
     if dice.below(6):

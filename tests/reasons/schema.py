@@ -70,12 +70,6 @@ class Schema:
     def of_maxLength(self, asked, value, _):
         return not isinstance(value, str) or len(value) <= asked
 
-    def of_minItems(self, asked, value, _):
-        return not isinstance(value, list) or len(value) >= asked
-
-    def of_maxItems(self, asked, value, _):
-        return not isinstance(value, list) or len(value) <= asked
-
     def of_anyOf(self, asked, value, _):
         return any(self.takes(value, each) for each in asked)
 

@@ -60,11 +60,6 @@ def passthru(base='"M"', name='"P"'):
     return command("bdev_passthru_create", '"base_bdev_name": ' + base, '"name": ' + name)
 
 
-def raid(name='"R"', level='"raid0"', strip="4", members='["M"]'):
-    """Five lines: the level in column 15, the strip in 18, the members in 15."""
-    return command("bdev_raid_create", '"name": ' + name, '"raid_level": ' + level, '"strip_size_kb": ' + strip, '"base_bdevs": ' + members)
-
-
 def split(base='"M"', count="2", *more):
     """Three lines: the base in column 14, the count in 16, a size in 18."""
     return command("bdev_split_create", '"base_bdev": ' + base, '"split_count": ' + count, *more)
@@ -155,8 +150,8 @@ ERROR = command("bdev_error_create", '"base_name": "M"')
 DELAY = command("bdev_delay_create", '"base_bdev_name": "M"', '"name": "D"', '"avg_read_latency": 5', '"p99_read_latency": 4', '"avg_write_latency": 5', '"p99_write_latency": 5')
 COMMANDS = [
     of_command("a method mistyped", 0, -32601, bdev(command("bdev_malloc_creat", '"name": "M"')), "config:2:12: ", "command 0, bdev_malloc_creat 'M'", "isn't served", "bdev_malloc_create is meant"),
-    of_command("NVMe and more in a save", 1, -32601, bdev(command("bdev_set_options", '"bdev_auto_examine": true'), NVME, malloc(), QOS, command("bdev_rbd_create", '"name": "R"')),
-               "config:4:12: command 1, bdev_nvme_attach_controller 'Nvme0'", "config:15:12: command 4, bdev_rbd_create 'R'", "served are bdev_malloc_create", "tools/check --served"),
+    of_command("NVMe and more in a save", 1, -32601, bdev(command("bdev_set_options", '"bdev_auto_examine": true'), NVME, malloc(), QOS, command("bdev_raid_create", '"name": "R"')),
+               "config:4:12: command 1, bdev_nvme_attach_controller 'Nvme0'", "config:15:12: command 4, bdev_raid_create 'R'", "served are bdev_malloc_create", "tools/check --served"),
     of_command("num_block for num_blocks", 0, -32602, bdev(command("bdev_malloc_create", '"name": "M"', '"num_block": 64', '"block_size": 512')), "config:4:14: ", "num_blocks is absent", BLOCKS, "'num_block', which is no parameter"),
     of_command("no name", 0, -32602, bdev(command("bdev_malloc_create", '"num_blocks": 64', '"block_size": 512')), "config:2:44: ", "name is absent", NAME),
     of_command("no parameters", 0, -32602, bdev('{"method": "bdev_null_create"}'), "config:2:12: ", "name is absent", "num_blocks is absent", "from 1 to 1099511627776", "block_size is absent", "512 or 4096"),
@@ -207,17 +202,6 @@ COMMANDS = [
     of_command("more than 1 GiB", 1, -22, bdev(malloc(blocks="2097152"), malloc('"M1"', "1")), "config:8:15: command 1, bdev_malloc_create 'M1'", "num_blocks is 1", "1073742336 bytes", "at most 1073741824", "0 are left"),
     of_command("the 257th device", 256, -22, bdev(*(null('"N%d"' % i) for i in range(257))), "config:1027:9: command 256, bdev_null_create 'N256'", "256 stand already; there are at most 256"),
     of_command("the 65th layer", 64, -22, bdev(null('"P0"'), *(passthru('"P%d"' % i, '"P%d"' % (i + 1)) for i in range(64))), "config:196:19: command 64, bdev_passthru_create 'P64'", "layer 65", "at most 64"),
-    of_command("a level that isn't served", 1, -32602, bdev(malloc(), raid(level='"raid1"')), "config:8:15: command 1, bdev_raid_create 'R': raid_level is \"raid1\"", "'raid0', '0' or 'concat'"),
-    of_command("a strip of 5", 1, -32602, bdev(malloc(), raid(strip="5")), "config:9:18: ", "strip_size_kb is 5", "4, 8, 16, 32, 64, 128, 256, 512 or 1024"),
-    of_command("members as a number", 1, -32602, bdev(malloc(), raid(members="7")), "config:10:15: ", "base_bdevs is 7, neither an array nor a text", "1 to 16 names"),
-    of_command("a member that is no text", 1, -32602, bdev(malloc(), raid(members='["M", 7]')), "config:10:15: ", "an array with what is no text in it"),
-    of_command("no member", 1, -32602, bdev(malloc(), raid(members='" "')), "config:10:15: ", "with 0 names in it"),
-    of_command("a member twice", 1, -1, bdev(malloc(), raid(members='"M M"')), "config:10:15: command 1, bdev_raid_create 'R'", "base_bdevs has 'M' twice"),
-    of_command("a member that is another's", 2, -1, bdev(malloc(), passthru(), raid()), "config:13:15: command 2, bdev_raid_create 'R'", "base_bdevs has 'M', on which command 1, bdev_passthru_create 'P', stands already"),
-    of_command("a set over a claimed member's set", 3, -1, bdev(malloc(), null(), raid(members='"M N"'), passthru('"N"')), "config:16:19: command 3", "base_bdev_name is 'N', on which command 2, bdev_raid_create 'R', stands already"),
-    of_command("members of two sizes", 2, -22, bdev(malloc(), null(size="4096"), raid(members='"M N"')), "config:14:15: ", "'M' with blocks of 512 bytes, and 'N' with blocks of 4096"),
-    of_command("a member without a strip", 1, -22, bdev(malloc(), raid(strip="64")), "config:9:18: ", "strip_size_kb is 64, so a strip has 128 blocks", "'M' has 64"),
-    of_command("a set of too many blocks", 2, -22, bdev(malloc(), null(blocks="1099511627776"), raid(members='"M N"', level='"concat"')), "config:14:15: ", "1099511627840 blocks", "at most 1099511627776"),
     of_command("a base that waited and is refused", 0, -22, bdev(split(count="64"), malloc(blocks="8")), "config:4:16: command 0, bdev_split_create over 'M'", "split_count is 64", "8 blocks"),
     of_command("a disk without a block", 0, -22, bdev(aio()), "config:4:13: ", "filename is 'disk'", "a file of 511 bytes", "one block of 512", files={"disk": b"\0" * 511}),
 ]

@@ -32,11 +32,11 @@ EVENTS = [
 ANSWERS = [
     rf"opened handle {NUMBER} device {NUMBER} blocks {NUMBER}", rf"closed{DESTRUCT}", "claimed",
     rf"got fresh (?:yes|no)(?: frozen {NUMBER})*", rf"put-down left {NUMBER}",
-    rf"dropped channel (?:kept|gone|last)(?: zero {NUMBER})*{DESTRUCT}",
+    rf"dropped channel (?:kept|gone|last)(?: zero {NUMBER})?{DESTRUCT}",
     rf"removing device {NUMBER}{THREADS}(?: handle {NUMBER} owner {NUMBER})*{DESTRUCT}",
     rf"reset-started{THREADS}", "reset-queued", rf"reset-ended{THREADS}",
     rf"reset-finished(?: next {OWN}{THREADS})?", "injected decision (?:pass|fail|pend|corrupt)",
-    rf"freed(?: close {NUMBER} owner {NUMBER})*", rf"refused errno {NUMBER}", rf"resizing device {NUMBER} home {NUMBER}",
+    rf"freed(?: close {NUMBER})?", rf"refused errno {NUMBER}", rf"resizing device {NUMBER} home {NUMBER}",
     rf"resized blocks {NUMBER}(?: handle {NUMBER} owner {NUMBER})*{DESTRUCT}",
 ]
 

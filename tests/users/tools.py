@@ -18,9 +18,6 @@ DIGESTS = [
     ("split", 7, "35 12 from 32 write 3 12 9"),
     ("split", 13, "64 1 from 32 write 3 12 9"),
     ("split", "Malloc0", "0 65 from 32 write 3 12 9 from 0 write 31 1 1"),
-    ("raid0", 5, "4 24 write 4 24 7"),
-    ("raid0", 24, "64 6"),
-    ("concat", 6, "92 14 write 92 14 5"),
     ("disk", 12, "0 1 write 0 1 5 write 1000000 8 7 write 2097088 64 9 zeroes 1000002 2"),
     ("disk", 13, "1000000 4 write 0 1 5 write 1000000 8 7 write 2097088 64 9 zeroes 1000002 2"),
     ("disk", 14, "5 1 write 0 1 5 write 1000000 8 7"),
@@ -268,12 +265,8 @@ def nvme(name):
     return "bdev_nvme_attach_controller", {"name": name, "trtype": "PCIe", "traddr": "0000:5e:00.0"}
 
 
-def raid(name, *members, level="raid0", **more):
-    return "bdev_raid_create", {"name": name, "raid_level": level, "strip_size_kb": 4, "base_bdevs": list(members), **more}
-
-
-def rbd(name):
-    return "bdev_rbd_create", {"name": name, "pool_name": "rbd", "rbd_name": "disk", "block_size": 512}
+def raid(name):
+    return "bdev_raid_create", {"name": name, "raid_level": "raid0", "base_bdevs": ["A", "B"]}
 
 
 # A configuration, the words, the devices that are made (name, kind, blocks, size), and a part of what is said.
@@ -305,16 +298,8 @@ CASES = [
     (bdev(limit("A"), malloc("A"), limit("A")), "", ["A malloc 64 512"], "left out: command 0, bdev_set_qos_limit 'A': name is 'A': there is no such device when this is done: command 1"),
     (bdev(malloc("A"), limit("A", w_mbytes_per_sec=-1), limit("A", r_mbytes_per_sec=10**6 + 1)), "", ["A malloc 64 512"], "command 1, bdev_set_qos_limit 'A'"),
     (bdev(nvme("N"), limit("Nn2"), error("Nn2"), inject("EE_Nn2")), "--size Nn1=5 --size Nn2=6", ["Nn1 malloc 5 512", "Nn2 malloc 6 512", "EE_Nn2 error 6 512"], ""),
-    (bdev(rbd("R"), passthru("R", "P")), "", [], "left out: command 0, bdev_rbd_create 'R': the method isn't served"),
-    (bdev(rbd("R"), passthru("R", "P")), "--size R=77", ["R malloc 77 512", "P passthru 77 512"], "R becomes a malloc device"),
-    (bdev(raid("R", "Nn1", "A"), malloc("A"), nvme("N")), "--blocks 90", ["A malloc 64 512", "Nn1 malloc 90 512", "R raid0 128 512"], ""),
-    (bdev(malloc("A"), malloc("B", 90), raid("C", "A", "B", level="concat", superblock=False)), "", ["A malloc 64 512", "B malloc 90 512", "C concat 152 512"], ""),
-    (bdev(malloc("A"), raid("R", "A", "B")), "", ["A malloc 64 512"], "left out: command 1, bdev_raid_create 'R': it waits for its base 'B'"),
-    (bdev(malloc("A"), raid("R", "A", "A")), "", ["A malloc 64 512"], "left out: command 1, bdev_raid_create 'R': base_bdevs has 'A' twice"),
-    (bdev(malloc("A"), malloc("B", size=4096), raid("R", "A", "B")), "", ["A malloc 64 512", "B malloc 64 4096"], "members have blocks of one size"),
-    (bdev(malloc("A", 7), raid("R", "A")), "", ["A malloc 7 512"], "left out: command 1, bdev_raid_create 'R': strip_size_kb is 4, so a strip has 8 blocks"),
-    (bdev(malloc("A"), passthru("A", "P"), raid("R", "A")), "", ["A malloc 64 512", "P passthru 64 512"], "left out: command 2, bdev_raid_create 'R': base_bdevs has 'A', on which command 1"),
-    (bdev(malloc("A"), raid("R", "A", level="raid1"), raid("S", "A", strip_size_kb=5), raid("T")), "", ["A malloc 64 512"], "left out: command 3, bdev_raid_create 'T': base_bdevs is []"),
+    (bdev(raid("R"), passthru("R", "P")), "", [], "left out: command 0, bdev_raid_create 'R': the method isn't served"),
+    (bdev(raid("R"), passthru("R", "P")), "--size R=77", ["R malloc 77 512", "P passthru 77 512"], "R becomes a malloc device"),
     (bdev(("bdev_aio_create", {"name": "F", "filename": "/nowhere/f", "block_size": 512})), "--size F=7", ["F malloc 7 512"], ""),
     (bdev(("bdev_set_qos_limit", {"name": "A"}), ("bdev_set_options", {}), ("bdev_x", {}), malloc("A b"), malloc("A\nb")), "", [], "left out: command 3, bdev_malloc_create 'A b': name is"),
     (bdev(malloc("A", blocks=0), malloc("B", blocks="64"), malloc("C", blocks=True), malloc("D", blocks=64.0)), "", [], "left out: command 3, bdev_malloc_create 'D': num_blocks is 64.0"),
@@ -338,8 +323,7 @@ def any_configuration(chance):
         lambda: passthru(name(), name()),
         lambda: split(name(), chance.choice([1, 2, 64, 65, 0]), **chance.choice([{}, {"split_size_mb": 1}, {"split_size_mb": -1}, {"split_size_mb": None}])),
         lambda: nvme(name()),
-        lambda: rbd(name()),
-        lambda: raid(name(), *[name() for _ in range(chance.randrange(3))], level=chance.choice(["raid0", "concat", "0", "raid1", None])),
+        lambda: raid(name()),
         lambda: ("bdev_delay_create", {"name": name(), "base_bdev_name": name()}),
         lambda: error(name()),
         lambda: inject(chance.choice(["EE_D0", "EE_D1", "D0", ""]), chance.choice(["failure", "pending", "nomem"])),

@@ -57,9 +57,10 @@ class Course:
 
     def stack(self, device):
         """The name of a device and of those below it."""
-        names = [device.name]
-        for base in device.bases:
-            names += [name for name in self.stack(base) if name not in names]
+        names = []
+        while device:
+            names.append(device.name)
+            device = device.base
         return names
 
     def may_grow(self, device):
@@ -175,11 +176,11 @@ class Course:
 
     def submit(self, place, word, handle, name, first, count):
         device = handle.device
-        takes_no_unmap = any(self.made[name].kind == "aio" for name in self.stack(device))
+        bottom = self.made[self.stack(device)[-1]]
         if word in WRITES and not handle.writes:
             self.note(place, 9, "the handle %s was opened with r, and doesn't write" % quoted(name))
-        elif word == "unmap" and takes_no_unmap:
-            self.note(place, 95, "an aio device doesn't take unmap" if device.kind == "aio" else "%s stands on an aio device, which doesn't take unmap" % quoted(device.name))
+        elif word == "unmap" and bottom.kind == "aio":
+            self.note(place, 95, "an aio device doesn't take unmap" if bottom is device else "%s stands on an aio device, which doesn't take unmap" % quoted(device.name))
         elif count == 0:
             self.note(place, 22, "COUNT is 0")
         elif count * device.size > MOST_BYTES_OF_REQUEST:

@@ -4,8 +4,8 @@ import re
 
 from .files import Disks, Refused, sized
 from .mistakes import DEVICES, Mistake
-from .places import counted, listed, quoted, shown
-from .rules import BASES, CLAIMED, EXISTS, LIMITS, MOST_BLOCKS, MOST_DEVICES, MOST_LAYERS, MOST_MEMORY, MOST_NAME, NAMES, NO_DEVICE, TOO_MUCH, Type, meant
+from .places import counted, quoted, shown
+from .rules import BASES, CLAIMED, EXISTS, LIMITS, MOST_BLOCKS, MOST_DEVICES, MOST_LAYERS, MOST_MEMORY, MOST_NAME, NO_DEVICE, TOO_MUCH, Type, meant
 
 KINDS = {
     "bdev_malloc_create": "malloc",
@@ -15,34 +15,30 @@ KINDS = {
     "bdev_split_create": "part",
     "bdev_delay_create": "delay",
     "bdev_error_create": "error",
-    "bdev_raid_create": "raid",
 }
 BASE_KEYS = {
     "bdev_passthru_create": "base_bdev_name",
     "bdev_split_create": "base_bdev",
     "bdev_delay_create": "base_bdev_name",
     "bdev_error_create": "base_name",
-    "bdev_raid_create": "base_bdevs",
 }
 # Devices that have all of their base's blocks.
 WHOLE = ("bdev_passthru_create", "bdev_delay_create", "bdev_error_create")
 INJECTS = "bdev_error_inject_error"
 SETS_LIMITS = "bdev_set_qos_limit"
-SET = "bdev_raid_create"
 MEGABYTE = 1 << 20
 
 
 class Device:
-    def __init__(self, call, name, blocks, size, bases=(), begin=0):
+    def __init__(self, call, name, blocks, size, base=None, begin=0):
         self.call = call
         self.name = name
-        self.kind = KINDS[call.method] if call.method != SET else "concat" if call.value("raid_level") == "concat" else "raid0"
+        self.kind = KINDS[call.method]
         self.blocks = blocks
         self.size = size
-        self.bases = list(bases)
-        self.base = self.bases[0] if bases else None
+        self.base = base
         self.begin = begin
-        self.layers = 1 + max((base.layers for base in bases), default=0)
+        self.layers = base.layers + 1 if base else 1
         self.over = []
         self.errors = {}  # of an error device: the kind and the number of each type's errors
         self.limits = {}
@@ -76,7 +72,7 @@ class Devices:
 
     def wait(self, call, calls):
         """The note that a command waits."""
-        said = "%s: it waits for its base %s, and makes nothing: %s" % (call.subject(), quoted(self.missing(call), 200), self.why_waiting(call, calls))
+        said = "%s: it waits for its base %s, and makes nothing: %s" % (call.subject(), quoted(self.base_of(call), 200), self.why_waiting(call, calls))
         return Mistake(None, None, 0, said, call.place(call.param(BASE_KEYS[call.method])))
 
     def begin(self, call):
@@ -94,20 +90,10 @@ class Devices:
             self.do(ready)
 
     def base_of(self, call):
-        return call.value(BASE_KEYS[call.method]) if call.method in BASE_KEYS and call.method != SET else None
-
-    def bases_of(self, call):
-        """The names of the devices that a command's devices stand on."""
-        if call.method == SET:
-            return NAMES.names(call.param(BASE_KEYS[SET]))
-        return [self.base_of(call)] if call.method in BASE_KEYS else []
-
-    def missing(self, call):
-        """The first base of a command that isn't there; None where all are."""
-        return next((name for name in self.bases_of(call) if name not in self.made), None)
+        return call.value(BASE_KEYS[call.method]) if call.method in BASE_KEYS else None
 
     def is_ready(self, call):
-        return self.missing(call) is None
+        return call.method in BASES or self.base_of(call) in self.made
 
     def name_of(self, call):
         """The name that a command gives its device; None of a split, and where a part of it isn't given."""
@@ -179,8 +165,8 @@ class Devices:
             return self.lost(call)
         for row in rows:
             self.made[row.name] = row
-            for base in row.bases:
-                base.over.append(row)
+            if row.base:
+                row.base.over.append(row)
         if call.method == "bdev_malloc_create":
             self.memory += rows[0].blocks * rows[0].size
 
@@ -192,29 +178,15 @@ class Devices:
             size = call.value("block_size", 512)
             self.bytes = self.disks.length(call.value("filename")) if self.looks_at_files else size
             return [Device(call, call.value("name"), self.bytes // size, size)]
-        if call.method == SET:
-            return [self.set_row(call)]
         base = self.made[self.base_of(call)]
         if call.method in WHOLE:
-            return [Device(call, self.name_of(call), base.blocks, base.size, [base])]
+            return [Device(call, self.name_of(call), base.blocks, base.size, base)]
         wanted, each = call.value("split_count"), self.part_blocks(call, base)
         fit = min(wanted, base.blocks // each) if each else 0
         if 0 < fit < wanted:
             said = "%d of the %d parts fit: a part has %s, and %s has %d" % (fit, wanted, counted(each, "block"), base.name, base.blocks)
             self.notes.append(Mistake(None, None, 0, call.subject() + ": " + said, call.place(call.param("split_count"))))
-        return [Device(call, "%sp%d" % (base.name, i), each, base.size, [base], i * each) for i in range(fit)]
-
-    def set_row(self, call):
-        """A set over its members: of each as many blocks as are whole strips, of the smallest where they are striped."""
-        members = [self.made[name] for name in self.bases_of(call)]
-        strip = self.strip_of(call, members[0])
-        used = [member.blocks // strip * strip for member in members]
-        blocks = sum(used) if call.value("raid_level") == "concat" else len(used) * min(used)
-        return Device(call, call.value("name"), blocks, members[0].size, members)
-
-    def strip_of(self, call, member):
-        """How many blocks a strip has."""
-        return call.value("strip_size_kb") * 1024 // member.size
+        return [Device(call, "%sp%d" % (base.name, i), each, base.size, base, i * each) for i in range(fit)]
 
     def part_blocks(self, call, base):
         megabytes = call.value("split_size_mb", 0)
@@ -227,17 +199,12 @@ class Devices:
             if row.name in self.made:
                 other = self.made[row.name].call
                 yield EXISTS, "a device %s stands already, made by command %d, %s" % (quoted(row.name, 256), other.index, other.method), own_key
-        names = self.bases_of(call)
-        for base in map(self.made.get, dict.fromkeys(names)):
-            if base.over:
-                other = base.over[0].call
-                said = "%s %s %s, on which command %d, %s%s, stands already: one base takes one passthru, delay or error device, one set, or the parts of one split"
-                has = "has" if call.method == SET else "is"
-                yield CLAIMED, said % (BASE_KEYS[call.method], has, quoted(base.name, 256), other.index, other.method, other.label()), BASE_KEYS[call.method]
-        twice = next((name for place, name in enumerate(names) if name in names[:place]), None)
-        if twice is not None:
-            yield CLAIMED, "%s has %s twice" % (BASE_KEYS[call.method], quoted(twice, 256)), BASE_KEYS[call.method]
-        yield from self.bounds(call, rows, self.made[names[0]] if names else None)
+        base = self.made.get(self.base_of(call))
+        if base and base.over:
+            other = base.over[0].call
+            said = "%s is %s, on which command %d, %s%s, stands already: one base takes one passthru, delay or error device, or the parts of one split"
+            yield CLAIMED, said % (BASE_KEYS[call.method], quoted(base.name, 256), other.index, other.method, other.label()), BASE_KEYS[call.method]
+        yield from self.bounds(call, rows, base)
         for row in rows:
             if len(row.name) > MOST_NAME:
                 yield TOO_MUCH, "its device %s has a name of %d bytes; there are at most %d" % (quoted(row.name), len(row.name), MOST_NAME), own_key
@@ -267,8 +234,6 @@ class Devices:
                 if p99 < average:
                     said = "p99_%s_latency is %d, less than the average: it must be avg_%s_latency, which is %d, or more"
                     yield TOO_MUCH, said % (way, p99, way, average), "p99_%s_latency" % way
-        elif call.method == SET:
-            yield from self.set_bounds(call, rows[0])
         elif call.method == "bdev_split_create" and not rows:
             has = "%s has %d blocks of %d bytes" % (quoted(base.name), base.blocks, base.size)
             megabytes = call.value("split_size_mb", 0)
@@ -281,22 +246,9 @@ class Devices:
                 said = "split_count is %d, and %s: a part would have no block; it must be at most %d"
                 yield TOO_MUCH, said % (call.value("split_count"), has, base.blocks), "split_count"
 
-    def set_bounds(self, call, row):
-        """Why the members of a set don't go together."""
-        strip = self.strip_of(call, row.base)
-        for member in row.bases:
-            if member.size != row.size:
-                said = "base_bdevs has %s with blocks of %d bytes, and %s with blocks of %d: members have blocks of one size"
-                yield TOO_MUCH, said % (quoted(row.base.name, 200), row.size, quoted(member.name, 200), member.size), "base_bdevs"
-            elif member.blocks < strip:
-                said = "strip_size_kb is %d, so a strip has %s, and the member %s has %d: each needs one strip at least"
-                yield TOO_MUCH, said % (call.value("strip_size_kb"), counted(strip, "block"), quoted(member.name, 200), member.blocks), "strip_size_kb"
-        if row.blocks > MOST_BLOCKS:
-            yield TOO_MUCH, "the set would have %d blocks; a device has at most %d" % (row.blocks, MOST_BLOCKS), "base_bdevs"
-
     def why_waiting(self, call, calls):
         """Why the base isn't there."""
-        return self.why_absent(self.missing(call), call, calls)
+        return self.why_absent(self.base_of(call), call, calls)
 
     def why_absent(self, base, call, calls):
         """Why a device isn't there that a command names."""
@@ -327,8 +279,7 @@ class Devices:
         def add(device, depth):
             lines.append((depth, device))
             for over in device.over:
-                if over.base is device:
-                    add(over, depth + 1)
+                add(over, depth + 1)
 
         for device in self.made.values():
             if device.base is None:
@@ -342,8 +293,6 @@ class Devices:
         said = "%s, %s of %d bytes (%s)" % (device.kind, counted(device.blocks, "block"), device.size, sized(device.blocks * device.size))
         if device.kind == "part":
             said += ", from block %d of %s" % (device.begin, device.base.name)
-        if call.method == SET:
-            said += ", of %s in strips of %s" % (listed([base.name for base in device.bases], "and"), counted(self.strip_of(call, device.base), "block"))
         if device.base is None:
             boundary = call.value("optimal_io_boundary", 0)
             said += ", cut at multiples of %d blocks" % boundary if boundary else ""

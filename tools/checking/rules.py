@@ -6,12 +6,11 @@ A method that becomes served gets its parameters in SERVED here, and what it mak
 import difflib
 import os
 
-from .places import listed, quoted, shown
+from .places import listed, shown
 
 MOST_BYTES = 8388608
 MOST_DEVICES = 256
 MOST_LAYERS = 64
-MOST_MEMBERS = 16
 MOST_NAME = 255
 MOST_MEMORY = 1 << 30
 MOST_BLOCKS = 1 << 40
@@ -71,11 +70,6 @@ class Boundary(Whole):
         return super().takes(node) and (node.value == 0 or node.value >= 8)
 
 
-def is_name(text):
-    """Whether a text may name a device."""
-    return 1 <= len(text) <= 200 and all("!" <= each <= "~" for each in text)
-
-
 class Name:
     """The name of a device."""
 
@@ -83,7 +77,7 @@ class Name:
         return "a text of 1 to 200 printable ASCII characters without a space"
 
     def takes(self, node):
-        return node.kind == "text" and is_name(node.value)
+        return node.kind == "text" and 1 <= len(node.value) <= 200 and all("!" <= each <= "~" for each in node.value)
 
     def why(self, node, text):
         if node.kind != "text":
@@ -96,34 +90,6 @@ class Name:
             if not "!" <= each <= "~":
                 return "with a character in it that isn't printable ASCII: " + ascii(each)
         return "%d characters long" % len(node.value)
-
-
-class Names:
-    """The names of the members of a set."""
-
-    def rule(self):
-        return "an array of 1 to 16 names of devices, or one text of them with spaces between"
-
-    def takes(self, node):
-        names = self.names(node)
-        return names is not None and 1 <= len(names) <= MOST_MEMBERS and all(map(is_name, names))
-
-    def names(self, node):
-        """The names that an array of texts has, or a text; None of what is neither."""
-        if node.kind == "text":
-            return [word for word in node.value.split(" ") if word]
-        if node.kind == "array" and all(each.kind == "text" for each in node.value):
-            return [each.value for each in node.value]
-        return None
-
-    def why(self, node, text):
-        names = self.names(node)
-        if names is None:
-            return "an array with what is no text in it" if node.kind == "array" else "neither an array nor a text"
-        wrong = next((name for name in names if not is_name(name)), None)
-        if wrong is None:
-            return "with %d names in it" % len(names)
-        return "with %s in it, which is no name: that has 1 to 200 printable ASCII characters without a space" % quoted(wrong, 100)
 
 
 class FileName:
@@ -171,7 +137,7 @@ class Type(Choice):
         return cls.ONE[:2] if kind == "corrupt_data" else cls.ONE
 
 
-NAME, NAMES, FILE_NAME, BOUNDARY = Name(), Names(), FileName(), Boundary()
+NAME, FILE_NAME, BOUNDARY = Name(), FileName(), Boundary()
 BLOCK_SIZE = Whole(0, U64, (512, 4096))
 DEPTH = Whole(1, 1024)
 ANY = Whole(0, U64)
@@ -199,12 +165,6 @@ SERVED = {
         **{key: (Whole(0, (1 << 64) - 1), NEEDED) for key in ("avg_read_latency", "p99_read_latency", "avg_write_latency", "p99_write_latency")},
     },
     "bdev_error_create": {"base_name": (NAME, NEEDED)},
-    "bdev_raid_create": {
-        "name": (NAME, NEEDED),
-        "raid_level": (Choice("raid0", "0", "concat"), NEEDED),
-        "strip_size_kb": (Whole(4, 1024, [1 << n for n in range(2, 11)]), NEEDED),
-        "base_bdevs": (NAMES, NEEDED),
-    },
     "bdev_error_inject_error": {
         "name": (NAME, NEEDED),
         "io_type": (Type(*Type.ALL), NEEDED),
@@ -226,7 +186,7 @@ IGNORED = ("bdev_wait_for_examine", "bdev_examine", "bdev_nvme_set_hotplug")
 # What SPDK saves beside those that are looked at, and has no meaning here.
 KNOWN = {
     "uuid", "physical_block_size", "dif_is_head_of_md", "dif_pi_format", "md_interleave", "fallocate", "dif_insert_or_strip", "preferred_write_granularity",
-    "preferred_write_alignment", "preferred_unmap_granularity", "preferred_unmap_alignment", "superblock", *PLAIN, *LIMITS,
+    "preferred_write_alignment", "preferred_unmap_granularity", "preferred_unmap_alignment", *PLAIN, *LIMITS,
 }
 
 
@@ -246,8 +206,8 @@ def meant(word, words, least=0.75):
 
 
 def method_meant(method):
-    """The method that is meant by a slip. Methods of SPDK that aren't served are as much alike as bdev_rbd_create and
-    bdev_raid_create."""
+    """The method that is meant by a slip. Methods of SPDK that aren't served are as much alike as bdev_raid_create and
+    bdev_aio_create."""
     return meant(method, [*SERVED, *IGNORED], 0.92)
 
 

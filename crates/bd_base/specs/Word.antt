@@ -1,7 +1,7 @@
 -- The words of commands, statuses and kinds of device.
 use Rattle.std.specs.Prelude.{ℕ, List, codes}
 use Rattle.bd_base.specs.declared.device.Kind.{Kind}
-use Rattle.bd_base.specs.declared.device.Kind.TheVariants.{Malloc, Null, Aio, Passthru, Part, Delay, Error, Concat, Raid0}
+use Rattle.bd_base.specs.declared.device.Kind.TheVariants.{Malloc, Null, Aio, Passthru, Part, Delay, Error}
 use Rattle.bd_base.specs.declared.job.Job.{Job}
 use Rattle.bd_base.specs.declared.job.Job.TheVariants.{Open, Close, Claim, Submit, Remove, Wait, Sleep, Post, Await, Gone, Resize, Sized}
 use Rattle.bd_base.specs.declared.request.Op.{Op}
@@ -22,8 +22,6 @@ kind_word Passthru = codes "passthru"
 kind_word (Part shift) = codes "part"
 kind_word (Delay average_read p99_read average_write p99_write) = codes "delay"
 kind_word Error = codes "error"
-kind_word (Concat strip) = codes "concat"
-kind_word (Raid0 strip) = codes "raid0"
 
 -- the command that submits a type
 abbrev pub submit_word : Op → List ℕ

@@ -2,13 +2,10 @@
 ghost use Rattle.std.specs.Prelude.{◌≡◌};
 ghost use Rattle.bd_base.specs.Word.{kind_word};
 
-use crate::boxed::Boxed;
 use crate::id::DevId;
 use crate::name::Name;
-use crate::rows::DevList;
 
-/// What a device is. Malloc, null and aio devices are bases; a concatenation or a striped set (SPDK's raid levels
-/// `concat` and `raid0`) stands on one or more other devices, and each other kind on one.
+/// What a device is. Malloc, null and aio devices are bases; the others stand on one.
 #[derive(Clone, Copy, PartialEq, Eq)]
 pub enum Kind {
     /// Memory, zeros at first.
@@ -31,14 +28,6 @@ pub enum Kind {
     },
     /// Requests take injected errors.
     Error,
-    /// Its bases one after another, of each as many blocks as are whole strips of this number of blocks.
-    Concat {
-        strip: u64,
-    },
-    /// Strips of this number of blocks from each of its bases in turn.
-    Raid0 {
-        strip: u64,
-    },
 }
 
 impl Kind {
@@ -54,25 +43,8 @@ impl Kind {
             Kind::Part { .. } => "part",
             Kind::Delay { .. } => "delay",
             Kind::Error => "error",
-            Kind::Concat { .. } => "concat",
-            Kind::Raid0 { .. } => "raid0",
         }
     }
-}
-
-/// What a device stands on: its bases, and what follows from them and is found once, when the device is made.
-#[derive(Drop)]
-pub struct Stacked {
-    /// The devices that it stands on, each once: the members of a set in their order, and else one.
-    pub bases: DevList,
-    /// All devices below it, each once, those of the first base first, each before those below it.
-    pub under: DevList,
-    /// The base device under its first base.
-    pub base: DevId,
-    /// How many devices the longest way down has, itself and a base device included.
-    pub layers: u32,
-    /// It is a set, or one stands below it, so that pieces of one request may go to several base devices.
-    pub spreads: bool,
 }
 
 /// A device.
@@ -80,8 +52,8 @@ pub struct Stacked {
 pub struct DevRow {
     pub name: Name,
     pub kind: Kind,
-    /// What it stands on; none for a base device.
-    pub stacked: Option<Boxed<Stacked>>,
+    /// The device that it stands on; none for a base device.
+    pub base: Option<DevId>,
     /// How many blocks it has: 1 to 2^21 for malloc, else to 2^40.
     pub blocks: u64,
     /// Bytes of a block: 512 or 4,096.

@@ -73,10 +73,10 @@ pub enum Answer {
     PutDown {
         left: u128,
     },
-    /// `zero`: the bases whose counts on this thread reached zero by this drop, in their order.
+    /// `zero`: the base whose count on this thread reached zero by this drop.
     Dropped {
         what: Dropped,
-        zero: DevList,
+        zero: Option<DevId>,
         destruct: Option<DevId>,
     },
     /// The threads that have a channel, and the open handles, by rising number.
@@ -100,9 +100,9 @@ pub enum Answer {
     Injected {
         decision: Decision,
     },
-    /// The open base handles whose last user was destructed, with their threads.
+    /// The base handle whose last user was destructed.
     Freed {
-        close: HandleList,
+        close: Option<HandleId>,
     },
     /// The thread that is to let the content grow.
     Resizing {

@@ -24,7 +24,7 @@ pub use act::{Act, ApplyEnd, Entry, Outcome, Token};
 pub use boxed::Boxed;
 pub use bytes::Bytes;
 pub use dev_set::DevSet;
-pub use device::{DevRow, ErrKind, Injection, Injections, IoSet, Kind, RateSet, Rates, Stacked};
+pub use device::{DevRow, ErrKind, Injection, Injections, IoSet, Kind, RateSet, Rates};
 pub use digest::digest_of;
 pub use event::{Answer, ClaimKind, Dropped, RegEvent};
 pub use id::{DevId, HandleId, ReqId, ThreadId, WalkId};

@@ -1,13 +1,88 @@
 -- Where a range is cut: its first piece, and the rest.
-use Rattle.std.proofs.Common.{◌≡◌, ℕ, zero, suc, ◌+◌, ◌-◌, ◌<◌, ◌≤◌, inl, inr, List, [], ◌∷◌, ◌++◌, refl, ap, ap₂, sym, ◌∙◌, arith, Bool, true, false, cond, filter}
-use Rattle.std.specs.List.{range_with_len}
-use Rattle.std.proofs.lemmas.Bool.{cases_lt}
+use Rattle.std.proofs.Common.{◌≡◌, ℕ, zero, suc, ◌+◌, ◌-◌, ◌<◌, ◌≤◌, inl, inr, List, [], ◌∷◌, ◌++◌, length, refl, ap, ap₂, sym, ◌∙◌, arith, Bool, true, false, not, ◌||◌, ◌==◌, cond, filter, Option, Some, None}
+use Rattle.std.specs.List.{list_any, range_with_len}
+use Rattle.std.proofs.lemmas.Bool.{and_from, cases_lt, eq-eqb}
 use Rattle.std.proofs.lemmas.List.Elements.{filter-append}
 use Rattle.bd_base.specs.declared.id.DevId.{DevId}
 use Rattle.bd_base.specs.declared.setup.Setup.{Setup}
 use Rattle.bd_machine.specs.declared.state.Extent.{Extent}
-use Rattle.bd_machine.specs.Pieces.{cuts, extents, extents_between, is_cut_at}
-use Rattle.bd_blocks.specs.Cuts.{IsClear, extents_left}
+use Rattle.bd_machine.specs.BlockMap.{at, boundary_of, follows, last_of, path, path_within, row_of, shift_of_row, stands_on, under}
+use Rattle.bd_machine.specs.Pieces.{cuts, extents, extents_between, is_boundary, is_cut_at}
+use Rattle.bd_blocks.specs.Cuts.{IsClear, extents_left, is_multiple}
+use Rattle.bd_blocks.proofs.Runs.{both_clear, clear_same}
+
+-- ---- boundaries, one step down
+
+any_lower : (setup : Setup) (m : ℕ) (dev base : DevId) (b : ℕ) → stands_on setup dev ≡ Some base
+    → (is_multiple (boundary_of setup dev) b || list_any (is_boundary setup) (path_within (suc m) setup base (shift_of_row (row_of setup dev) + b)))
+    ≡ list_any (is_boundary setup) (path_within (suc (suc m)) setup dev b)
+any_lower setup m dev base b e =
+    sym (ap (λ (o : Option DevId). is_multiple (boundary_of setup dev) b || list_any (is_boundary setup) (under o (λ base. path_within (suc m) setup base (shift_of_row (row_of setup dev) + b)))) e)
+
+-- the way to a boundary of a device or of one below, from both ways
+pub clear_lower : (setup : Setup) (n m : ℕ) (dev base : DevId) (b lower most run clear : ℕ) → stands_on setup dev ≡ Some base → lower ≡ shift_of_row (row_of setup dev) + b → n ≡ suc m
+    → IsClear (λ k. is_multiple (boundary_of setup dev) (b + k)) most run
+    → IsClear (λ k. list_any (is_boundary setup) (path_within (suc m) setup base (lower + k))) run clear
+    → IsClear (λ k. list_any (is_boundary setup) (path_within (suc n) setup dev (b + k))) most clear
+clear_lower setup n m dev base b lower most run clear e f g own rest =
+    clear_same _ _ most clear
+    (λ k.
+    let moved : lower + k ≡ shift_of_row (row_of setup dev) + (b + k) = omega (arith, f) in
+    ap (λ (x : ℕ). is_multiple (boundary_of setup dev) (b + k) || list_any (is_boundary setup) (path_within (suc m) setup base x)) moved
+    ∙ any_lower setup m dev base (b + k) e
+    ∙ ap (λ (j : ℕ). list_any (is_boundary setup) (path_within (suc j) setup dev (b + k))) (sym g))
+    (both_clear (λ k. is_multiple (boundary_of setup dev) (b + k)) (λ k. list_any (is_boundary setup) (path_within (suc m) setup base (lower + k))) most run clear own rest)
+
+-- ---- the base block follows the one before, so that boundaries alone are cuts
+
+next_here : (dev : DevId) (b : ℕ) → follows (record { dev = dev; number = b }) (record { dev = dev; number = b + 1 }) ≡ true
+next_here dev b = and_from (dev.0 == dev.0) (b + 1 == b + 1) (eq-eqb dev.0 dev.0 refl) (eq-eqb (b + 1) (b + 1) refl)
+
+next_none : (dev : DevId) (b : ℕ) (o : Option DevId) → follows (last_of (record { dev = dev; number = b }) (under o (λ base. []))) (last_of (record { dev = dev; number = b + 1 }) (under o (λ base. []))) ≡ true
+next_none dev b None = next_here dev b
+next_none dev b (Some base) = next_here dev b
+
+next_under : (setup : Setup) (n : ℕ) (dev : DevId) (b shift : ℕ) (o : Option DevId)
+    → ((base : DevId) → follows (last_of (record { dev = base; number = shift + b }) (path_within (suc n) setup base (shift + b))) (last_of (record { dev = base; number = shift + (b + 1) }) (path_within (suc n) setup base (shift + (b + 1)))) ≡ true)
+    → follows (last_of (record { dev = dev; number = b }) (under o (λ base. path_within (suc n) setup base (shift + b)))) (last_of (record { dev = dev; number = b + 1 }) (under o (λ base. path_within (suc n) setup base (shift + (b + 1))))) ≡ true
+next_under setup n dev b shift None h = next_here dev b
+next_under setup n dev b shift (Some base) h = h base
+
+next_within : (setup : Setup) (n : ℕ) (dev : DevId) (b : ℕ) → follows (last_of (record { dev = dev; number = b }) (path_within (suc n) setup dev b)) (last_of (record { dev = dev; number = b + 1 }) (path_within (suc n) setup dev (b + 1))) ≡ true
+next_within setup zero dev b = next_none dev b (stands_on setup dev)
+next_within setup (suc n) dev b =
+    let shift : ℕ = shift_of_row (row_of setup dev) in
+    let moved : shift + b + 1 ≡ shift + (b + 1) = omega arith in
+    next_under setup n dev b shift (stands_on setup dev)
+    (λ base.
+    ap (λ (x : ℕ). follows (last_of (record { dev = base; number = shift + b }) (path_within (suc n) setup base (shift + b))) (last_of (record { dev = base; number = x }) (path_within (suc n) setup base x))) (sym moved)
+    ∙ next_within setup n base (shift + b))
+
+cut_is_boundary : (setup : Setup) (dev : DevId) (b : ℕ) → 0 < b → list_any (is_boundary setup) (path setup dev b) ≡ is_cut_at setup dev b
+cut_is_boundary setup dev b pos =
+    let back : b - 1 + 1 ≡ b = omega (arith, pos) in
+    let goes : follows (at setup dev (b - 1)) (at setup dev b) ≡ true = ap (λ (x : ℕ). follows (at setup dev (b - 1)) (at setup dev x)) (sym back) ∙ next_within setup (length setup.devices) dev (b - 1) in
+    sym (ap (λ (t : Bool). not t || list_any (is_boundary setup) (path setup dev b)) goes)
+
+-- the same test above 0, told otherwise
+same_above : (first second : ℕ → Bool) (most n : ℕ) → ((k : ℕ) → 0 < k → first k ≡ second k) → IsClear first most n → IsClear second most n
+same_above first second most n same p = record {
+  some = p.some;
+  within = p.within;
+  clear = λ k pos below. sym (same k pos) ∙ p.clear k pos below;
+  ends = λ short. sym (same n p.some) ∙ p.ends short;
+}
+
+-- the way to a boundary is the way to a cut
+pub cut_run : (setup : Setup) (n : ℕ) (dev : DevId) (b most run : ℕ) → n ≡ length setup.devices
+    → IsClear (λ k. list_any (is_boundary setup) (path_within (suc n) setup dev (b + k))) most run
+    → IsClear (λ k. is_cut_at setup dev (b + k)) most run
+cut_run setup n dev b most run e clear =
+    same_above _ _ most run
+    (λ k pos.
+    ap (λ (j : ℕ). list_any (is_boundary setup) (path_within (suc j) setup dev (b + k))) e
+    ∙ cut_is_boundary setup dev (b + k) (omega (arith, pos)))
+    clear
 
 -- ---- the first piece of a range, and the rest
 

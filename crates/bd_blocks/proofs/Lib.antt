@@ -1,8 +1,6 @@
 pub mod Left
 pub mod Cutting
 pub mod Starting
-pub mod Strips
-pub mod GainedCounts
 pub mod Kept
 pub mod Filled
 pub mod Places

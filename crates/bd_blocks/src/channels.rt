@@ -1,16 +1,16 @@
 //! Channels: how many references each thread has to each device.
-ghost use Rattle.std.specs.Prelude.{◌≡◌, IfOk, OnOk, count_by, filter, is_none, map, position};
+ghost use Rattle.std.specs.Prelude.{◌≡◌, IfOk, OnOk, map, position};
 ghost use Rattle.std.specs.Option.{option_flatten};
 ghost use Rattle.bd_blocks.specs.Counts.{count_of};
 ghost use Rattle.bd_machine.specs.BlockMap.{below};
-ghost use Rattle.bd_machine.specs.Changes.{counts_got, counts_set, gained, has_base};
-ghost use Rattle.bd_machine.specs.Registry.{made, references};
+ghost use Rattle.bd_machine.specs.Changes.{counts_got, counts_set};
+ghost use Rattle.bd_machine.specs.Registry.{references};
 ghost use Rattle.bd_machine.specs.Same.{same_channel};
 ghost use Rattle.bd_machine.specs.Table.{look_up, write};
 
 use bd_base::{DevId, OutOfMemory, Rows, Setup};
 use bd_machine::{Channel, Registry};
-use bd_stack::{bases_of, below};
+use bd_stack::below;
 use std::alloc::Global;
 
 // The place of a channel in the table.
@@ -54,93 +54,6 @@ pub fn set_count(
     }
 }
 
-// The device and those below it of which the thread has no channel.
-fn without_channel(
-    alloc: Global,
-    setup: &Setup,
-    thread: u32,
-    dev: DevId,
-    registry: &Registry,
-) -> Result<Rows<DevId>, OutOfMemory>
-    ensures { IfOk result (λ ds. ds ≡ filter (λ d. is_none (references registry.now thread d)) (below setup.now dev)) }
-{
-    let mut found = Rows::new(alloc);
-    for lower in below(setup, dev) {
-        if references(registry, thread, lower).is_none() {
-            found.push(lower)?;
-        }
-    }
-    Ok(found)
-}
-
-// The devices whose channels a get makes.
-fn made(
-    alloc: Global,
-    setup: &Setup,
-    thread: u32,
-    dev: DevId,
-    registry: &Registry,
-) -> Result<Rows<DevId>, OutOfMemory>
-    ensures { IfOk result (λ ds. ds ≡ made setup.now (references registry.now thread) dev) }
-{
-    if references(registry, thread, dev).is_some() {
-        Ok(Rows::new(alloc))
-    } else {
-        without_channel(alloc, setup, thread, dev, registry)
-    }
-}
-
-/// Whether a device stands directly on another one.
-pub fn has_base(setup: &Setup, base: DevId, dev: DevId) -> bool
-    ensures { result ≡ has_base setup.now base dev }
-{
-    bases_of(setup, dev).iter().any(|b| base.0 == b.0)
-}
-
-// How many of these devices stand directly on another one.
-fn count_over(setup: &Setup, base: DevId, devices: &[DevId]) -> usize
-    ensures { result ≡ count_by (has_base setup.now base) devices.now }
-{
-    devices
-        .iter()
-        .filter(|d| has_base(setup, base, **d))
-        .count()
-}
-
-/// How many references a device's channel gains by the get of another device's, where the channels of these are made: one
-/// by the get itself, and one from each channel made that stands on it.
-pub fn gained(setup: &Setup, news: &[DevId], dev: DevId, lower: DevId) -> u128
-    ensures { result ≡ gained setup.now news.now dev lower }
-{
-    let over = count_over(setup, lower, news) as u128;
-    if lower.0 == dev.0 { 1 + over } else { over }
-}
-
-// The references that a get changes, as they are from then on, where the channels of these are made.
-#[tactic(auto, using(crate::proofs::GainedCounts::counted, crate::proofs::GainedCounts::uncounted))]
-fn counts_gained(
-    alloc: Global,
-    setup: &Setup,
-    thread: u32,
-    dev: DevId,
-    registry: &Registry,
-    news: &[DevId],
-) -> Result<Rows<(DevId, u128)>, OutOfMemory>
-    requires { news.now ≡ made setup.now (references registry.now thread) dev }
-    ensures { IfOk result (λ cs. map count_of cs ≡ counts_got setup.now (references registry.now thread) dev) }
-{
-    let mut counts = Rows::new(alloc);
-    for lower in below(setup, dev) {
-        let more = gained(setup, news, dev, lower);
-        if more > 0 {
-            let had = references(registry, thread, lower).unwrap_or(0);
-            let count = had.checked_add(more).ok_or(OutOfMemory)?;
-            counts.push((lower, count))?;
-        }
-    }
-    Ok(counts)
-}
-
 // The references that a get changes, as they are from then on.
 fn counts_got(
     alloc: Global,
@@ -149,10 +62,20 @@ fn counts_got(
     dev: DevId,
     registry: &Registry,
 ) -> Result<Rows<(DevId, u128)>, OutOfMemory>
-    ensures { IfOk result (λ cs. map count_of cs ≡ counts_got setup.now (references registry.now thread) dev) }
+    ensures { IfOk result (λ cs. map count_of cs ≡ counts_got (references registry.now thread) (below setup.now dev)) }
 {
-    let news = made(alloc, setup, thread, dev, registry)?;
-    counts_gained(alloc, setup, thread, dev, registry, news.as_slice())
+    let mut counts = Rows::new(alloc);
+    for lower in below(setup, dev) {
+        match references(registry, thread, lower) {
+            None => counts.push((lower, 1))?,
+            Some(n) => {
+                let more = n.checked_add(1).ok_or(OutOfMemory)?;
+                counts.push((lower, more))?;
+                return Ok(counts);
+            }
+        }
+    }
+    Ok(counts)
 }
 
 // Sets these counts of a thread, one after the other.
@@ -170,8 +93,8 @@ fn set_counts(
     Ok(())
 }
 
-/// A thread gets a channel of a device: one that is there gains a reference, else one is made and those
-/// of the devices that it stands on are got likewise. A count that passes 128 bits is out of memory.
+/// A thread gets a channel of a device: one that is there gains a reference, else one is made and the
+/// one below it is got likewise. A count that passes 128 bits is out of memory.
 pub fn get_channel(
     alloc: Global,
     setup: &Setup,
@@ -180,7 +103,7 @@ pub fn get_channel(
     registry: &mut Registry,
 ) -> Result<(), OutOfMemory>
     ensures { OnOk result (registry.new ≡ record registry.old {
-      channels = counts_set thread (counts_got setup.now (references registry.old thread) dev) registry.old.channels;
+      channels = counts_set thread (counts_got (references registry.old thread) (below setup.now dev)) registry.old.channels;
     }) }
 {
     let counts = counts_got(alloc, setup, thread, dev, registry)?;

@@ -17,12 +17,11 @@ mod threads;
 
 pub use bases::{base_place, find_base};
 pub use bd_stack::{
-    at, base_handles, base_handles_of, base_of, bases_of, below, blocks_of, boundary_of, depth_of,
-    device_named, home, is_aio, is_aio_below, is_base_handle, is_below, is_delay, is_error,
-    is_home, is_malloc, is_null, is_over, number_named, row_of, size_of, spreads, stacked_of,
-    users,
+    at, base_handle, base_of, below, blocks_of, boundary_of, depth_of, device_named, firsts, home,
+    is_aio, is_base_handle, is_below, is_delay, is_error, is_home, is_malloc, is_null, is_over,
+    number_named, row_of, size_of, stands_on, users, whole_base,
 };
-pub use channels::{gained, get_channel, has_base, references, set_count};
+pub use channels::{get_channel, references, set_count};
 pub use digest::{digest_due, is_digest_due};
 pub use growing::grow;
 pub use limits::{

@@ -1,8 +1,7 @@
 //! What the registry has before any entry.
-ghost use Rattle.std.specs.Prelude.{◌≡◌, map, IfOk};
-ghost use Rattle.bd_machine.specs.Start.{bare_registry, base_handle_at_start, device_at_start, handles_from, registry_at_start};
-ghost use Rattle.bd_machine.specs.Users.{all_devices, handle_on};
-ghost use Rattle.bd_stack.specs.Openers.{base_handle};
+ghost use Rattle.std.specs.Prelude.{◌≡◌, [], ◌∷◌, map, IfOk};
+ghost use Rattle.bd_machine.specs.Start.{bare_registry, device_at_start, handles_from, registry_at_start};
+ghost use Rattle.bd_machine.specs.Users.{all_devices, firsts};
 
 use crate::channels::get_channel;
 use crate::limits::is_limited;
@@ -10,7 +9,7 @@ use bd_base::{
     ClaimKind, DevId, ErrKind, HandleId, Injection, Injections, OutOfMemory, Rows, Setup, ThreadId,
 };
 use bd_machine::{Device, Handle, Registry, ResetState, Standing};
-use bd_stack::{base_handles, blocks_of, home};
+use bd_stack::{blocks_of, firsts, home, stands_on};
 use std::alloc::Global;
 
 const NO_INJECTION: Injection = Injection {
@@ -57,32 +56,28 @@ fn devices_at_start(alloc: Global, setup: &Setup) -> Result<Rows<Device>, OutOfM
     Ok(devices)
 }
 
-// The base handle of this number, by which the first device of a group has a base open.
-fn handle_at_start(setup: &Setup, number: u128, first: DevId, base: DevId) -> Handle
-    ensures { result ≡ base_handle_at_start setup.now number (handle_on first base) }
+// The base handle of this number, which the first device of a group has open.
+fn base_handle(setup: &Setup, number: u128, first: DevId) -> Handle
+    ensures { handles_from setup.now number (first ∷ []) ≡ result ∷ [] }
 {
+    let dev = stands_on(setup, first).unwrap_or(first);
     Handle {
         id: HandleId(number),
-        dev: base,
+        dev,
         thread: ThreadId(home(setup, first)),
         write: true,
         claim: Some(ClaimKind::Exclusive),
-        blocks: blocks_of(setup, base),
+        blocks: blocks_of(setup, dev),
     }
 }
 
 // The base handles, which are open from the start.
-fn handles_at_start(
-    alloc: Global,
-    setup: &Setup,
-    openers: &[(DevId, DevId)],
-) -> Result<Rows<Handle>, OutOfMemory>
-    ensures { IfOk result (λ hs. hs ≡ handles_from setup.now 0 (map base_handle openers.now)) }
+fn base_handles(alloc: Global, setup: &Setup, firsts: &[DevId]) -> Result<Rows<Handle>, OutOfMemory>
+    ensures { IfOk result (λ hs. hs ≡ handles_from setup.now 0 firsts.now) }
 {
     let mut handles = Rows::new(alloc);
-    for (number, opener) in openers.iter().enumerate() {
-        let (first, base) = *opener;
-        handles.push(handle_at_start(setup, number as u128, first, base))?;
+    for (number, first) in firsts.iter().enumerate() {
+        handles.push(base_handle(setup, number as u128, *first))?;
     }
     Ok(handles)
 }
@@ -91,10 +86,10 @@ fn handles_at_start(
 fn bare_registry(alloc: Global, setup: &Setup) -> Result<Registry, OutOfMemory>
     ensures { IfOk result (λ r. r ≡ bare_registry setup.now) }
 {
-    let openers = base_handles(alloc, setup)?;
+    let firsts = firsts(alloc, setup)?;
     Ok(Registry {
-        handles: handles_at_start(alloc, setup, openers.as_slice())?,
-        next: openers.len() as u128,
+        handles: base_handles(alloc, setup, firsts.as_slice())?,
+        next: firsts.len() as u128,
         devices: devices_at_start(alloc, setup)?,
         channels: Rows::new(alloc),
         between: None,

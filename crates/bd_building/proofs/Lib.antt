@@ -1,5 +1,4 @@
 pub mod AioSteps
-pub mod Least
 pub mod Numbered
 pub mod Settings
 pub mod Steps

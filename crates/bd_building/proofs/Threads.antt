@@ -2,6 +2,7 @@
 use Rattle.std.proofs.Common.{◌≡◌, ℕ, zero, suc, Bool, true, false, cond, List, [], ◌∷◌, length, Option, None, Some, subst, refl}
 use Rattle.std.specs.Bool.{⊤}
 use Rattle.std.specs.Prelude.{Result, Ok, Err, slice_get}
+use Rattle.bd_base.specs.declared.device.DevRow.{DevRow}
 use Rattle.bd_base.specs.declared.device.ErrKind.{ErrKind}
 use Rattle.bd_base.specs.declared.device.IoSet.{IoSet}
 use Rattle.bd_base.specs.declared.device.RateSet.{RateSet}
@@ -10,7 +11,6 @@ use Rattle.bd_base.specs.declared.setup.Setup.{Setup}
 use Rattle.bd_config.specs.declared.command.Command.{Command}
 use Rattle.bd_config.specs.declared.command.Command.TheVariants as commands
 use Rattle.bd_devices.specs.Devices.{register_refusal, with_device}
-use Rattle.bd_devices.specs.declared.device.NewDevice.{NewDevice}
 use Rattle.bd_machine.specs.BlockMap.{is_error}
 use Rattle.bd_machine.specs.Registry.{device_named}
 use Rattle.bd_machine.specs.Users.{dev_of}
@@ -34,13 +34,12 @@ if_registered : (t : ℕ) (o : Option Errno) (r : Result Setup Errno) → OnThre
 if_registered t None r on = on
 if_registered t (Some errno) r on = tt
 
-all_registered : (t : ℕ) (setup : Setup) (devices : List NewDevice) → setup.threads ≡ t → OnThreads t (registered setup devices)
+all_registered : (t : ℕ) (setup : Setup) (rows : List DevRow) → setup.threads ≡ t → OnThreads t (registered setup rows)
 all_registered t setup [] on = on
-all_registered t setup (device ∷ devices) on =
-    if_registered t (register_refusal setup device) (registered (with_device setup device) devices) (all_registered t (with_device setup device) devices on)
+all_registered t setup (row ∷ rows) on = if_registered t (register_refusal setup row) (registered (with_device setup row) rows) (all_registered t (with_device setup row) rows on)
 
-devices_on : (t : ℕ) (setup : Setup) (command : Command) (disk : ℕ) (devices : List NewDevice) → setup.threads ≡ t → OnThreads t (with_devices setup command disk devices)
-devices_on t setup command disk devices on = if_registered t (cause_of setup command disk devices) (registered setup devices) (all_registered t setup devices on)
+devices_on : (t : ℕ) (setup : Setup) (command : Command) (disk : ℕ) (rows : List DevRow) → setup.threads ≡ t → OnThreads t (with_devices setup command disk rows)
+devices_on t setup command disk rows on = if_registered t (cause_of setup command disk rows) (registered setup rows) (all_registered t setup rows on)
 
 limits_on : (t : ℕ) (setup : Setup) (rates : RateSet) (named : Option ℕ) → setup.threads ≡ t → OnThreads t (with_limits_at setup rates named)
 limits_on t setup rates None on = tt
@@ -64,7 +63,6 @@ made_on t setup (commands.Passthru base name) disk on = devices_on t setup (comm
 made_on t setup (commands.Split base count megabytes) disk on = devices_on t setup (commands.Split base count megabytes) disk (devices_of setup (commands.Split base count megabytes) disk) on
 made_on t setup (commands.Delay base name average_read p99_read average_write p99_write) disk on = devices_on t setup (commands.Delay base name average_read p99_read average_write p99_write) disk (devices_of setup (commands.Delay base name average_read p99_read average_write p99_write) disk) on
 made_on t setup (commands.Error base) disk on = devices_on t setup (commands.Error base) disk (devices_of setup (commands.Error base) disk) on
-made_on t setup (commands.Raid name striped kilobytes bases) disk on = devices_on t setup (commands.Raid name striped kilobytes bases) disk (devices_of setup (commands.Raid name striped kilobytes bases) disk) on
 made_on t setup commands.PassedOver disk on = devices_on t setup commands.PassedOver disk (devices_of setup commands.PassedOver disk) on
 
 -- ---- progress

@@ -1,15 +1,15 @@
 -- The devices that lie on a file, in the order in which they were made.
-use Rattle.std.specs.Prelude.{◌≡◌, ℕ, ◌+◌, ◌≤◌, Bool, true, false, cond, List, [], ◌∷◌, ◌++◌, length, Option, Some}
+use Rattle.std.specs.Prelude.{◌≡◌, ℕ, ◌+◌, ◌≤◌, true, cond, List, [], ◌∷◌, ◌++◌, length, Option, Some, None, is_some, slice_get}
 use Rattle.std.specs.List.{AllByRecursion}
 use Rattle.bd_base.specs.declared.device.DevRow.{DevRow}
 use Rattle.bd_base.specs.declared.id.DevId.{DevId}
 use Rattle.bd_base.specs.declared.setup.Setup.{Setup}
 use Rattle.bd_config.specs.declared.command.Command.{Command}
 use Rattle.bd_config.specs.declared.command.Command.TheVariants as commands
-use Rattle.bd_machine.specs.BlockMap.{is_aio_kind}
+use Rattle.bd_machine.specs.BlockMap.{is_aio_kind, is_base_kind}
 use Rattle.bd_machine.specs.Users.{dev_of}
 use Rattle.bd_building.specs.Progress.{Progress}
-use Rattle.bd_building.specs.Rows.{base_names_of}
+use Rattle.bd_building.specs.Rows.{base_name_of}
 use Rattle.bd_building.specs.declared.waiter.Waiter.{Waiter}
 
 -- an aio device: its number, the name of its file, how many bytes a block has, and how many blocks it has
@@ -41,20 +41,18 @@ aio_of n _ disk = []
 
 -- ---- what holds of all progress
 
-abbrev pub has_name : List (List ℕ) → Bool
-has_name [] = false
-has_name (name ∷ names) = true
-
--- a command's devices stand on others
-abbrev pub has_base : Command → Bool
-has_base command = has_name (base_names_of command)
-
--- each command that waits has devices that stand on others
+-- each command that waits stands on another device
 abbrev pub AllWaitForBase : List Waiter → Type 0
-AllWaitForBase waiting = AllByRecursion (λ (w : Waiter). has_base w.command ≡ true) waiting
+AllWaitForBase waiting = AllByRecursion (λ (w : Waiter). is_some (base_name_of w.command) ≡ true) waiting
 
-abbrev pub IsPlain : Progress → Type 0
-IsPlain progress = AllWaitForBase progress.waiting
+-- no malloc, null or aio device stands on another
+abbrev pub AreBasesAlone : Setup → Type 0
+AreBasesAlone setup = (n : ℕ) (row : DevRow) → slice_get setup.devices n ≡ Some row → is_base_kind row.kind ≡ true → row.base ≡ None
+
+-- each command that waits stands on another device, and no base device does
+pub record IsPlain (progress : Progress) : Type 0 where
+  pub waiting : AllWaitForBase progress.waiting
+  pub alone : AreBasesAlone progress.setup
 
 -- the next progress is plain too. It has the aio devices that stood, then these, and no other; and at least as many devices more as these are
 pub record Grows (progress : Progress) (added : List AioDevice) (next : Progress) : Type 0 where

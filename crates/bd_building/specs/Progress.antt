@@ -1,6 +1,5 @@
--- The commands of a configuration, done in order; those of which a base isn't there wait for it.
-use Rattle.std.specs.Prelude.{ℕ, zero, suc, ◌+◌, Bool, cond, not, List, [], ◌∷◌, ◌++◌, length, map, codes, position, find, slice_get, remove, Option, None, Some, is_none, Result, Ok, Err}
-use Rattle.std.specs.List.{list_any}
+-- The commands of a configuration, done in order; those whose base isn't there wait for it.
+use Rattle.std.specs.Prelude.{ℕ, zero, suc, ◌+◌, Bool, false, cond, not, List, [], ◌∷◌, ◌++◌, length, map, codes, position, slice_get, remove, Option, None, Some, is_none, Result, Ok, Err}
 use Rattle.bd_base.specs.declared.job.Script.{Script}
 use Rattle.bd_base.specs.declared.request.Errno.{Errno}
 use Rattle.bd_base.specs.declared.setup.Setup.{Setup}
@@ -11,7 +10,7 @@ use Rattle.bd_devices.specs.Devices.{no_devices}
 use Rattle.bd_machine.specs.Registry.{device_named}
 use Rattle.bd_building.specs.Disks.{file_of, other_disks, own_blocks}
 use Rattle.bd_building.specs.Made.{made}
-use Rattle.bd_building.specs.Rows.{base_names_of}
+use Rattle.bd_building.specs.Rows.{base_name_of}
 use Rattle.bd_building.specs.declared.waiter.Waiter.{Waiter}
 
 -- what the commands so far came to: the devices, and the commands that wait, in order
@@ -24,16 +23,13 @@ abbrev pub Outcome : Type 0
 Outcome = Result Progress (ℕ × Errno)
 
 -- no device of this name stands
-abbrev pub is_absent : Setup → List ℕ → Bool
-is_absent setup name = is_none (device_named setup name)
+abbrev pub is_absent : Setup → Option (List ℕ) → Bool
+is_absent setup None = false
+is_absent setup (Some base) = is_none (device_named setup base)
 
--- a base of the command isn't there
+-- the command's base isn't there
 abbrev pub must_wait : Setup → Command → Bool
-must_wait setup command = list_any (is_absent setup) (base_names_of command)
-
--- the first of these names that no device has
-abbrev pub first_absent : Setup → List (List ℕ) → Option (List ℕ)
-first_absent setup names = find (is_absent setup) names
+must_wait setup command = is_absent setup (base_name_of command)
 
 abbrev pub then_on : Outcome → (Progress → Outcome) → Outcome
 then_on (Ok progress) next = next progress
@@ -55,7 +51,7 @@ begun progress index command disk = cond (must_wait progress.setup command) (Ok 
 
 -- ---- commands that wait
 
--- the place of the first command that waits and whose bases stand
+-- the place of the first command that waits and whose base stands
 abbrev pub ready : Progress → Option ℕ
 ready progress = position (λ (w : Waiter). not (must_wait progress.setup w.command)) progress.waiting
 
@@ -71,7 +67,7 @@ abbrev pub resumed_at : (Progress → Outcome) → Progress → Option ℕ → O
 resumed_at next progress None = Ok progress
 resumed_at next progress (Some place) = then_on (resumed progress place (slice_get progress.waiting place)) next
 
--- the first that waits and whose bases stand is done, then the first of those that are left, so many times at most
+-- the first that waits and whose base stands is done, then the first of those that are left, so many times at most
 abbrev pub settled_within : ℕ → Progress → Outcome
 settled_within zero progress = Ok progress
 settled_within (suc n) progress = resumed_at (settled_within n) progress (ready progress)
@@ -111,12 +107,11 @@ method_of (commands.Passthru base name) = codes "bdev_passthru_create"
 method_of (commands.Split base count megabytes) = codes "bdev_split_create"
 method_of (commands.Delay base name average_read p99_read average_write p99_write) = codes "bdev_delay_create"
 method_of (commands.Error base) = codes "bdev_error_create"
-method_of (commands.Raid name striped strip bases) = codes "bdev_raid_create"
 method_of _ = []
 
-abbrev pub waiting_of : Setup → Waiter → Waiting
-waiting_of setup w = record { index = w.index; method = method_of w.command; base = name_or_empty (first_absent setup (base_names_of w.command)) }
+abbrev pub waiting_of : Waiter → Waiting
+waiting_of w = record { index = w.index; method = method_of w.command; base = name_or_empty (base_name_of w.command) }
 
 -- the setup of these devices with these scripts, and with the commands that still wait
 abbrev pub finished : Progress → List Script → Setup
-finished progress scripts = record progress.setup { waiting = map (waiting_of progress.setup) progress.waiting; scripts = scripts }
+finished progress scripts = record progress.setup { waiting = map waiting_of progress.waiting; scripts = scripts }

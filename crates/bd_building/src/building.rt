@@ -4,7 +4,7 @@ ghost use Rattle.bd_base.specs.declared.request.Errno.{Errno as Cause};
 ghost use Rattle.bd_building.specs.Progress.{Progress, begun, finished, nothing_yet, ready, resumed, settled, stepped, with_setup};
 ghost use Rattle.bd_building.specs.Made.{made};
 ghost use Rattle.bd_devices.specs.Registered.{AreToldApart};
-ghost use Rattle.bd_machine.specs.Stacking.{IsStacked};
+ghost use Rattle.bd_machine.specs.BlockMap.{StandsOnEarlier};
 
 use crate::made::make;
 use crate::waiter::{Waiter, all_waiting, must_wait};
@@ -23,8 +23,8 @@ pub enum BuildError {
     OutOfMemory,
     /// The command of this index, from 0, is refused, with the first cause that holds: `Exists` where
     /// a device of its name stands; `NoDev` where a limit or an injection names no device; `Perm`
-    /// where another device stands on a base of its own, or one is named twice; `Inval` where it is
-    /// out of its bounds. The code is the errno's number below zero.
+    /// where another device stands on its base; `Inval` where it is out of its bounds. The code is
+    /// the errno's number below zero.
     Refused { index: u32, errno: Errno },
 }
 
@@ -52,7 +52,7 @@ impl From<OutOfMemory> for BuildError {
     }
 }
 
-/// The devices that commands made so far, and the commands that wait for their bases.
+/// The devices that commands made so far, and the commands that wait for their base.
 #[derive(Drop)]
 pub struct Building {
     devices: Devices,
@@ -86,7 +86,7 @@ impl Building {
     }
 
     /// Does a command, whose place among the commands is this index, and then the commands that waited
-    /// for what it made; a command of which a base isn't there waits. A command that opens a file is given
+    /// for what it made; a command whose base isn't there waits. A command that opens a file is given
     /// the blocks of its disk. A refusal ends the building; its index is that of the command refused,
     /// also where that one waited.
     pub fn step(
@@ -109,11 +109,11 @@ impl Building {
     /// The setup of the devices with these scripts, and with the commands that still wait.
     pub fn finish(self, alloc: Global, scripts: Rows<Script>) -> Result<Setup, OutOfMemory>
         ensures setup { IfOk result (λ s. s ≡ finished self scripts) }
-        ensures stacked { IfOk result IsStacked }
+        ensures earlier { IfOk result StandsOnEarlier }
         ensures apart { IfOk result AreToldApart }
     {
         let Building { devices, waiting } = self;
-        let rows = all_waiting(alloc, devices.as_setup(), waiting.as_slice())?;
+        let rows = all_waiting(alloc, waiting.as_slice())?;
         let mut setup = devices.into_setup();
         setup.waiting = rows;
         setup.scripts = scripts;
@@ -157,7 +157,7 @@ impl Building {
         }
     }
 
-    // The place of the first command that waits and whose bases stand.
+    // The place of the first command that waits and whose base stands.
     fn ready(&self) -> Option<usize>
         ensures first { result ≡ ready self.now }
         ensures within { IfSome result (λ place. place < length self.now.waiting) }
@@ -181,7 +181,7 @@ impl Building {
         self.make(alloc, index, &command, 0)
     }
 
-    // Does the commands that wait, each once its bases stand.
+    // Does the commands that wait, each once its base stands.
     fn settle(&mut self, alloc: Global) -> Result<(), BuildError>
         ensures ok { OnOk result (settled self.old ≡ Ok self.new) }
         ensures refused { (i : ℕ) (errno : Cause) → IsErrOf result (BuildError.Refused i errno) → settled self.old ≡ Err (i, errno) }

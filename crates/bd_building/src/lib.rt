@@ -1,5 +1,5 @@
 //! From the commands of a configuration to the devices of a setup: commands done in order, those whose
-//! bases aren't there waiting for them, and the first refusal with its command's index.
+//! base isn't there waiting for it, and the first refusal with its command's index.
 #![tactic(auto)]
 
 mod base;
@@ -8,7 +8,6 @@ mod causes;
 mod made;
 mod parts;
 mod rows;
-mod sets;
 mod waiter;
 
 pub use building::{BuildError, Building};

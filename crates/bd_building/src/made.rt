@@ -7,13 +7,13 @@ ghost use Rattle.bd_machine.specs.Registry.{device_named};
 
 use crate::causes::cause_of;
 use crate::rows::devices_of;
-use bd_base::{ErrKind, IoSet, Name, RateSet};
+use bd_base::{DevRow, ErrKind, IoSet, Name, RateSet};
 use bd_config::Command;
-use bd_devices::{Devices, NewDevice, RegisterError};
+use bd_devices::{Devices, RegisterError};
 use std::alloc::Global;
 
 // Registers these devices one after the other, up to the first that is refused.
-fn register(alloc: Global, devices: &mut Devices, rows: Vec<NewDevice>) -> Result<(), RegisterError>
+fn register(alloc: Global, devices: &mut Devices, rows: Vec<DevRow>) -> Result<(), RegisterError>
     ensures ok { OnOk result (registered devices.old rows.items ≡ Ok devices.new) }
     ensures refused { (errno : Cause) → IsErrOf result (RegisterError.Refused errno) → registered devices.old rows.items ≡ Err errno }
 {

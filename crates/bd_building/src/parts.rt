@@ -2,15 +2,14 @@
 ghost use Rattle.std.specs.Prelude.{◌≡◌, IfOk};
 ghost use Rattle.bd_building.specs.Rows.{part_at, part_blocks, part_name, parts_of, parts_that_fit, quotient, split_over};
 
-use crate::base::{Base, only};
-use bd_base::{Kind, Name, OutOfMemory};
-use bd_devices::NewDevice;
+use crate::base::Base;
+use bd_base::{DevRow, Kind, Name, OutOfMemory};
 use std::alloc::Global;
 
 const MEGABYTE: u64 = 1_048_576;
 
-/// A quotient, rounded down; 0 where the divisor is.
-pub(crate) fn quotient(n: u64, by: u64) -> u64
+// A quotient, rounded down; 0 where the divisor is.
+fn quotient(n: u64, by: u64) -> u64
     ensures { result ≡ quotient n by }
 {
     if by == 0 { 0 } else { n / by }
@@ -53,16 +52,16 @@ fn part_at(
     base: Base,
     blocks: u64,
     i: u64,
-) -> Result<NewDevice, OutOfMemory>
+) -> Result<DevRow, OutOfMemory>
     ensures { IfOk result (λ row. row ≡ part_at group name.now base blocks i) }
 {
     let Some(shift) = i.checked_mul(blocks) else {
         return Err(OutOfMemory);
     };
-    Ok(NewDevice {
+    Ok(DevRow {
         name: part_name(alloc, name, i)?,
         kind: Kind::Part { shift },
-        bases: only(alloc, base.dev)?,
+        base: Some(base.dev),
         blocks,
         size: base.size,
         boundary: 0,
@@ -81,7 +80,7 @@ fn parts_of(
     base: Base,
     blocks: u64,
     parts: u64,
-) -> Result<Vec<NewDevice>, OutOfMemory>
+) -> Result<Vec<DevRow>, OutOfMemory>
     ensures { IfOk result (λ rows. rows.items ≡ parts_of group name.now base blocks parts) }
 {
     let mut rows = Vec::new(alloc);
@@ -100,7 +99,7 @@ pub(crate) fn split_over(
     count: u32,
     megabytes: u64,
     base: Option<Base>,
-) -> Result<Vec<NewDevice>, OutOfMemory>
+) -> Result<Vec<DevRow>, OutOfMemory>
     ensures { IfOk result (λ rows. rows.items ≡ split_over group name.now count megabytes base) }
 {
     let Some(base) = base else {

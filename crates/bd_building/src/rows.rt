@@ -2,12 +2,10 @@
 ghost use Rattle.std.specs.Prelude.{◌≡◌, [], ◌∷◌, length, IfOk};
 ghost use Rattle.bd_building.specs.Rows.{base_named, devices_of, error_name, whole_over};
 
-use crate::base::{Base, base_named, bases_named, only};
+use crate::base::{Base, base_named};
 use crate::parts::split_over;
-use crate::sets::set_over;
-use bd_base::{Kind, Name, OutOfMemory, Rows, Setup};
+use bd_base::{DevRow, Kind, Name, OutOfMemory, Setup};
 use bd_config::Command;
-use bd_devices::NewDevice;
 use std::alloc::Global;
 
 // The number of a group that no device has yet.
@@ -28,12 +26,12 @@ fn error_name(alloc: Global, base: &Name) -> Result<Name, OutOfMemory>
     Ok(Name::from_vec(name))
 }
 
-/// The one device.
-pub(crate) fn one(alloc: Global, device: NewDevice) -> Result<Vec<NewDevice>, OutOfMemory>
-    ensures { IfOk result (λ rows. rows.items ≡ device ∷ []) }
+// The one row.
+fn one(alloc: Global, row: DevRow) -> Result<Vec<DevRow>, OutOfMemory>
+    ensures { IfOk result (λ rows. rows.items ≡ row ∷ []) }
 {
     let mut rows = Vec::new(alloc);
-    rows.push(device)?;
+    rows.push(row)?;
     Ok(rows)
 }
 
@@ -44,16 +42,16 @@ fn whole_over(
     kind: Kind,
     name: Name,
     base: Option<Base>,
-) -> Result<Vec<NewDevice>, OutOfMemory>
+) -> Result<Vec<DevRow>, OutOfMemory>
     ensures { IfOk result (λ rows. rows.items ≡ whole_over group kind name base) }
 {
     let Some(base) = base else {
         return Ok(Vec::new(alloc));
     };
-    let device = NewDevice {
+    let row = DevRow {
         name,
         kind,
-        bases: only(alloc, base.dev)?,
+        base: Some(base.dev),
         blocks: base.blocks,
         size: base.size,
         boundary: 0,
@@ -61,7 +59,7 @@ fn whole_over(
         file: None,
         group,
     };
-    one(alloc, device)
+    one(alloc, row)
 }
 
 /// The devices that a command asks for, in order, where the file that it opens has this number of blocks.
@@ -70,7 +68,7 @@ pub(crate) fn devices_of(
     setup: &Setup,
     command: &Command,
     disk: u64,
-) -> Result<Vec<NewDevice>, OutOfMemory>
+) -> Result<Vec<DevRow>, OutOfMemory>
     ensures { IfOk result (λ rows. rows.items ≡ devices_of setup.now command.now disk) }
 {
     let group = next_group(setup)?;
@@ -83,10 +81,10 @@ pub(crate) fn devices_of(
             depth,
         } => one(
             alloc,
-            NewDevice {
+            DevRow {
                 name: name.copy()?,
                 kind: Kind::Malloc,
-                bases: Rows::new(alloc),
+                base: None,
                 blocks: *blocks,
                 size: *size,
                 boundary: *boundary,
@@ -103,10 +101,10 @@ pub(crate) fn devices_of(
             depth,
         } => one(
             alloc,
-            NewDevice {
+            DevRow {
                 name: name.copy()?,
                 kind: Kind::Null,
-                bases: Rows::new(alloc),
+                base: None,
                 blocks: *blocks,
                 size: *size,
                 boundary: *boundary,
@@ -122,10 +120,10 @@ pub(crate) fn devices_of(
             depth,
         } => one(
             alloc,
-            NewDevice {
+            DevRow {
                 name: name.copy()?,
                 kind: Kind::Aio,
-                bases: Rows::new(alloc),
+                base: None,
                 blocks: disk,
                 size: *size,
                 boundary: 0,
@@ -178,19 +176,6 @@ pub(crate) fn devices_of(
             Kind::Error,
             error_name(alloc, base)?,
             base_named(setup, base)?,
-        ),
-        Command::Raid {
-            name,
-            striped,
-            strip_kb,
-            bases,
-        } => set_over(
-            alloc,
-            group,
-            name,
-            *striped,
-            *strip_kb,
-            bases_named(alloc, setup, bases.as_slice())?.as_slice(),
         ),
         _ => Ok(Vec::new(alloc)),
     }

@@ -1,8 +1,8 @@
-//! Commands that wait for their bases.
+//! Commands that wait for their base.
 ghost use Rattle.std.specs.Prelude.{◌≡◌, IfOk, map, option_copied};
-ghost use Rattle.bd_building.specs.Progress.{first_absent, is_absent, method_of, must_wait, name_or_empty, waiting_of};
+ghost use Rattle.bd_building.specs.Progress.{is_absent, method_of, must_wait, name_or_empty, waiting_of};
 
-use crate::base::base_names_of;
+use crate::base::base_name_of;
 use bd_base::{Name, OutOfMemory, Rows, Setup, Waiting};
 use bd_config::Command;
 use bd_stack::device_named;
@@ -15,32 +15,20 @@ pub struct Waiter {
     pub(crate) command: Command,
 }
 
-// Whether no device has this name.
-fn is_absent(setup: &Setup, name: &Name) -> bool
-    ensures { result ≡ is_absent setup.now name.now }
+fn is_absent(setup: &Setup, base: Option<&Name>) -> bool
+    ensures { result ≡ is_absent setup.now (option_copied base.entry) }
 {
-    device_named(setup, name).is_none()
+    match base {
+        Some(base) => device_named(setup, base).is_none(),
+        None => false,
+    }
 }
 
-/// Whether a base of a command isn't there.
+/// Whether a command's base isn't there.
 pub(crate) fn must_wait(setup: &Setup, command: &Command) -> bool
     ensures { result ≡ must_wait setup.now command.now }
 {
-    base_names_of(command)
-        .iter()
-        .any(|name| is_absent(setup, name))
-}
-
-// The first of these names that no device has.
-fn first_absent<'a>(setup: &Setup, names: &'a [Name]) -> Option<&'a Name>
-    ensures { option_copied result ≡ first_absent setup.now names.now }
-{
-    for name in names {
-        if is_absent(setup, name) {
-            return Some(name);
-        }
-    }
-    None
+    is_absent(setup, base_name_of(command))
 }
 
 fn method_of(command: &Command) -> &'static str
@@ -51,7 +39,6 @@ fn method_of(command: &Command) -> &'static str
         Command::Split { .. } => "bdev_split_create",
         Command::Delay { .. } => "bdev_delay_create",
         Command::Error { .. } => "bdev_error_create",
-        Command::Raid { .. } => "bdev_raid_create",
         _ => "",
     }
 }
@@ -65,27 +52,23 @@ fn name_or_empty(alloc: Global, name: Option<&Name>) -> Result<Name, OutOfMemory
     }
 }
 
-fn waiting_of(alloc: Global, setup: &Setup, waiter: &Waiter) -> Result<Waiting, OutOfMemory>
-    ensures { IfOk result (λ w. w ≡ waiting_of setup.now waiter.now) }
+fn waiting_of(alloc: Global, waiter: &Waiter) -> Result<Waiting, OutOfMemory>
+    ensures { IfOk result (λ w. w ≡ waiting_of waiter.now) }
 {
     Ok(Waiting {
         index: waiter.index,
         method: Name::from_slice(alloc, method_of(&waiter.command).as_bytes())?,
-        base: name_or_empty(alloc, first_absent(setup, base_names_of(&waiter.command)))?,
+        base: name_or_empty(alloc, base_name_of(&waiter.command))?,
     })
 }
 
-/// What a report says of the commands that wait, each with the first base that isn't there.
-pub(crate) fn all_waiting(
-    alloc: Global,
-    setup: &Setup,
-    waiters: &[Waiter],
-) -> Result<Rows<Waiting>, OutOfMemory>
-    ensures { IfOk result (λ rows. rows ≡ map (waiting_of setup.now) waiters.now) }
+/// What a report says of the commands that wait.
+pub(crate) fn all_waiting(alloc: Global, waiters: &[Waiter]) -> Result<Rows<Waiting>, OutOfMemory>
+    ensures { IfOk result (λ rows. rows ≡ map waiting_of waiters.now) }
 {
     let mut rows = Rows::new(alloc);
     for waiter in waiters {
-        rows.push(waiting_of(alloc, setup, waiter)?)?;
+        rows.push(waiting_of(alloc, waiter)?)?;
     }
     Ok(rows)
 }

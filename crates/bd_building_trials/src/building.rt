@@ -2,8 +2,8 @@
 //! and the commands that still wait, or the refusal.
 use crate::words::{number, small};
 use bd_base::{
-    DevRow, ErrKind, Injections, IoSet, Kind, Name, NameList, OutOfMemory, RateSet, Rates, Rows,
-    Setup, Stacked, Waiting,
+    DevRow, ErrKind, Injections, IoSet, Kind, Name, OutOfMemory, RateSet, Rates, Rows, Setup,
+    Waiting,
 };
 use bd_building::{BuildError, Building};
 use bd_config::Command;
@@ -19,15 +19,6 @@ const READS: IoSet = IoSet {
 
 fn named(alloc: Global, word: &str) -> Result<Name, OutOfMemory> {
     Name::from_slice(alloc, word.as_bytes())
-}
-
-// The names that commas part.
-fn names(alloc: Global, word: &str) -> Result<NameList, OutOfMemory> {
-    let mut names = Rows::new(alloc);
-    for name in word.split(',') {
-        names.push(named(alloc, name)?)?;
-    }
-    Ok(names)
 }
 
 // One limit: of requests, or of the megabytes of both ways, of reads or of writes; the others are absent.
@@ -83,12 +74,6 @@ fn command(alloc: Global, words: &[&str]) -> Result<Command, OutOfMemory> {
         },
         ["error", base] => Command::Error {
             base: named(alloc, base)?,
-        },
-        ["raid", name, level, strip, bases] => Command::Raid {
-            name: named(alloc, name)?,
-            striped: *level == "raid0",
-            strip_kb: number(strip),
-            bases: names(alloc, bases)?,
         },
         ["inject", name, count] => Command::InjectError {
             name: named(alloc, name)?,
@@ -166,8 +151,7 @@ fn setup_told(alloc: Global, setup: &Setup) -> Result<String, OutOfMemory> {
     Ok(text)
 }
 
-// A device: its name, kind, blocks, bytes of each, boundary, depth, group; what it stands on, and where it begins
-// or the blocks of a strip.
+// A device: its name, kind, blocks, bytes of each, boundary, depth, group; its base, and where it begins.
 fn device_told(text: &mut String, row: &DevRow) -> Result<(), OutOfMemory> {
     let (name, kind, blocks, size) = (&row.name, row.kind.word(), row.blocks, row.size);
     let (boundary, depth, group) = (row.boundary, row.depth, row.group);
@@ -175,29 +159,11 @@ fn device_told(text: &mut String, row: &DevRow) -> Result<(), OutOfMemory> {
         text,
         "{name} {kind} {blocks} {size} {boundary} {depth} {group}"
     )?;
-    if let Some(stacked) = &row.stacked {
-        stacked_told(text, stacked.get())?;
+    if let Some(base) = row.base {
+        write!(text, " on {}", base.0)?;
     }
-    match row.kind {
-        Kind::Part { shift } => write!(text, " from {shift}")?,
-        Kind::Concat { strip } | Kind::Raid0 { strip } => write!(text, " strips {strip}")?,
-        _ => {}
-    }
-    Ok(())
-}
-
-// The bases; and of what isn't a plain stack on one base all devices below, the base device and the layers.
-fn stacked_told(text: &mut String, stacked: &Stacked) -> Result<(), OutOfMemory> {
-    write!(text, " on")?;
-    for base in stacked.bases.as_slice() {
-        write!(text, " {}", base.0)?;
-    }
-    if stacked.spreads {
-        write!(text, " over")?;
-        for dev in stacked.under.as_slice() {
-            write!(text, " {}", dev.0)?;
-        }
-        write!(text, " base {} layers {}", stacked.base.0, stacked.layers)?;
+    if let Kind::Part { shift } = row.kind {
+        write!(text, " from {shift}")?;
     }
     Ok(())
 }

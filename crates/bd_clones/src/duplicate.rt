@@ -1,9 +1,7 @@
 //! Copies of what the state and the setup hold.
 ghost use Rattle.std.specs.Prelude.{◌≡◌, IfOk};
 
-use bd_base::{
-    Boxed, Bytes, DevRow, Job, Line, Name, OutOfMemory, Rows, Script, Setup, Stacked, Waiting,
-};
+use bd_base::{Bytes, DevRow, Job, Line, Name, OutOfMemory, Rows, Script, Setup, Waiting};
 use bd_blocks::copy_of_piece;
 use bd_machine::{
     Base, Binding, Content, Device, Due, Id, Kept, Limited, News, OpenPiece, Part, Registry, State,
@@ -230,45 +228,14 @@ impl Duplicate for State {
     }
 }
 
-impl Duplicate for Stacked {
-    fn duplicate(&self, alloc: Global) -> Result<Stacked, OutOfMemory> {
-        let bases = self.bases.copy()?;
-        let under = self.under.copy()?;
-        Ok(Stacked {
-            bases,
-            under,
-            base: self.base,
-            layers: self.layers,
-            spreads: self.spreads,
-        })
-    }
-}
-
-fn duplicate_stacked(
-    alloc: Global,
-    stacked: &Option<Boxed<Stacked>>,
-) -> Result<Option<Boxed<Stacked>>, OutOfMemory>
-    ensures { IfOk result (λ s. s ≡ stacked.now) }
-{
-    match stacked {
-        Some(s) => {
-            let copied = s.get().duplicate(alloc)?;
-            let boxed = Boxed::new(alloc, copied)?;
-            Ok(Some(boxed))
-        }
-        None => Ok(None),
-    }
-}
-
 impl Duplicate for DevRow {
     fn duplicate(&self, alloc: Global) -> Result<DevRow, OutOfMemory> {
         let name = self.name.copy()?;
-        let stacked = duplicate_stacked(alloc, &self.stacked)?;
         let file = duplicate_name(&self.file)?;
         Ok(DevRow {
             name,
             kind: self.kind,
-            stacked,
+            base: self.base,
             blocks: self.blocks,
             size: self.size,
             boundary: self.boundary,

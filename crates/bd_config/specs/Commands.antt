@@ -1,6 +1,6 @@
 -- What a call asks for, or the code of its refusal.
-use Rattle.std.specs.Prelude.{ℕ, zero, suc, ◌<◌, ◌^◌, ℤ, pos, negsuc, Bool, true, false, not, ◌&&◌, ◌||◌, ◌==◌, nat_eq, nat_le, List, [], ◌∷◌, ◌++◌, filter, length, codes, Option, None, Some, is_some, option_map, option_and_then, if◌then◌else◌, Result, Ok, Err, IsUtf8}
-use Rattle.std.specs.List.{list_all, ends_with, slice_split}
+use Rattle.std.specs.Prelude.{ℕ, zero, suc, ◌<◌, ◌^◌, ℤ, pos, negsuc, Bool, true, false, not, ◌&&◌, ◌||◌, ◌==◌, nat_eq, nat_le, List, length, codes, Option, None, Some, is_some, option_map, option_and_then, if◌then◌else◌, Result, Ok, Err, IsUtf8}
+use Rattle.std.specs.List.{list_all, ends_with}
 use Rattle.serde_json.specs.Data.{Data}
 use Rattle.serde_json.specs.Find.{get, as_bool, as_number, as_str, as_u64}
 use Rattle.bd_base.specs.Name.{same_name}
@@ -8,9 +8,9 @@ use Rattle.bd_base.specs.declared.device.ErrKind.{ErrKind}
 use Rattle.bd_base.specs.declared.device.ErrKind.TheVariants.{Failure, Pending, Corrupt}
 use Rattle.bd_base.specs.declared.device.IoSet.{IoSet}
 use Rattle.bd_base.specs.declared.device.RateSet.{RateSet}
-use Rattle.bd_config.specs.Shape.{elements, text_of}
+use Rattle.bd_config.specs.Shape.{text_of}
 use Rattle.bd_config.specs.declared.command.Command.{Command}
-use Rattle.bd_config.specs.declared.command.Command.TheVariants.{Malloc, Null, Aio, Passthru, Split, Delay, Error, Raid, InjectError, SetLimits, PassedOver}
+use Rattle.bd_config.specs.declared.command.Command.TheVariants.{Malloc, Null, Aio, Passthru, Split, Delay, Error, InjectError, SetLimits, PassedOver}
 
 -- ---- codes
 
@@ -197,60 +197,6 @@ error_from None = None
 abbrev pub error_of : Data → Option Command
 error_of call = error_from (name_from (param (codes "base_name") call))
 
--- ---- sets of devices
-
--- the level of a set says whether its strips are striped over its members, or these stand one after another
-abbrev pub level_named : List ℕ → Option Bool
-level_named word =
-    if same_name word (codes "raid0") then Some true
-    else if same_name word (codes "0") then Some true
-    else if same_name word (codes "concat") then Some false
-    else None
-
--- a power of two from 4 to 1,024
-abbrev pub only_strip : ℕ → Option ℕ
-only_strip n =
-    if (n == 4) || (n == 8) || (n == 16) || (n == 32) || (n == 64) || (n == 128) || (n == 256) || (n == 512) || (n == 1024) then Some n else None
-
-abbrev pub is_space : ℕ → Bool
-is_space b = b == 32
-
-abbrev pub is_some_word : List ℕ → Bool
-is_some_word word = not (length word == 0)
-
--- the words of a text: what stands between its spaces
-abbrev pub words_of : List ℕ → List (List ℕ)
-words_of text = filter is_some_word (slice_split is_space text)
-
--- these texts and those that the values are; none where one is no text
-abbrev pub texts_from : List (List ℕ) → List Data → Option (List (List ℕ))
-texts_from texts [] = Some texts
-texts_from texts (d ∷ ds) = option_and_then (λ text. texts_from (texts ++ text ∷ []) ds) (as_str d)
-
--- names are an array of texts, or the words of one text
-abbrev pub names_in : Option (List ℕ) → Option (List Data) → Option (List (List ℕ))
-names_in (Some text) items = Some (words_of text)
-names_in None items = option_and_then (texts_from []) items
-
--- 1 to 16 names of devices
-abbrev pub are_members : List (List ℕ) → Bool
-are_members names = nat_le 1 (length names) && nat_le (length names) 16 && list_all is_device_name names
-
-abbrev pub only_members : List (List ℕ) → Option (List (List ℕ))
-only_members names = if are_members names then Some names else None
-
-abbrev pub members_in : Data → Option (List (List ℕ))
-members_in d = option_and_then only_members (names_in (as_str d) (elements d))
-
-abbrev pub raid_from : Option (List ℕ) → Option Bool → Option ℕ → Option (List (List ℕ)) → Option Command
-raid_from (Some name) (Some striped) (Some strip) (Some bases) = Some (Raid name striped strip bases)
-raid_from _ _ _ _ = None
-
-abbrev pub raid_of : Data → Option Command
-raid_of call =
-    raid_from (name_from (param (codes "name") call)) (option_and_then level_named (text_from (param (codes "raid_level") call)))
-    (option_and_then only_strip (option_and_then whole (param (codes "strip_size_kb") call))) (option_and_then members_in (param (codes "base_bdevs") call))
-
 -- ---- injected errors
 
 abbrev pub kind_named : List ℕ → Option ErrKind
@@ -354,7 +300,6 @@ answer_named method call =
     else if same_name method (codes "bdev_split_create") then or_invalid (split_of call)
     else if same_name method (codes "bdev_delay_create") then or_invalid (delay_of call)
     else if same_name method (codes "bdev_error_create") then or_invalid (error_of call)
-    else if same_name method (codes "bdev_raid_create") then or_invalid (raid_of call)
     else if same_name method (codes "bdev_error_inject_error") then or_invalid (inject_of call)
     else if same_name method (codes "bdev_set_qos_limit") then or_invalid (limits_of call)
     else if is_passed_over method then Ok PassedOver

@@ -1,5 +1,5 @@
 //! What a call of a configuration asks for.
-use bd_base::{ErrKind, IoSet, Name, NameList, RateSet};
+use bd_base::{ErrKind, IoSet, Name, RateSet};
 
 /// One call with its parameters.
 #[derive(Drop)]
@@ -54,14 +54,6 @@ pub enum Command {
     /// Makes a device that takes injected errors.
     Error {
         base: Name,
-    },
-    /// Makes a set of 1 to 16 devices: strips of so many kilobytes (1,024 bytes each; 4, 8 and so on
-    /// up to 1,024) from each in turn, or the devices one after another.
-    Raid {
-        name: Name,
-        striped: bool,
-        strip_kb: u64,
-        bases: NameList,
     },
     /// Injects an error into the next `count` requests of these types.
     InjectError {

@@ -6,7 +6,6 @@ mod command;
 mod config;
 mod method;
 mod param;
-mod sets;
 mod setting;
 mod shape;
 mod stacked;

@@ -5,7 +5,6 @@ ghost use Rattle.bd_config.specs.Commands.{IsOpenable, sets_options, is_passed_o
 
 use crate::base::{aio, is_plain, malloc, null};
 use crate::command::Command;
-use crate::sets::raid;
 use crate::setting::{inject, limits};
 use crate::shape::text_of;
 use crate::stacked::{delay, error, passthru, split};
@@ -85,8 +84,6 @@ fn answer_named(
         Ok(or_invalid(delay(alloc, call)?))
     } else if method == "bdev_error_create" {
         Ok(or_invalid(error(alloc, call)?))
-    } else if method == "bdev_raid_create" {
-        Ok(or_invalid(raid(alloc, call)?))
     } else if method == "bdev_error_inject_error" {
         Ok(or_invalid(inject(alloc, call)?))
     } else if method == "bdev_set_qos_limit" {

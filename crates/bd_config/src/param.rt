@@ -54,8 +54,7 @@ fn are_name_bytes(name: &[u8]) -> bool
     name.iter().all(|b| 33 <= *b && *b <= 126)
 }
 
-/// Whether it is the name of a device: 1 to 200 letters from `!` to `~`.
-pub(crate) fn is_device_name(name: &[u8]) -> bool
+fn is_device_name(name: &[u8]) -> bool
     ensures { result ≡ is_device_name name.now }
 {
     1 <= name.len() && name.len() <= 200 && are_name_bytes(name)

@@ -8,7 +8,7 @@ ghost use Rattle.bd_config.specs.Shape.{text_of, elements, is_call, config_from,
 use serde_json::Value;
 
 /// The elements of an array; none of a value that is no array.
-pub(crate) fn elements(v: &Value) -> Option<&[Value]>
+fn elements(v: &Value) -> Option<&[Value]>
     ensures { option_map (λ items. map view items.now) result ≡ elements (view v.now) }
 {
     Some(v.as_array()?.as_slice())

@@ -1,7 +1,7 @@
 -- A name that was given a place, and a device more.
 use Rattle.std.proofs.Common.{◌≡◌, ◌≢◌, ℕ, zero, suc, ◌+◌, ◌<◌, ◌≤◌, Bool, true, false, not, cond, ◌&&◌, ◌⊎◌, inl, inr, List, [], ◌∷◌, ◌++◌, length, Option, Some, None, is_some, ◌||◌, nat_eq, nat_le, nat_lt, eqb, remove, lt-ltb, le-ltb, refl, sym, ◌∙◌, ap, ap₂, subst, eq-eqb, ne_eqb, arith}
 use Rattle.std.specs.Cmp.Lexicographic.{pointwise}
-use Rattle.std.specs.List.{list_any, position, position_or_len, slice_get}
+use Rattle.std.specs.List.{position, position_or_len, slice_get}
 use Rattle.std.specs.Prelude.{unwrap_or}
 use Rattle.std.proofs.lemmas.Cmp.{nat_list_eq_equiv}
 use Rattle.std.specs.Map.{lookup}
@@ -15,12 +15,11 @@ use Rattle.bd_base.specs.declared.setup.Setup.{Setup}
 use Rattle.bd_devices.specs.declared.names.Names.{Names}
 use Rattle.bd_base.specs.declared.request.Errno.{Errno}
 use Rattle.bd_base.specs.declared.request.Errno.TheVariants.{Exists, NoDev, Perm, Inval}
-use Rattle.bd_devices.specs.Devices.{can_stand, has_bases, has_twice, is_claimed, is_high, is_out_of_bounds, register_refusal, row_over, with_row}
-use Rattle.bd_devices.specs.declared.device.NewDevice.{NewDevice}
-use Rattle.bd_devices.proofs.Stacks.{more_stacked, same_stacked}
+use Rattle.bd_devices.specs.Devices.{has_base, is_claimed, layers_below, register_refusal, with_device}
 use Rattle.indexmap.specs.IndexMap.{insert_entry}
 use Rattle.bd_devices.specs.Names.{AreNamed, Gains, first_of, place_of_name}
 use Rattle.bd_devices.specs.Registered.{AreToldApart, IsRegistered}
+use Rattle.bd_machine.specs.BlockMap.{base_of_row, StandsOnEarlier}
 use Rattle.bd_machine.specs.Registry.{device_named}
 use Rattle.bd_machine.specs.Limits.{no_limit}
 use Rattle.bd_machine.specs.Start.{no_injections}
@@ -89,7 +88,7 @@ position_more p xs x =
     ∙ pushed (position_or_len p xs) (length xs) (p x) (prefix_len-le-length (λ y. not (p y)) xs)
 
 -- the names of a setup's devices, with a device more
-pub named_more : (old new : Names) (setup : Setup) (row : DevRow) → AreNamed old setup → Gains old row.name (length setup.devices) new → AreNamed new (with_row setup row)
+pub named_more : (old new : Names) (setup : Setup) (row : DevRow) → AreNamed old setup → Gains old row.name (length setup.devices) new → AreNamed new (with_device setup row)
 named_more old new setup row are gains q =
     gains q ∙ ap (λ o. first_of o (cond (same_name row.name q) (Some (length setup.devices)) None)) (are q)
     ∙ sym (position_more (λ r. same_name r.name q) setup.devices row)
@@ -100,19 +99,11 @@ remove_last (y ∷ ys) x = ap (λ zs. y ∷ zs) (remove_last ys x)
 
 -- ---- what a registration that isn't refused knows
 
--- neither the name stands, nor is a base absent or named twice, nor does its kind stand on another number of bases
-taken_or : (a b c d e : Bool) → cond a (Some Exists) (cond b (Some NoDev) (cond (c || d) (Some Perm) (cond e (Some Inval) None))) ≡ None → (a ≡ false) × (b ≡ false) × (d ≡ false) × (e ≡ false)
-taken_or true b c d e h = cc
-taken_or false true c d e h = cc
-taken_or false false true d e h = cc
-taken_or false false false true e h = cc
-taken_or false false false false true h = cc
-taken_or false false false false false h = (refl, refl, refl, refl)
-
-last_of_three : (a b c : Bool) → (a || b || c) ≡ false → c ≡ false
-last_of_three true b c h = cc
-last_of_three false true c h = cc
-last_of_three false false c h = h
+-- neither the name of the row stands, nor is its base absent
+taken_or : (a b c d : Bool) → cond a (Some Exists) (cond b (Some NoDev) (cond c (Some Perm) (cond d (Some Inval) None))) ≡ None → (a ≡ false) × (b ≡ false)
+taken_or true b c d h = cc
+taken_or false true c d h = cc
+taken_or false false c d h = (refl, refl)
 
 not_true : (b : Bool) → not b ≡ false → b ≡ true
 not_true true h = refl
@@ -121,6 +112,11 @@ not_true false h = cc
 none_if : {X : Type 0} (o : Option X) → is_some o ≡ false → o ≡ None
 none_if None h = refl
 none_if (Some x) h = cc
+
+within : {X : Type 0} (xs : List X) (i : ℕ) → is_some (slice_get xs i) ≡ true → i < length xs
+within [] i h = cc
+within (x ∷ xs) zero h = omega arith
+within (x ∷ xs) (suc i) h = let rest : i < length xs = within xs i h in omega arith
 
 some_same : {X : Type 0} (x y : X) → ◌≡◌ {A = Option X} (Some x) (Some y) → x ≡ y
 some_same x y e = ap (λ o. unwrap_or o x) e
@@ -140,29 +136,39 @@ one_of (z ∷ zs) x y (suc i) h = go (one_of zs x y i h) where
 same_itself : (name : List ℕ) → same_name name name ≡ true
 same_itself name = nat_list_eq_equiv.refl name
 
-more_apart : (setup : Setup) (row : DevRow) → AreToldApart setup → is_some (device_named setup row.name) ≡ false → AreToldApart (with_row setup row)
+more_apart : (setup : Setup) (row : DevRow) → AreToldApart setup → is_some (device_named setup row.name) ≡ false → AreToldApart (with_device setup row)
 more_apart setup row apart new n other at = go (one_of setup.devices row other n at) where
-  found : (q : List ℕ) → device_named (with_row setup row) q ≡ first_of (device_named setup q) (cond (same_name row.name q) (Some (length setup.devices)) None)
+  found : (q : List ℕ) → device_named (with_device setup row) q ≡ first_of (device_named setup q) (cond (same_name row.name q) (Some (length setup.devices)) None)
   found q = position_more (λ r. same_name r.name q) setup.devices row
 
   last : (o : Option ℕ) (b : Bool) → o ≡ None → b ≡ true → first_of o (cond b (Some (length setup.devices)) None) ≡ Some (length setup.devices)
   last o b none same = ap (λ (p : Option ℕ). first_of p (cond b (Some (length setup.devices)) None)) none ∙ ap (λ (c : Bool). cond c (Some (length setup.devices)) None) same
 
-  at_last : device_named (with_row setup row) row.name ≡ Some (length setup.devices)
+  at_last : device_named (with_device setup row) row.name ≡ Some (length setup.devices)
   at_last = found row.name ∙ last (device_named setup row.name) (same_name row.name row.name) (none_if _ new) (same_itself row.name)
 
-  go : ((n < length setup.devices) × (slice_get setup.devices n ≡ Some other)) ⊎ ((n ≡ length setup.devices) × (row ≡ other)) → device_named (with_row setup row) other.name ≡ Some n
+  go : ((n < length setup.devices) × (slice_get setup.devices n ≡ Some other)) ⊎ ((n ≡ length setup.devices) × (row ≡ other)) → device_named (with_device setup row) other.name ≡ Some n
   go (inl old) = found other.name ∙ ap (λ (o : Option ℕ). first_of o (cond (same_name row.name other.name) (Some (length setup.devices)) None)) (apart n other old.1)
-  go (inr end) = subst (λ (r : DevRow). device_named (with_row setup row) r.name ≡ Some n) end.1 (at_last ∙ ap Some (sym end.0))
+  go (inr end) = subst (λ (r : DevRow). device_named (with_device setup row) r.name ≡ Some n) end.1 (at_last ∙ ap Some (sym end.0))
 
-pub is_added : (old new : Names) (setup : Setup) (device : NewDevice) (name : List ℕ) (place : ℕ) (devices : List DevRow) (rates : List Rates) (injections : List Injections)
-    → IsRegistered old setup → register_refusal setup device ≡ None → name ≡ device.name → place ≡ length setup.devices → Gains old name place new
-    → devices ≡ setup.devices ++ row_over setup device ∷ [] → rates ≡ setup.rates ++ no_limit ∷ [] → injections ≡ setup.injections ++ no_injections ∷ []
+more_earlier : (setup : Setup) (row : DevRow) → StandsOnEarlier setup → has_base setup row.base ≡ true → StandsOnEarlier (with_device setup row)
+more_earlier setup row earlier has dev base on = go (slice_get (setup.devices ++ row ∷ []) dev.0) refl on where
+  of_row : (r : DevRow) → slice_get (setup.devices ++ row ∷ []) dev.0 ≡ Some r → r.base ≡ Some base → base.0 < dev.0
+  of_row r at is = cases (one_of setup.devices row r dev.0 at) where
+    cases : ((dev.0 < length setup.devices) × (slice_get setup.devices dev.0 ≡ Some r)) ⊎ ((dev.0 ≡ length setup.devices) × (row ≡ r)) → base.0 < dev.0
+    cases (inl old) = earlier dev base (ap base_of_row old.1 ∙ is)
+    cases (inr end) = subst (λ (m : ℕ). base.0 < m) (sym end.0) (within setup.devices base.0 (sym (ap (has_base setup) (ap (λ (x : DevRow). x.base) end.1 ∙ is)) ∙ has))
+
+  go : (o : Option DevRow) → slice_get (setup.devices ++ row ∷ []) dev.0 ≡ o → base_of_row o ≡ Some base → base.0 < dev.0
+  go None at is = cc
+  go (Some r) at is = of_row r at is
+
+pub is_added : (old new : Names) (setup : Setup) (row : DevRow) (name : List ℕ) (place : ℕ) (devices : List DevRow) (rates : List Rates) (injections : List Injections)
+    → IsRegistered old setup → register_refusal setup row ≡ None → name ≡ row.name → place ≡ length setup.devices → Gains old name place new
+    → devices ≡ setup.devices ++ row ∷ [] → rates ≡ setup.rates ++ no_limit ∷ [] → injections ≡ setup.injections ++ no_injections ∷ []
     → IsRegistered new (record setup { devices = devices; rates = rates; injections = injections })
-is_added old new setup device name place devices rates injections is free named at gains ds rs js =
-    let row : DevRow = row_over setup device in
-    let known = taken_or (is_some (device_named setup device.name)) (not (has_bases setup device.bases)) (is_claimed setup device) (has_twice device.bases) (is_out_of_bounds setup device) free in
-    let can = not_true _ (last_of_three (nat_le 256 (length setup.devices)) (list_any (is_high setup) device.bases) (not (can_stand device.kind (length device.bases))) known.3) in
+is_added old new setup row name place devices rates injections is free named at gains ds rs js =
+    let known = taken_or (is_some (device_named setup row.name)) (not (has_base setup row.base)) (is_claimed setup row) (nat_le 256 (length setup.devices) || nat_le 64 (layers_below setup row.base)) free in
     let one : length devices ≡ length setup.devices + 1 = ap (λ (xs : List DevRow). length xs) ds ∙ length-append setup.devices (row ∷ []) in
     let two : length rates ≡ length setup.rates + 1 = ap (λ (xs : List Rates). length xs) rs ∙ length-append setup.rates (no_limit ∷ []) in
     let three : length injections ≡ length setup.injections + 1 = ap (λ (xs : List Injections). length xs) js ∙ length-append setup.injections (no_injections ∷ []) in
@@ -173,13 +179,5 @@ is_added old new setup device name place devices rates injections is free named 
       rates = omega (arith, one, two, is.rates);
       injections = omega (arith, one, three, is.injections);
       apart = subst (λ (xs : List DevRow). AreToldApart (record setup { devices = xs })) (sym ds) (more_apart setup row is.apart known.0);
-      stacked = same_stacked (with_row setup row) (record setup { devices = devices; rates = rates; injections = injections }) (sym ds) (more_stacked setup device is.stacked (not_true _ known.1) known.2 can);
+      earlier = subst (λ (xs : List DevRow). StandsOnEarlier (record setup { devices = xs })) (sym ds) (more_earlier setup row is.earlier (not_true _ known.1));
     }
-
--- a setup with these lists is the one with a row more
-pub added : (setup : Setup) (row : DevRow) (devices : List DevRow) (rates : List Rates) (injections : List Injections) → devices ≡ setup.devices ++ row ∷ [] → rates ≡ setup.rates ++ no_limit ∷ []
-    → injections ≡ setup.injections ++ no_injections ∷ [] → ◌≡◌ {A = Setup} (record setup { devices = devices; rates = rates; injections = injections }) (with_row setup row)
-added setup row devices rates injections ds rs js =
-    ap (λ (xs : List DevRow). record setup { devices = xs; rates = rates; injections = injections }) ds
-    ∙ ap (λ (xs : List Rates). record setup { devices = setup.devices ++ row ∷ []; rates = xs; injections = injections }) rs
-    ∙ ap (λ (xs : List Injections). record setup { devices = setup.devices ++ row ∷ []; rates = setup.rates ++ no_limit ∷ []; injections = xs }) js

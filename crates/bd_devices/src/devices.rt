@@ -1,18 +1,15 @@
 //! The devices of a registry before any event.
 ghost use Rattle.std.specs.Prelude.{◌≡◌, ◌+◌, ◌++◌, ◌∷◌, [], ℕ, List, None, Some, length, IfOk, IfErr, OnOk, OnErr};
 ghost use Rattle.bd_base.specs.declared.device.DevRow.{DevRow};
-ghost use Rattle.bd_devices.specs.Devices.{IsCause, chosen, injected, injection_refusal, limit_refusal, limited, no_devices, register_refusal, row_over, with_device, with_limits};
+ghost use Rattle.bd_devices.specs.Devices.{IsCause, chosen, injected, injection_refusal, limit_refusal, limited, no_devices, register_refusal, with_device, with_limits};
 ghost use Rattle.bd_devices.specs.Registered.{AreToldApart};
-ghost use Rattle.bd_machine.specs.BlockMap.{is_error};
+ghost use Rattle.bd_machine.specs.BlockMap.{StandsOnEarlier};
 ghost use Rattle.bd_machine.specs.Limits.{no_limit};
 ghost use Rattle.bd_machine.specs.Registry.{device_named};
-ghost use Rattle.bd_machine.specs.Stacking.{IsStacked};
 ghost use Rattle.bd_machine.specs.Start.{no_injections};
 
-use crate::device::NewDevice;
 use crate::names::Names;
 use crate::refusals::refusal;
-use crate::stacking::row_over;
 use bd_base::{
     DevId, DevRow, ErrKind, Errno, Injection, Injections, IoSet, Kind, Name, OutOfMemory, RateSet,
     Rates, Rows, Setup,
@@ -48,9 +45,9 @@ const NO_INJECTIONS: Injections = Injections {
 pub enum RegisterError {
     /// There was no memory.
     OutOfMemory,
-    /// The first cause that holds: `Exists` where the name stands; `NoDev` where a base doesn't; `Perm`
-    /// where a base is claimed by a base handle of another group, or named twice; `Inval` where there are
-    /// 256 devices, or 64 layers below it, or where its kind stands on no such number of bases.
+    /// The first cause that holds: `Exists` where the name stands; `NoDev` where its base doesn't; `Perm`
+    /// where its base is claimed by the base handle of another group; `Inval` where there are 256 devices,
+    /// or 64 layers below it.
     Refused(Errno),
 }
 
@@ -124,7 +121,7 @@ impl Devices {
     /// The same, where no more devices are registered. It takes no memory.
     pub fn into_setup(self) -> Setup
         ensures setup { result ≡ self }
-        ensures stacked { IsStacked result }
+        ensures earlier { StandsOnEarlier result }
         ensures apart { AreToldApart result }
     {
         let Devices { setup, names: _ } = self;
@@ -133,47 +130,35 @@ impl Devices {
 
     /// Registers a device, without limits and injections, and gives its number. A refusal, and out of
     /// memory, change nothing.
-    pub fn register(&mut self, alloc: Global, device: NewDevice) -> Result<DevId, RegisterError>
+    pub fn register(&mut self, alloc: Global, row: DevRow) -> Result<DevId, RegisterError>
         ensures number { IfOk result (λ dev. dev.0 ≡ length self.old.devices) }
-        ensures free { OnOk result (register_refusal self.old device ≡ None) }
-        ensures ok { OnOk result (self.new ≡ with_device self.old device) }
-        ensures cause { IfErr result (λ error. IsCause error (register_refusal self.old device)) }
+        ensures free { OnOk result (register_refusal self.old row ≡ None) }
+        ensures ok { OnOk result (self.new ≡ with_device self.old row) }
+        ensures cause { IfErr result (λ error. IsCause error (register_refusal self.old row)) }
         ensures err { OnErr result (self.new ≡ self.old) }
     {
-        let taken = self.names.find(&device.name).is_some();
-        match refusal(&self.setup, &device, taken) {
-            Some(errno) => Err(RegisterError::Refused(errno)),
-            None => self.enter(alloc, device),
+        let taken = self.names.find(&row.name).is_some();
+        if let Some(errno) = refusal(&self.setup, &row, taken) {
+            return Err(RegisterError::Refused(errno));
         }
-    }
-
-    // Adds a device, and gives its number. Out of memory, nothing changes.
-    fn enter(&mut self, alloc: Global, device: NewDevice) -> Result<DevId, RegisterError>
-        requires free { register_refusal self.old device ≡ None }
-        ensures number { IfOk result (λ dev. dev.0 ≡ length self.old.devices) }
-        ensures ok { OnOk result (self.new ≡ with_device self.old device) }
-        ensures cause { IfErr result (λ error. error ≡ RegisterError.OutOfMemory) }
-        ensures err { OnErr result (self.new ≡ self.old) }
-    {
         let place = self.setup.devices.len();
         let Ok(number) = u32::try_from(place) else {
             return Err(RegisterError::OutOfMemory);
         };
-        self.add(alloc, device, place)?;
+        self.add(alloc, row, place)?;
         Ok(DevId(number))
     }
 
     // Adds a device. Out of memory, nothing changes.
-    fn add(&mut self, alloc: Global, device: NewDevice, place: usize) -> Result<(), OutOfMemory>
+    fn add(&mut self, alloc: Global, row: DevRow, place: usize) -> Result<(), OutOfMemory>
         requires place { place ≡ length self.old.devices }
-        requires free { register_refusal self.old device ≡ None }
-        ensures ok { OnOk result (self.new ≡ with_device self.old device) }
+        requires free { register_refusal self.old row ≡ None }
+        ensures ok { OnOk result (self.new ≡ with_device self.old row) }
         ensures err { OnErr result (self.new ≡ self.old) }
     {
         let rates = with_last(&self.setup.rates, NO_LIMIT)?;
         let injections = with_last(&self.setup.injections, NO_INJECTIONS)?;
-        let name = device.name.copy()?;
-        let row = row_over(alloc, &self.setup, device)?;
+        let name = row.name.copy()?;
         self.setup.devices.push(row)?;
         match self.names.add(alloc, &name, place) {
             Ok(()) => {
@@ -206,7 +191,6 @@ impl Devices {
 
     /// Sets an injection of the device of a name for the next `num` requests of each named type. `NoDev`
     /// where there is no such device, `Inval` where it is no error device, and then nothing changes.
-    #[tactic(auto, using(crate::proofs::Stacks::same_stacked))]
     pub fn set_injection(
         &mut self,
         name: &Name,
@@ -222,23 +206,13 @@ impl Devices {
         let Some(place) = self.names.find(name) else {
             return Err(Errno::NoDev);
         };
-        if !is_error(&self.setup, place) {
+        if !matches!(self.setup.devices.as_slice()[place].kind, Kind::Error) {
             return Err(Errno::Inval);
         }
         let mut injections = self.setup.injections.as_slice()[place];
         injections.set(io, kind, num);
         self.setup.injections.set(place, injections);
         Ok(())
-    }
-}
-
-// Whether the device at this place is an error device.
-fn is_error(setup: &Setup, place: usize) -> bool
-    ensures { result ≡ is_error setup.now (record { 0 = place }) }
-{
-    match setup.devices.as_slice().get(place) {
-        Some(row) => matches!(row.kind, Kind::Error),
-        None => false,
     }
 }
 

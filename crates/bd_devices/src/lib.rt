@@ -2,12 +2,8 @@
 //! registry begins.
 #![tactic(auto)]
 
-mod device;
 mod devices;
 mod names;
 mod refusals;
-mod stacking;
 
-pub use device::NewDevice;
 pub use devices::{Devices, RegisterError};
-pub use refusals::bases_in;

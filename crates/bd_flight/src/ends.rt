@@ -42,8 +42,7 @@ fn with_piece(ends: PieceEnds, piece: Option<&OpenPiece>) -> Option<PieceEnds>
     })
 }
 
-// What the first n pieces of a request come to, where each is here and not out. Each piece is looked up once, the last
-// one first: pieces go out and come back in the order of their numbers, so that one that is still out is found soon.
+// What the first n pieces of a request come to, where each is here and not out. Each piece is looked up once.
 fn piece_ends<S: Sees>(seen: &S, req: ReqId, n: u32) -> Option<PieceEnds>
     ensures back { IfSome result (λ e. list_all is_back (pieces_here (S.view_of seen.now) req n) ≡ true) }
     ensures done { IfSome result (λ e. e.all_done ≡ list_all is_done (pieces_here (S.view_of seen.now) req n)) }
@@ -54,7 +53,7 @@ fn piece_ends<S: Sees>(seen: &S, req: ReqId, n: u32) -> Option<PieceEnds>
         all_done: true,
         any_faulted: false,
     };
-    for k in (0..n).rev() {
+    for k in 0..n {
         match with_piece(ends, piece_here(seen, PieceId { req, k })) {
             Some(e) => ends = e,
             None => return None,

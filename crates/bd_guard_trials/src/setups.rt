@@ -6,7 +6,7 @@ fn memory_device(alloc: Global) -> Result<DevRow, OutOfMemory> {
     Ok(DevRow {
         name: Name::from_slice(alloc, b"Malloc0")?,
         kind: Kind::Malloc,
-        stacked: None,
+        base: None,
         blocks: 4,
         size: 512,
         boundary: 0,

@@ -30,7 +30,7 @@ use Rattle.bd_law_disks.specs.Over.{contents_then, local_over}
 abbrev one_disk : Setup
 one_disk = record {
   threads = 1;
-  devices = record { name = codes "Aio0"; kind = Aio; stacked = None; blocks = 2; size = 2; boundary = 0; depth = 1; file = None; group = 0 } ∷ [];
+  devices = record { name = codes "Aio0"; kind = Aio; base = None; blocks = 2; size = 2; boundary = 0; depth = 1; file = None; group = 0 } ∷ [];
   rates = [];
   injections = [];
   waiting = [];

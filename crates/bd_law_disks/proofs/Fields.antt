@@ -30,9 +30,9 @@ use Rattle.bd_machine.specs.declared.state.Trip.TheVariants as trips
 use Rattle.bd_machine.specs.Aborts.{stopped}
 use Rattle.bd_machine.specs.Admission.{is_gone}
 use Rattle.bd_machine.specs.Asked.{owes_removal}
-use Rattle.bd_machine.specs.BlockMap.{home}
+use Rattle.bd_machine.specs.BlockMap.{below, home}
 use Rattle.bd_machine.specs.Changes.{is_dropped}
-use Rattle.bd_machine.specs.Events.{decided_by, paid, with_due, alone, closed_by, born, all_born, got_by, put_down_by, put_paid, dropped_by, removal_paid, with_reset, advanced, reset_finishes, freed_by, channels_due, gone_due, removing, reset_begun, reset_thaws, injection_taken, change_reg, first_req, device_due, destruct_of, drain_time, resizing, resized}
+use Rattle.bd_machine.specs.Events.{decided_by, paid, owing, with_due, alone, closed_by, born, all_born, got_by, put_down_by, put_paid, dropped_by, removal_paid, with_reset, advanced, reset_finishes, freed_by, channel_due, gone_due, removing, reset_begun, reset_thaws, injection_taken, change_reg, first_req, device_due, destruct_of, drain_time, resizing, resized}
 use Rattle.bd_machine.specs.Limits.{arrived, departed, is_limited, next_limited, seen, waits_at}
 use Rattle.bd_machine.specs.declared.state.FreezeMark.TheVariants.{Not}
 use Rattle.bd_machine.specs.declared.state.Marking.{Marking}
@@ -85,7 +85,7 @@ module _ (fill : DevId → Content → Content) where
   born_filled frozen (d ∷ ds) p = born_filled frozen ds (born frozen d p)
 
   got_filled : (setup : Setup) (v : View) (dev : DevId) (a : Answer) → got_by setup (filled_view v) dev a ≡ filled (got_by setup v dev a)
-  got_filled setup v dev (answers.Got fresh frozen) = born_filled frozen (made setup v.channels dev) v.part
+  got_filled setup v dev (answers.Got fresh frozen) = born_filled frozen (made v.channels (below setup dev)) v.part
   got_filled setup v dev _ = refl
 
   put_filled : (t : ℕ) (dev : DevId) (closing : Bool) (a : Answer) (p : Part)
@@ -98,8 +98,8 @@ module _ (fill : DevId → Content → Content) where
   dropped_filled : (t : ℕ) (dev : DevId) (a : Answer) (p : Part) → dropped_by t dev a (filled p) ≡ filled (dropped_by t dev a p)
   dropped_filled t dev (answers.Dropped what zero destruct) p = go (is_dropped what)
     where
-      go : (b : Bool) → with_due (channels_due t zero) (cond b (remarked dev (with_frozen Not) (filled p)) (filled p))
-          ≡ filled (with_due (channels_due t zero) (cond b (remarked dev (with_frozen Not) p) p))
+      go : (b : Bool) → with_due (channel_due t zero) (cond b (remarked dev (with_frozen Not) (filled p)) (filled p))
+          ≡ filled (with_due (channel_due t zero) (cond b (remarked dev (with_frozen Not) p) p))
       go true = refl
       go false = refl
   dropped_filled t dev _ p = refl
@@ -118,7 +118,8 @@ module _ (fill : DevId → Content → Content) where
   finishes_filled dev _ p = refl
 
   freed_filled : (a : Answer) (p : Part) → freed_by a (filled p) ≡ filled (freed_by a p)
-  freed_filled (answers.Freed handles) p = refl
+  freed_filled (answers.Freed (Some id)) p = refl
+  freed_filled (answers.Freed None) p = refl
   freed_filled _ p = refl
 
   staged_filled : (req : Option ReqId) (stage : Stage) (p : Part) → staged req stage (filled p) ≡ filled (staged req stage p)
@@ -139,8 +140,8 @@ module _ (fill : DevId → Content → Content) where
   marked_filled setup t v walk dev Thaw = refl
   marked_filled setup t v walk dev Removal = go (is_limited setup dev && (home setup dev == t))
     where
-      go : (b : Bool) → cond b (record (remarked dev removal_set (filled v.part)) { owed = v.part.owed ++ owes.Put dev ∷ [] }) (remarked dev removal_set (filled v.part))
-          ≡ filled (cond b (record (remarked dev removal_set v.part) { owed = v.part.owed ++ owes.Put dev ∷ [] }) (remarked dev removal_set v.part))
+      go : (b : Bool) → cond b (owing (owes.Put dev) (remarked dev removal_set (filled v.part))) (remarked dev removal_set (filled v.part))
+          ≡ filled (cond b (owing (owes.Put dev) (remarked dev removal_set v.part)) (remarked dev removal_set v.part))
       go true = refl
       go false = refl
 

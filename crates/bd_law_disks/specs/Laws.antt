@@ -19,7 +19,7 @@ use Rattle.bd_machine.specs.View.{View, Came}
 use Rattle.bd_turns.specs.Laws.{view_at_start}
 use Rattle.bd_turns.specs.Local.{Local, Leads}
 use Rattle.bd_law_disks.specs.Over.{LeadsOver}
-use Rattle.bd_law_disks.specs.Told.{told_view, told_change, told_local, is_on_disk, ended_change, IsOnce, IsMemoryApart}
+use Rattle.bd_law_disks.specs.Told.{told_view, told_change, told_local, is_on_disk, ended_change, IsOnce, IsMemoryApart, AreBasesLowest}
 
 -- the guards of every act are the same, whatever is told: they read queues, and no content but a malloc device's
 abbrev pub GuardsAreSame : Type 0
@@ -71,11 +71,11 @@ OverKeepsBases = (setup : Setup) (contents : DevId → Content) (t : ℕ) (l : L
 abbrev pub StartIsOnce : Type 0
 StartIsOnce = (setup : Setup) (told : Told) (t : ℕ) (dev : DevId) → IsOnce dev (view_at_start setup told t).part.bases
 
--- memory is apart from disks
+-- base devices that stand on nothing keep memory apart from disks
 abbrev pub MemoryIsApart : Type 0
-MemoryIsApart = (setup : Setup) → IsMemoryApart setup
+MemoryIsApart = (setup : Setup) → AreBasesLowest setup → IsMemoryApart setup
 
 -- at the start a thread sees what it would see if nothing were told, with that told
 abbrev pub StartIsTold : Type 0
 StartIsTold = (setup : Setup) (told : Told) (t : ℕ)
-    → view_at_start setup told t ≡ told_view setup (λ dev. content_told (slice_index_or told dev.0 None)) (view_at_start setup [] t)
+    → AreBasesLowest setup → view_at_start setup told t ≡ told_view setup (λ dev. content_told (slice_index_or told dev.0 None)) (view_at_start setup [] t)

@@ -1,5 +1,5 @@
 -- What a thread sees, with content told of its aio devices, which it leaves to their disks.
-use Rattle.std.specs.Prelude.{◌≡◌, ℕ, ◌≤◌, Bool, true, false, cond, List, ◌∷◌, [], map}
+use Rattle.std.specs.Prelude.{◌≡◌, ℕ, ◌≤◌, Bool, true, false, cond, List, ◌∷◌, [], map, None}
 use Rattle.std.specs.List.{count_by}
 use Rattle.bd_base.specs.declared.act.Act.{Act}
 use Rattle.bd_base.specs.declared.act.Act.TheVariants as acts
@@ -13,7 +13,7 @@ use Rattle.bd_machine.specs.declared.state.Id.TheVariants as ids
 use Rattle.bd_machine.specs.declared.state.Kept.TheVariants as keeps
 use Rattle.bd_machine.specs.declared.state.OpenPiece.{OpenPiece}
 use Rattle.bd_machine.specs.declared.state.Part.{Part}
-use Rattle.bd_machine.specs.BlockMap.{is_aio, is_malloc, size_of}
+use Rattle.bd_machine.specs.BlockMap.{has_kind, is_aio, is_base_kind, is_malloc, row_of, size_of, stands_on}
 use Rattle.bd_machine.specs.Homes.{content_by, is_base, served}
 use Rattle.bd_machine.specs.Same.{same_dev}
 use Rattle.bd_machine.specs.View.{View, Change, Move, Here}
@@ -69,6 +69,10 @@ IsOnce dev bases = count_by (is_base dev) bases ≤ 1
 
 -- ---- setups
 
--- no malloc device is an aio device
+-- no malloc device has an aio device for its base
 abbrev pub IsMemoryApart : Setup → Type 0
 IsMemoryApart setup = (dev : DevId) → is_malloc setup dev ≡ true → is_aio setup dev ≡ false
+
+-- malloc, null and aio devices stand on nothing
+abbrev pub AreBasesLowest : Setup → Type 0
+AreBasesLowest setup = (dev : DevId) → has_kind is_base_kind (row_of setup dev) ≡ true → stands_on setup dev ≡ None

@@ -49,7 +49,7 @@ pub fn start_is_once()
     ensures { StartIsOnce }
 {}
 
-/// No malloc device is an aio device.
+/// Where base devices stand on nothing, no malloc device is an aio device.
 pub fn memory_is_apart()
     ensures { MemoryIsApart }
 {}

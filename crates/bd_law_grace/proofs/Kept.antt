@@ -28,7 +28,7 @@ use Rattle.bd_machine.specs.declared.state.Prior.{Prior}
 use Rattle.bd_machine.specs.declared.state.Prior.TheVariants as priors
 use Rattle.bd_machine.specs.declared.state.State.{State}
 use Rattle.bd_machine.specs.Aborts.{is_below, is_cause_if_any}
-use Rattle.bd_machine.specs.BlockMap.{home}
+use Rattle.bd_machine.specs.BlockMap.{below, home}
 use Rattle.bd_machine.specs.Changes.{is_dropped}
 use Rattle.bd_machine.specs.Content.{Told}
 use Rattle.bd_machine.specs.Delays.{last_moment}
@@ -388,7 +388,7 @@ module _ (setup : Setup) (told : Told) (t : ℕ) (es : List Entry) (e : Entry) w
 
       by_answer : (a : Answer) → e.act ≡ acts.Reg (events.GetChannel dev) a → Tell setup told t now (change setup t v (acts.Reg (events.GetChannel dev) a) came).part
       by_answer (answers.Got fresh frozen) is =
-          let both = all frozen (born_says fresh frozen is) (made setup v.channels dev) v.part (same (answers.Got fresh frozen) is) tell.once in
+          let both = all frozen (born_says fresh frozen is) (made v.channels (below setup dev)) v.part (same (answers.Got fresh frozen) is) tell.once in
           record { each = both.0; once = both.1; prior = tt }
       by_answer a is = record { each = same a is; once = tell.once; prior = tt }
 

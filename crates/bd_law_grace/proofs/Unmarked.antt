@@ -88,7 +88,8 @@ finishes_keeps dev (answers.ResetFinished next) p = refl
 finishes_keeps dev _ p = refl
 
 freed_keeps : (a : Answer) (p : Part) → Keeps p (freed_by a p)
-freed_keeps (answers.Freed handles) p = refl
+freed_keeps (answers.Freed (Some id)) p = refl
+freed_keeps (answers.Freed None) p = refl
 freed_keeps _ p = refl
 
 staged_keeps : (req : Option ReqId) (stage : Stage) (p : Part) → Keeps p (staged req stage p)

@@ -94,10 +94,10 @@ answer_exact (answers.Got f ds) (answers.Got f' ds') e =
     ap₂ answers.Got (bool_exact f f' p.0) (pointwise_exact same_dev dev_exact ds ds' p.1)
 answer_exact (answers.PutDown n) (answers.PutDown n') e = ap answers.PutDown (eqb-true n n' e)
 answer_exact (answers.Dropped w z d) (answers.Dropped w' z' d') e =
-    let p = and_parts (same_dropped w w' && pointwise same_dev z z') (same_if_any same_dev d d') e in
-    let q = and_parts (same_dropped w w') (pointwise same_dev z z') p.0 in
+    let p = and_parts (same_dropped w w' && same_if_any same_dev z z') (same_if_any same_dev d d') e in
+    let q = and_parts (same_dropped w w') (same_if_any same_dev z z') p.0 in
     ap (λ (x : Dropped). answers.Dropped x z d) (dropped_exact w w' q.0)
-    ∙ ap₂ (λ (x : List DevId) (y : Option DevId). answers.Dropped w' x y) (pointwise_exact same_dev dev_exact z z' q.1) (if_any_exact same_dev dev_exact d d' p.1)
+    ∙ ap₂ (λ (x y : Option DevId). answers.Dropped w' x y) (if_any_exact same_dev dev_exact z z' q.1) (if_any_exact same_dev dev_exact d d' p.1)
 answer_exact (answers.Removing v ts hs d) (answers.Removing v' ts' hs' d') e =
     let p = and_parts (same_dev v v' && same_threads ts ts' && pointwise same_holder hs hs') (same_if_any same_dev d d') e in
     let q = and_parts (same_dev v v' && same_threads ts ts') (pointwise same_holder hs hs') p.0 in
@@ -109,7 +109,7 @@ answer_exact answers.ResetQueued answers.ResetQueued e = refl
 answer_exact (answers.ResetEnded ts) (answers.ResetEnded ts') e = ap answers.ResetEnded (threads_exact ts ts' e)
 answer_exact (answers.ResetFinished n) (answers.ResetFinished n') e = ap answers.ResetFinished (if_any_exact same_next_reset next_exact n n' e)
 answer_exact (answers.Injected d) (answers.Injected d') e = ap answers.Injected (decision_exact d d' e)
-answer_exact (answers.Freed hs) (answers.Freed hs') e = ap answers.Freed (pointwise_exact same_holder holder_exact hs hs' e)
+answer_exact (answers.Freed h) (answers.Freed h') e = ap answers.Freed (if_any_exact same_handle handle_exact h h' e)
 answer_exact (answers.Resizing d t) (answers.Resizing d' t') e =
     let p = and_parts (same_dev d d') (t.0 == t'.0) e in
     ap₂ (λ (x : DevId) (n : ℕ). let y : ThreadId = record { 0 = n } in answers.Resizing x y) (dev_exact d d' p.0) (eqb-true t.0 t'.0 p.1)

@@ -1,6 +1,6 @@
 -- What the state before any entry has of handles, channels and open requests.
 use Rattle.std.proofs.Common.{◌≡◌, ℕ, zero, suc, ◌+◌, ◌<◌, ◌≤◌, Bool, true, false, cond, not, ◌&&◌, ◌||◌, ◌==◌, ◌⊎◌, inl, inr, List, [], ◌∷◌, length, map, get_or, Option, Some, None, refl, sym, ap, subst, eq-eqb, ne_eqb, arith, le_refl}
-use Rattle.std.specs.Prelude.{slice_get, nat_lt}
+use Rattle.std.specs.Prelude.{slice_get, nat_lt, unwrap_or}
 use Rattle.std.specs.List.{filter, list_any, range_with_len}
 use Rattle.std.proofs.lemmas.Bool.{and_parts, and_from, cases_eq, lt-ltb}
 use mathlib.Core.Path.{fun_ext}
@@ -13,20 +13,19 @@ use Rattle.bd_machine.specs.declared.state.Handle.{Handle}
 use Rattle.bd_machine.specs.declared.state.Registry.{Registry}
 use Rattle.bd_machine.specs.Alone.{counts_by}
 use Rattle.bd_machine.specs.declared.state.Between.{Between}
-use Rattle.bd_machine.specs.BlockMap.{home}
-use Rattle.bd_machine.specs.Changes.{counts_got, has_base}
+use Rattle.bd_machine.specs.BlockMap.{below, home, stands_on, StandsOnEarlier}
+use Rattle.bd_machine.specs.Changes.{counts_got}
 use Rattle.bd_machine.specs.Content.{Told}
 use Rattle.bd_machine.specs.Laws.{one_if}
 use Rattle.bd_machine.specs.Limits.{is_limited}
 use Rattle.bd_machine.specs.Registry.{references, is_live, is_live_standing, standing_if_any}
 use Rattle.bd_machine.specs.Same.{same_dev}
 use Rattle.bd_machine.specs.Start.{start, part_at_start, device_at_start, registry_at_start, bare_registry, with_channel, with_channels, base_handle_at_start, handles_from}
-use Rattle.bd_machine.specs.Stacking.{IsStacked}
-use Rattle.bd_machine.specs.Users.{BaseHandle, all_devices, base_handles, dev_of}
+use Rattle.bd_machine.specs.Users.{all_devices, dev_of, firsts}
 use Rattle.bd_machine.specs.View.{blank_part, is_of, part_of}
 use Rattle.bd_machine.proofs.Laws.{counts-own, channels-other}
 use Rattle.bd_machine.proofs.Tables.{dev_exact}
-use Rattle.bd_law_runs.proofs.Channels.{Covered, above, val, is_on_top, got_covered}
+use Rattle.bd_law_runs.proofs.Channels.{Covered, above, val, is_on_top, is_base_at, got_covered, deep_at}
 use Rattle.bd_law_runs.proofs.Counted.{InOrder, LiveFine, pending, users_on, weaker}
 use Rattle.bd_law_runs.proofs.Fit.{Fit, Counts}
 use Rattle.bd_law_runs.proofs.Names.{FineNames, is_putter, puts}
@@ -48,7 +47,7 @@ between_kept : (setup : Setup) (ds : List DevId) (r : Registry) → (with_channe
 between_kept setup [] r = refl
 between_kept setup (d ∷ ds) r = between_kept setup ds (with_channel setup d r)
 
-first_order : (setup : Setup) (n m : ℕ) (ds : List BaseHandle) → n + length ds ≡ m → InOrder n (handles_from setup n ds) m
+first_order : (setup : Setup) (n m : ℕ) (ds : List DevId) → n + length ds ≡ m → InOrder n (handles_from setup n ds) m
 first_order setup n m [] e = go n m e
   where
     go : (n m : ℕ) → n + 0 ≡ m → n ≤ m
@@ -61,10 +60,14 @@ first_order setup n m (d ∷ ds) e = (le_refl n, subst (λ (k : ℕ). InOrder k 
     more : (a b c : ℕ) → a + suc b ≡ c → a + 1 + b ≡ c
     more a b c e = omega arith
 
+-- a base handle at first
+abbrev base_handle_of : Setup → ℕ → DevId → Handle
+base_handle_of setup n x = base_handle_at_start setup n x (unwrap_or (stands_on setup x) x)
+
 -- they are base handles, which no reference is for
-no_users : (setup : Setup) (t n : ℕ) (ds : List BaseHandle) (d : DevId) → n + length ds ≡ length (base_handles setup) → users_on setup (filter (is_of t) (handles_from setup n ds)) d ≡ 0
+no_users : (setup : Setup) (t n : ℕ) (ds : List DevId) (d : DevId) → n + length ds ≡ length (firsts setup) → users_on setup (filter (is_of t) (handles_from setup n ds)) d ≡ 0
 no_users setup t n [] d e = refl
-no_users setup t n (x ∷ xs) d e = go (home setup x.first == t) (no_users setup t (n + 1) xs d (more n (length xs) (length (base_handles setup)) e))
+no_users setup t n (x ∷ xs) d e = go (home setup x == t) (no_users setup t (n + 1) xs d (more n (length xs) (length (firsts setup)) e))
   where
     more : (a b c : ℕ) → a + suc b ≡ c → a + 1 + b ≡ c
     more a b c e = omega arith
@@ -72,29 +75,29 @@ no_users setup t n (x ∷ xs) d e = go (home setup x.first == t) (no_users setup
     less : (a b c : ℕ) → a + suc b ≡ c → a < c
     less a b c e = omega arith
 
-    base : nat_lt n (length (base_handles setup)) ≡ true
-    base = lt-ltb n (length (base_handles setup)) (less n (length xs) (length (base_handles setup)) e)
+    base : nat_lt n (length (firsts setup)) ≡ true
+    base = lt-ltb n (length (firsts setup)) (less n (length xs) (length (firsts setup)) e)
 
     none : (a c : Bool) (m : ℕ) → c ≡ true → m ≡ 0 → one_if (a && not c) + m ≡ 0
     none true true m e h = omega arith
     none false true m e h = omega arith
     none a false m e h = cc
 
-    go : (b : Bool) → users_on setup (filter (is_of t) (handles_from setup (n + 1) xs)) d ≡ 0 → users_on setup (cond b (base_handle_at_start setup n x ∷ filter (is_of t) (handles_from setup (n + 1) xs)) (filter (is_of t) (handles_from setup (n + 1) xs))) d ≡ 0
-    go true k = none (same_dev (base_handle_at_start setup n x).dev d) (nat_lt n (length (base_handles setup))) (users_on setup (filter (is_of t) (handles_from setup (n + 1) xs)) d) base k
+    go : (b : Bool) → users_on setup (filter (is_of t) (handles_from setup (n + 1) xs)) d ≡ 0 → users_on setup (cond b (base_handle_of setup n x ∷ filter (is_of t) (handles_from setup (n + 1) xs)) (filter (is_of t) (handles_from setup (n + 1) xs))) d ≡ 0
+    go true k = none (same_dev (base_handle_of setup n x).dev d) (nat_lt n (length (firsts setup))) (users_on setup (filter (is_of t) (handles_from setup (n + 1) xs)) d) base k
     go false k = k
 
 -- ---- channels
 
-module _ (setup : Setup) (stacked : IsStacked setup) (t : ℕ) where
+module _ (setup : Setup) (ordered : StandsOnEarlier setup) (t : ℕ) where
   abbrev counted_for : List DevId → DevId → ℕ
   counted_for ds d = count_in (λ (x : DevId). same_dev x d && (home setup x == t)) ds
 
   one_got : (dev : DevId) (r : Registry) (need : DevId → ℕ) → Covered setup need (references r t) (λ d. 0) → Covered setup (λ d. need d + one_if (same_dev dev d && (home setup dev == t))) (references (with_channel setup dev r) t) (λ d. 0)
   one_got dev r need c = go (cases_eq (home setup dev) t)
     where
-      own : (home setup dev ≡ t) → (d : DevId) → references (with_channel setup dev r) t d ≡ counts_by (counts_got setup (references r t) dev) (references r t) d
-      own same d = subst (λ (u : ℕ). references (with_channel setup dev r) u d ≡ counts_by (counts_got setup (references r u) dev) (references r u) d) same (counts-own (home setup dev) (counts_got setup (references r (home setup dev)) dev) r.channels d)
+      own : (home setup dev ≡ t) → (d : DevId) → references (with_channel setup dev r) t d ≡ counts_by (counts_got (references r t) (below setup dev)) (references r t) d
+      own same d = subst (λ (u : ℕ). references (with_channel setup dev r) u d ≡ counts_by (counts_got (references r u) (below setup dev)) (references r u) d) same (counts-own (home setup dev) (counts_got (references r (home setup dev)) (below setup dev)) r.channels d)
 
       other : (home setup dev ≡ t → ⊥) → (d : DevId) → references (with_channel setup dev r) t d ≡ references r t d
       other ne d = channels-other setup (home setup dev) t ne r (Some (record { event = events.GetChannel dev; answer = answers.Got true [] })) d
@@ -121,9 +124,9 @@ module _ (setup : Setup) (stacked : IsStacked setup) (t : ℕ) where
       go : (home setup dev ≡ t) ⊎ (home setup dev ≡ t → ⊥) → Covered setup (λ d. need d + one_if (same_dev dev d && (home setup dev == t))) (references (with_channel setup dev r) t) (λ d. 0)
       go (inl same) =
           subst (λ (f : DevId → Option ℕ). Covered setup (λ d. need d + one_if (same_dev dev d && (home setup dev == t))) f (λ d. 0)) (sym (fun_ext (own same)))
-          (weaker setup (λ d. need d + one_if (same_dev dev d)) (λ d. need d + one_if (same_dev dev d && (home setup dev == t))) (counts_by (counts_got setup (references r t) dev) (references r t)) (λ d. 0) (λ d. 0)
+          (weaker setup (λ d. need d + one_if (same_dev dev d)) (λ d. need d + one_if (same_dev dev d && (home setup dev == t))) (counts_by (counts_got (references r t) (below setup dev)) (references r t)) (λ d. 0) (λ d. 0)
           (λ d. less (need d) (one_if (same_dev dev d)) (one_if (same_dev dev d && (home setup dev == t))) (at_most (same_dev dev d) (home setup dev == t))) (λ d. le_refl 0)
-          (got_covered setup stacked (λ d. need d + one_if (same_dev dev d)) (references r t) dev
+          (got_covered setup ordered (λ d. need d + one_if (same_dev dev d)) (length setup.devices) dev 0 (references r t) (references r t) (deep_at setup ordered (λ d. need d + one_if (same_dev dev d)) dev) (λ d k. refl)
           (λ d. more (need d) (above setup (references r t) d) (val (references r t d)) (one_if (same_dev dev d)) (c d))))
       go (inr ne) =
           subst (λ (f : DevId → Option ℕ). Covered setup (λ d. need d + one_if (same_dev dev d && (home setup dev == t))) f (λ d. 0)) (sym (fun_ext (other ne)))
@@ -156,7 +159,7 @@ module _ (setup : Setup) (stacked : IsStacked setup) (t : ℕ) where
 
       nothing : (n : ℕ) → count_to (λ k. is_on_top setup (λ d. None) d k) n ≤ 0
       nothing zero = omega arith
-      nothing (suc n) = by (is_on_top setup (λ d. None) d n) (count_to (λ k. is_on_top setup (λ d. None) d k) n) (no_and (has_base setup d (dev_of n))) (nothing n)
+      nothing (suc n) = by (is_on_top setup (λ d. None) d n) (count_to (λ k. is_on_top setup (λ d. None) d k) n) (no_and (is_base_at d (stands_on setup (dev_of n)))) (nothing n)
         where
           by : (b : Bool) (m : ℕ) → b ≡ false → m ≤ 0 → one_if b + m ≤ 0
           by true m e h = cc
@@ -206,9 +209,9 @@ module _ (setup : Setup) (stacked : IsStacked setup) (t : ℕ) where
   first_counts told = record {
     extra = first_extra;
     covered = subst (λ (hs : List Handle). Covered setup (λ d. users_on setup (filter (is_of t) hs) d + first_extra d) (references (registry_at_start setup) t) (pending (registry_at_start setup).between t)) (sym (handles_kept setup (filter (is_limited setup) (all_devices setup)) (bare_registry setup)))
-        (subst (λ (o : Option Between). Covered setup (λ d. users_on setup (filter (is_of t) (handles_from setup 0 (base_handles setup))) d + first_extra d) (references (registry_at_start setup) t) (pending o t)) (sym (between_kept setup (filter (is_limited setup) (all_devices setup)) (bare_registry setup)))
-        (weaker setup (λ d. 0 + counted_for (filter (is_limited setup) (all_devices setup)) d) (λ d. users_on setup (filter (is_of t) (handles_from setup 0 (base_handles setup))) d + first_extra d) (references (registry_at_start setup) t) (λ d. 0) (pending None t)
-        (λ d. sums (users_on setup (filter (is_of t) (handles_from setup 0 (base_handles setup))) d) (first_extra d) (counted_for (filter (is_limited setup) (all_devices setup)) d) (no_users setup t 0 (base_handles setup) d (plus (length (base_handles setup)))) (extra_counted d)) (λ d. le_refl 0)
+        (subst (λ (o : Option Between). Covered setup (λ d. users_on setup (filter (is_of t) (handles_from setup 0 (firsts setup))) d + first_extra d) (references (registry_at_start setup) t) (pending o t)) (sym (between_kept setup (filter (is_limited setup) (all_devices setup)) (bare_registry setup)))
+        (weaker setup (λ d. 0 + counted_for (filter (is_limited setup) (all_devices setup)) d) (λ d. users_on setup (filter (is_of t) (handles_from setup 0 (firsts setup))) d + first_extra d) (references (registry_at_start setup) t) (λ d. 0) (pending None t)
+        (λ d. sums (users_on setup (filter (is_of t) (handles_from setup 0 (firsts setup))) d) (first_extra d) (counted_for (filter (is_limited setup) (all_devices setup)) d) (no_users setup t 0 (firsts setup) d (plus (length (firsts setup)))) (extra_counted d)) (λ d. le_refl 0)
         (all_got (filter (is_limited setup) (all_devices setup)) (bare_registry setup) (λ d. 0) none_at_first)));
     credit = λ d. record {
       walk = None;
@@ -249,8 +252,8 @@ module _ (setup : Setup) (stacked : IsStacked setup) (t : ℕ) where
 pub first_fit : (setup : Setup) (told : Told) → Fit setup (start setup told)
 first_fit setup told = record {
   order = subst (λ (hs : List Handle). InOrder 0 hs (registry_at_start setup).next) (sym (handles_kept setup (filter (is_limited setup) (all_devices setup)) (bare_registry setup)))
-      (subst (λ (n : ℕ). InOrder 0 (handles_from setup 0 (base_handles setup)) n) (sym (next_kept setup (filter (is_limited setup) (all_devices setup)) (bare_registry setup))) (first_order setup 0 (length (base_handles setup)) (base_handles setup) (plus (length (base_handles setup)))));
-  next = subst (λ (n : ℕ). length (base_handles setup) ≤ n) (sym (next_kept setup (filter (is_limited setup) (all_devices setup)) (bare_registry setup))) (le_refl (length (base_handles setup)));
+      (subst (λ (n : ℕ). InOrder 0 (handles_from setup 0 (firsts setup)) n) (sym (next_kept setup (filter (is_limited setup) (all_devices setup)) (bare_registry setup))) (first_order setup 0 (length (firsts setup)) (firsts setup) (plus (length (firsts setup)))));
+  next = subst (λ (n : ℕ). length (firsts setup) ≤ n) (sym (next_kept setup (filter (is_limited setup) (all_devices setup)) (bare_registry setup))) (le_refl (length (firsts setup)));
   live = subst (LiveFine setup (registry_at_start setup)) (sym (between_kept setup (filter (is_limited setup) (all_devices setup)) (bare_registry setup))) tt;
   names = λ u. names (range_with_len 0 setup.threads) u u;
   rows = λ u. rows (range_with_len 0 setup.threads) u (filter (is_of u) (registry_at_start setup).handles);

@@ -1,7 +1,6 @@
 -- What the registry's events make of a thread's references: each device has one for each of the thread's handles on it, each channel above it, and each put that is still to come.
-use Rattle.std.proofs.Common.{◌≡◌, ℕ, suc, ◌+◌, ◌-◌, ◌<◌, ◌≤◌, Bool, true, false, cond, not, ◌&&◌, ◌||◌, ◌==◌, List, [], ◌∷◌, ◌++◌, map, Option, Some, None, is_some, is_none, refl, sym, ◌∙◌, ap, subst, eqb-true, eq-eqb, ne_eqb, arith, le_refl}
+use Rattle.std.proofs.Common.{◌≡◌, ℕ, suc, ◌+◌, ◌-◌, ◌<◌, ◌≤◌, Bool, true, false, cond, not, ◌&&◌, ◌||◌, ◌==◌, List, [], ◌∷◌, ◌++◌, length, map, Option, Some, None, is_some, is_none, refl, sym, ◌∙◌, ap, subst, eqb-true, eq-eqb, ne_eqb, arith, le_refl}
 use Rattle.std.specs.Prelude.{slice_get}
-use Rattle.std.specs.Cmp.Lexicographic.{pointwise}
 use Rattle.std.specs.List.{filter, list_any}
 use Rattle.std.proofs.lemmas.Bool.{and_parts, and_from}
 use Rattle.bd_base.specs.declared.event.Answer.{Answer}
@@ -22,17 +21,16 @@ use Rattle.bd_machine.specs.declared.state.Registry.{Registry}
 use Rattle.bd_machine.specs.declared.state.State.{State}
 use Rattle.bd_machine.specs.Alone.{counts_by}
 use Rattle.bd_machine.specs.Asked.{asks_between, is_handle_on, may_close, is_get_of, is_close_on, open_on}
-use Rattle.bd_machine.specs.BlockMap.{bases_of}
-use Rattle.bd_machine.specs.Changes.{handles_after, counts_after, counts_got, between_after, with_claim, bases_put, is_dropped}
+use Rattle.bd_machine.specs.BlockMap.{below, stands_on, StandsOnEarlier}
+use Rattle.bd_machine.specs.Changes.{handles_after, counts_after, counts_got, between_after, with_claim, base_put, is_dropped}
 use Rattle.bd_machine.specs.Laws.{one_if}
 use Rattle.bd_machine.specs.Registry.{is_own, are_live, handle_of, references, answer_to, get_answer, is_born_frozen, made, close_answer, freed_by_close, put_answer, drop_answer, other_threads_of, zero_by_drop, if_so, is_bare, handles_on, is_count}
 use Rattle.bd_machine.specs.Same.{same_dev, same_handle, same_answer, same_dropped, same_if_any}
-use Rattle.bd_machine.specs.Stacking.{IsStacked}
 use Rattle.bd_machine.specs.Threads.{is_nobody}
 use Rattle.bd_machine.specs.Users.{is_base_handle}
 use Rattle.bd_machine.specs.View.{View, Came, view, is_of}
 use Rattle.bd_machine.proofs.Tables.{dev_exact}
-use Rattle.bd_law_runs.proofs.Channels.{Covered, above, val, with_one, got_covered, put_covered, dropped_covered}
+use Rattle.bd_law_runs.proofs.Channels.{Covered, above, val, with_one, got_covered, deep_at, put_covered, dropped_covered}
 use Rattle.bd_law_runs.proofs.Sums.{count_in, in_push, in_filter, in_filter_less, in_map}
 
 differ : {b : Bool} → b ≡ true → b ≡ false → ⊥
@@ -202,7 +200,7 @@ may_close_is setup t v came id h =
     let r = and_parts a b q.0 in
     (not_true (is_base_handle setup id) r.0, (r.1, q.1))
 
-module _ (setup : Setup) (stacked : IsStacked setup) (s : State) (t : ℕ) (came : Came) (more less : DevId → ℕ)
+module _ (setup : Setup) (ordered : StandsOnEarlier setup) (s : State) (t : ℕ) (came : Came) (more less : DevId → ℕ)
     (fine : LiveFine setup s.registry s.registry.between) (order : InOrder 0 s.registry.handles s.registry.next) where
   abbrev hs : List Handle
   hs = filter (is_of t) s.registry.handles
@@ -246,11 +244,11 @@ module _ (setup : Setup) (stacked : IsStacked setup) (s : State) (t : ℕ) (came
       go a b h y e false f = cc
 
   -- a channel is got
-  got : (u : ℕ) (dev : DevId) → u ≡ t → ((d : DevId) → less d ≤ more d) → Before (Some (Opening u dev)) → After hs (counts_by (counts_got setup refs dev) refs) None
+  got : (u : ℕ) (dev : DevId) → u ≡ t → ((d : DevId) → less d ≤ more d) → Before (Some (Opening u dev)) → After hs (counts_by (counts_got refs (below setup dev)) refs) None
   got u dev same l c =
-      weaker setup need (λ d. users_on setup hs d + less d) (counts_by (counts_got setup refs dev) refs) (λ d. 0) (pending None t)
+      weaker setup need (λ d. users_on setup hs d + less d) (counts_by (counts_got refs (below setup dev)) refs) (λ d. 0) (pending None t)
       (λ d. sum_less (less d) (more d) (users_on setup hs d) (l d)) (λ d. le_refl 0)
-      (got_covered setup stacked need refs dev
+      (got_covered setup ordered need (length setup.devices) dev 0 refs refs (deep_at setup ordered need dev) (λ d k. refl)
       (weaker setup need need refs (pending (Some (Opening u dev)) t) (λ d. one_if (same_dev dev d)) (λ d. le_refl (need d)) (λ d. by (u == t) (same_dev dev d)) c))
     where
       by : (a b : Bool) → one_if (a && b) ≤ one_if b
@@ -266,7 +264,7 @@ module _ (setup : Setup) (stacked : IsStacked setup) (s : State) (t : ℕ) (came
       f = is_none (references s.registry t dev)
 
       fs : List DevId
-      fs = filter (λ d. is_born_frozen (slice_get s.registry.devices d.0)) (made setup (references s.registry t) dev)
+      fs = filter (λ d. is_born_frozen (slice_get s.registry.devices d.0)) (made (references s.registry t) (below setup dev))
 
       by : (a : Answer) → same_answer a (answers.Got f fs) ≡ true → (fresh : Bool) × ((frozen : List DevId) × (a ≡ answers.Got fresh frozen))
       by (answers.Got x y) h = (x, (y, refl))
@@ -284,23 +282,23 @@ module _ (setup : Setup) (stacked : IsStacked setup) (s : State) (t : ℕ) (came
           by true h = cc
           by false h = eqb-true left (n - 1) h
 
-  down : (dev : DevId) (left : ℕ) → same_answer (answers.PutDown left) (put_answer (refs dev)) ≡ true → Before None → Covered setup need (with_one refs dev (Some left)) (λ d. one_if (same_dev dev d))
+  down : (dev : DevId) (left : ℕ) → same_answer (answers.PutDown left) (put_answer (refs dev)) ≡ true → Before None → Covered setup need (with_one setup ordered need refs dev (Some left)) (λ d. one_if (same_dev dev d))
   down dev left h c = go (put_down dev left h)
     where
-      go : (n : ℕ) × ((refs dev ≡ Some n) × (left ≡ n - 1)) → Covered setup need (with_one refs dev (Some left)) (λ d. one_if (same_dev dev d))
-      go (n, (e, is)) = subst (λ (k : ℕ). Covered setup need (with_one refs dev (Some k)) (λ d. one_if (same_dev dev d))) (sym is) (put_covered setup stacked need refs dev n e c)
+      go : (n : ℕ) × ((refs dev ≡ Some n) × (left ≡ n - 1)) → Covered setup need (with_one setup ordered need refs dev (Some left)) (λ d. one_if (same_dev dev d))
+      go (n, (e, is)) = subst (λ (k : ℕ). Covered setup need (with_one setup ordered need refs dev (Some k)) (λ d. one_if (same_dev dev d))) (sym is) (put_covered setup ordered need refs dev n e c)
 
-  put_closing : (dev : DevId) (left : ℕ) → same_answer (answers.PutDown left) (put_answer (refs dev)) ≡ true → ((d : DevId) → less d ≤ more d) → Before None → After hs (with_one refs dev (Some left)) (Some (Closing t dev))
+  put_closing : (dev : DevId) (left : ℕ) → same_answer (answers.PutDown left) (put_answer (refs dev)) ≡ true → ((d : DevId) → less d ≤ more d) → Before None → After hs (with_one setup ordered need refs dev (Some left)) (Some (Closing t dev))
   put_closing dev left h l c =
-      weaker setup need (λ d. users_on setup hs d + less d) (with_one refs dev (Some left)) (λ d. one_if (same_dev dev d)) (pending (Some (Closing t dev)) t)
+      weaker setup need (λ d. users_on setup hs d + less d) (with_one setup ordered need refs dev (Some left)) (λ d. one_if (same_dev dev d)) (pending (Some (Closing t dev)) t)
       (λ d. sum_less (less d) (more d) (users_on setup hs d) (l d)) (λ d. by (t == t) (same_dev dev d) (eq-eqb t t refl)) (down dev left h c)
     where
       by : (a b : Bool) → a ≡ true → one_if b ≤ one_if (a && b)
       by true b e = le_refl (one_if b)
       by false b e = cc
 
-  put_by_home : (dev : DevId) (left : ℕ) → same_answer (answers.PutDown left) (put_answer (refs dev)) ≡ true → ((d : DevId) → less d + one_if (same_dev dev d) ≤ more d) → Before None → After hs (with_one refs dev (Some left)) None
-  put_by_home dev left h l c d = go (users_on setup hs d) (less d) (more d) (above setup (with_one refs dev (Some left)) d) (val (with_one refs dev (Some left) d)) (one_if (same_dev dev d)) (l d) (down dev left h c d)
+  put_by_home : (dev : DevId) (left : ℕ) → same_answer (answers.PutDown left) (put_answer (refs dev)) ≡ true → ((d : DevId) → less d + one_if (same_dev dev d) ≤ more d) → Before None → After hs (with_one setup ordered need refs dev (Some left)) None
+  put_by_home dev left h l c d = go (users_on setup hs d) (less d) (more d) (above setup (with_one setup ordered need refs dev (Some left)) d) (val (with_one setup ordered need refs dev (Some left) d)) (one_if (same_dev dev d)) (l d) (down dev left h c d)
     where
       go : (x a b n v i : ℕ) → a + i ≤ b → x + b + n ≤ v + i → x + a + n ≤ v + 0
       go x a b n v i h k = omega arith
@@ -380,8 +378,8 @@ module _ (setup : Setup) (stacked : IsStacked setup) (s : State) (t : ℕ) (came
       keeps d x false = refl
 
   -- a channel without references is dropped
-  dropped_is : (dev : DevId) (what : Dropped) (zero : List DevId) (gone : Option DevId) → same_answer (answers.Dropped what zero gone) (drop_answer setup s.registry t dev) ≡ true → is_dropped what ≡ true → refs dev ≡ Some 0
-  dropped_is dev what zero gone h d = go (refs dev) refl (is_count 0 (refs dev)) refl h
+  dropped_is : (dev : DevId) (what : Dropped) (base gone : Option DevId) → same_answer (answers.Dropped what base gone) (drop_answer setup s.registry t dev) ≡ true → is_dropped what ≡ true → refs dev ≡ Some 0
+  dropped_is dev what base gone h d = go (refs dev) refl (is_count 0 (refs dev)) refl h
     where
       kept : (what : Dropped) → same_dropped what dropped.Kept ≡ true → is_dropped what ≡ true → ⊥
       kept dropped.Kept h d = cc
@@ -393,18 +391,18 @@ module _ (setup : Setup) (stacked : IsStacked setup) (s : State) (t : ℕ) (came
       some (Some n) e c = e ∙ ap (λ (k : ℕ). Some k) (eqb-true n 0 c)
 
       go : (o : Option ℕ) → refs dev ≡ o → (b : Bool) → is_count 0 (refs dev) ≡ b
-          → same_answer (answers.Dropped what zero gone) (cond b (answers.Dropped (cond (is_nobody (other_threads_of setup s.registry t dev)) dropped.Last dropped.Gone) (zero_by_drop s.registry t (bases_of setup dev)) (if_so (is_bare s.registry dev (handles_on s.registry dev) (other_threads_of setup s.registry t dev)) dev)) (answers.Dropped dropped.Kept [] None)) ≡ true
+          → same_answer (answers.Dropped what base gone) (cond b (answers.Dropped (cond (is_nobody (other_threads_of setup s.registry t dev)) dropped.Last dropped.Gone) (zero_by_drop s.registry t (stands_on setup dev)) (if_so (is_bare s.registry dev (handles_on s.registry dev) (other_threads_of setup s.registry t dev)) dev)) (answers.Dropped dropped.Kept None None)) ≡ true
           → refs dev ≡ Some 0
       go o e true c h = some (refs dev) refl c
-      go o e false c h = absurd (kept what (and_parts (same_dropped what dropped.Kept) (pointwise same_dev zero []) (and_parts (same_dropped what dropped.Kept && pointwise same_dev zero []) (same_if_any same_dev gone None) h).0).0 d)
+      go o e false c h = absurd (kept what (and_parts (same_dropped what dropped.Kept) (same_if_any same_dev base None) (and_parts (same_dropped what dropped.Kept && same_if_any same_dev base None) (same_if_any same_dev gone None) h).0).0 d)
 
-  drops : (dev : DevId) (what : Dropped) → (is_dropped what ≡ true → refs dev ≡ Some 0) → ((d : DevId) → less d ≤ more d) → Before None → After hs (counts_by (cond (is_dropped what) (bases_put refs (bases_of setup dev) ++ record { dev = dev; count = None } ∷ []) []) refs) None
+  drops : (dev : DevId) (what : Dropped) → (is_dropped what ≡ true → refs dev ≡ Some 0) → ((d : DevId) → less d ≤ more d) → Before None → After hs (counts_by (cond (is_dropped what) (base_put refs (stands_on setup dev) ++ record { dev = dev; count = None } ∷ []) []) refs) None
   drops dev what zero_is l c =
-      weaker setup need (λ d. users_on setup hs d + less d) (counts_by (cond (is_dropped what) (bases_put refs (bases_of setup dev) ++ record { dev = dev; count = None } ∷ []) []) refs) (λ d. 0) (pending None t)
+      weaker setup need (λ d. users_on setup hs d + less d) (counts_by (cond (is_dropped what) (base_put refs (stands_on setup dev) ++ record { dev = dev; count = None } ∷ []) []) refs) (λ d. 0) (pending None t)
       (λ d. sum_less (less d) (more d) (users_on setup hs d) (l d)) (λ d. le_refl 0) (go (is_dropped what) refl)
     where
-      go : (b : Bool) → is_dropped what ≡ b → Covered setup need (counts_by (cond b (bases_put refs (bases_of setup dev) ++ record { dev = dev; count = None } ∷ []) []) refs) (λ d. 0)
-      go true e = dropped_covered setup stacked need refs dev (zero_is e) c
+      go : (b : Bool) → is_dropped what ≡ b → Covered setup need (counts_by (cond b (base_put refs (stands_on setup dev) ++ record { dev = dev; count = None } ∷ []) []) refs) (λ d. 0)
+      go true e = dropped_covered setup ordered need refs dev (zero_is e) c
       go false e = c
 
   -- ---- a close that follows a put
@@ -484,7 +482,7 @@ module _ (setup : Setup) (stacked : IsStacked setup) (s : State) (t : ℕ) (came
       go (Some (Closing u d)) e (events.Close id) a h q sp c = closed_then d id a u (and_parts (u == t) (is_close_on setup t (view s t) came d (events.Close id)) q).1 h sp c
       go o e (events.Claim id kind) answers.Claimed h q sp c = claimed id kind sp (none o (events.Claim id kind) refl q c)
       go o e (events.Claim id kind) _ h q sp c = plain o (events.Claim id kind) refl q sp c
-      go o e (events.DropChannel dev) (answers.Dropped what zero destruct) h q sp c = drops dev what (dropped_is dev what zero destruct h) sp (none o (events.DropChannel dev) refl q c)
+      go o e (events.DropChannel dev) (answers.Dropped what base destruct) h q sp c = drops dev what (dropped_is dev what base destruct h) sp (none o (events.DropChannel dev) refl q c)
       go o e (events.DropChannel dev) _ h q sp c = plain o (events.DropChannel dev) refl q sp c
       go o e (events.BeginRemove name) a h q sp c = plain o (events.BeginRemove name) refl q sp c
       go o e (events.BeginReset dev req) a h q sp c = plain o (events.BeginReset dev req) refl q sp c

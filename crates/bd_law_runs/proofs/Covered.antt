@@ -43,7 +43,7 @@ use Rattle.bd_machine.specs.Asked.{is_reset_at}
 use Rattle.bd_machine.specs.BlockMap.{size_of}
 use Rattle.bd_machine.specs.Changes.{is_dropped}
 use Rattle.bd_machine.specs.Completion.{pieces_of}
-use Rattle.bd_machine.specs.Events.{paid, with_due, device_due, channels_due, gone_due, go_due, alone, closed_by, got_by, put_paid, put_down_by, dropped_by, destruct_of, removal_paid, with_reset, advanced, freed_by, removing, reset_begun, reset_thaws, reset_finishes, injection_taken, drain_time, decided_by, due_to, resizing, resized, sized_due, change_reg, first_req}
+use Rattle.bd_machine.specs.Events.{paid, with_due, device_due, channel_due, gone_due, go_due, alone, closed_by, got_by, put_paid, put_down_by, dropped_by, destruct_of, removal_paid, with_reset, advanced, freed_by, removing, reset_begun, reset_thaws, reset_finishes, injection_taken, drain_time, decided_by, due_to, resizing, resized, sized_due, change_reg, first_req}
 use Rattle.bd_machine.specs.Aborts.{aborted}
 use Rattle.bd_machine.specs.Delays.{held, released}
 use Rattle.bd_machine.specs.Guards.{guards, change, change_by, prior_by, noted}
@@ -409,9 +409,9 @@ module _ (reset : ReqId) (D : DevId → Type 0) (busy : ℕ → Bool) where
     device_fine setup None = tt
     device_fine setup (Some d) = (tt, tt)
 
-    channels_fine : (ds : List DevId) → DueFine (channels_due t ds)
-    channels_fine [] = tt
-    channels_fine (d ∷ ds) = (tt, channels_fine ds)
+    channel_fine : (o : Option DevId) → DueFine (channel_due t o)
+    channel_fine None = tt
+    channel_fine (Some d) = (tt, tt)
 
     gone_fine : (hs : List (HandleId × ThreadId)) → DueFine (map gone_due hs)
     gone_fine [] = tt
@@ -425,9 +425,9 @@ module _ (reset : ReqId) (D : DevId → Type 0) (busy : ℕ → Bool) where
     alone_leaves p q h rows due = record { rows = rows_leave p q h rows; due = due_leaves p q h due; moves = tt }
 
     put_down_fine : (d : DevId) (a : Answer) (p : Part) → RowsFine t (mine reset p.resets) → DueFine p.due → Fine (alone (put_down_by t d a p))
-    put_down_fine d (answers.PutDown left) p rows due = record { rows = rows; due = both_due p.due (cond (left == 0) (channels_due t (d ∷ [])) []) due (go (left == 0)); moves = tt }
+    put_down_fine d (answers.PutDown left) p rows due = record { rows = rows; due = both_due p.due (cond (left == 0) (channel_due t (Some d)) []) due (go (left == 0)); moves = tt }
       where
-        go : (b : Bool) → DueFine (cond b (channels_due t (d ∷ [])) [])
+        go : (b : Bool) → DueFine (cond b (channel_due t (Some d)) [])
         go true = (tt, tt)
         go false = tt
     put_down_fine d _ p rows due = record { rows = rows; due = due; moves = tt }
@@ -440,7 +440,7 @@ module _ (reset : ReqId) (D : DevId → Type 0) (busy : ℕ → Bool) where
             let l = dropped_leaves d (is_dropped what) p in
             record {
               rows = rows_leave p (cond (is_dropped what) (remarked d (with_frozen Not) p) p) l rows;
-              due = both_due _ (device_due setup destruct) (both_due _ (channels_due t zero) (due_leaves p (cond (is_dropped what) (remarked d (with_frozen Not) p) p) l due) (channels_fine zero)) (device_fine setup destruct);
+              due = both_due _ (device_due setup destruct) (both_due _ (channel_due t zero) (due_leaves p (cond (is_dropped what) (remarked d (with_frozen Not) p) p) l due) (channel_fine zero)) (device_fine setup destruct);
               moves = tt;
             }
         go a = record { rows = rows; due = both_due p.due (device_due setup (destruct_of a)) due (device_fine setup (destruct_of a)); moves = tt }

@@ -1,8 +1,6 @@
 -- What the registry's answers say, and what its events leave of the order of its handles, and of what is live where a channel has to follow.
-use Rattle.std.proofs.Common.{◌≡◌, ℕ, zero, suc, ◌+◌, ◌<◌, ◌≤◌, Bool, true, false, cond, not, ◌&&◌, ◌==◌, nat_lt, List, [], ◌∷◌, length, map, Option, Some, None, refl, sym, ◌∙◌, ap, subst, eqb-true, ltb-true, lt-ltb, arith}
-use Rattle.std.specs.Prelude.{slice_get}
-use Rattle.std.specs.List.{AllByRecursion, cons_option, filter, range_with_len}
-use Rattle.std.specs.Option.{option_map}
+use Rattle.std.proofs.Common.{◌≡◌, ℕ, suc, ◌+◌, ◌<◌, ◌≤◌, Bool, true, false, cond, not, ◌&&◌, ◌==◌, nat_lt, List, [], ◌∷◌, length, map, Option, Some, None, is_some, refl, sym, ◌∙◌, ap, subst, eqb-true, ltb-true, arith}
+use Rattle.std.specs.List.{position, position_or_len}
 use Rattle.std.proofs.lemmas.Bool.{and_parts}
 use Rattle.bd_base.specs.declared.act.Act.TheVariants as acts
 use Rattle.bd_base.specs.declared.event.Answer.{Answer}
@@ -12,7 +10,6 @@ use Rattle.bd_base.specs.declared.event.RegEvent.{RegEvent}
 use Rattle.bd_base.specs.declared.event.RegEvent.TheVariants as events
 use Rattle.bd_base.specs.declared.id.DevId.{DevId}
 use Rattle.bd_base.specs.declared.id.HandleId.{HandleId}
-use Rattle.bd_base.specs.declared.id.ThreadId.{ThreadId}
 use Rattle.bd_base.specs.declared.request.Errno.{Errno}
 use Rattle.bd_base.specs.declared.request.Errno.TheVariants.{NoDev, BadDesc, Inval}
 use Rattle.bd_base.specs.declared.setup.Setup.{Setup}
@@ -23,11 +20,11 @@ use Rattle.bd_machine.specs.declared.state.Standing.TheVariants as standings
 use Rattle.bd_machine.specs.Changes.{handles_after, next_after, between_after, registry_after, with_claim}
 use Rattle.bd_machine.specs.Claims.{open_refusal, claim_refusal}
 use Rattle.bd_machine.specs.BlockMap.{home}
-use Rattle.bd_machine.specs.Registry.{is_own, is_live, is_live_standing, are_live, handle_of, holders_on, device_named, open_answer, close_answer, freed_by_close, claim_answer, refused_or, remove_answer, remove_answer_at, standing_of, handles_on, threads_of, opener_of, if_so, is_unused, is_growing, size_now, resize_answer, resize_refusal, destructed_answer, left_among, is_free, is_last_user, answer_to}
+use Rattle.bd_machine.specs.Registry.{is_own, is_live, is_live_standing, are_live, handle_of, holders_on, device_named, open_answer, close_answer, freed_by_close, claim_answer, refused_or, remove_answer, remove_answer_at, standing_of, handles_on, threads_of, opener_of, if_so, is_unused, is_growing, size_now, resize_answer, resize_refusal, destructed_answer, left_open, is_free, is_last_user, answer_to}
 use Rattle.bd_machine.specs.Destruction.{is_removing_of}
 use Rattle.std.specs.Cmp.Lexicographic.{pointwise}
 use Rattle.bd_machine.specs.Same.{same_threads, same_holder, same_dev, same_handle, same_answer, same_if_any}
-use Rattle.bd_machine.specs.Users.{base_handles, base_handles_of, handle_of_number, is_base_handle, is_handle_of}
+use Rattle.bd_machine.specs.Users.{base_handle, firsts, handle_of_number, is_base_handle, shares_handle}
 use Rattle.bd_machine.proofs.Tables.{dev_exact}
 use Rattle.bd_law_runs.proofs.Counted.{InOrder, LiveFine, order_push, order_filter, order_map, claim_id}
 use Rattle.bd_law_runs.proofs.Names.{FreesBase, EventFine}
@@ -111,82 +108,54 @@ removed_live setup r o _ dev m h = cc
 
 -- ---- base handles
 
--- these numbers are those of base handles
-numbers_base : (setup : Setup) (is : ℕ → Bool) (a n : ℕ) → a + n ≤ length (base_handles setup) → AllByRecursion (λ (id : HandleId). is_base_handle setup id ≡ true) (map handle_of_number (filter is (range_with_len a n)))
-numbers_base setup is a zero h = tt
-numbers_base setup is a (suc n) h = go (is a) (numbers_base setup is (a + 1) n (next a n (length (base_handles setup)) h))
+base_is : (setup : Setup) (o : Option ℕ) (id : HandleId) → handle_of_number o ≡ Some id → (n : ℕ) × ((o ≡ Some n) × (id.0 ≡ n))
+base_is setup None id h = cc
+base_is setup (Some n) id h = let same : record { 0 = n } ≡ id = cc in (n, (refl, sym (ap (λ (i : HandleId). i.0) same)))
+
+base_handle_is : (setup : Setup) (dev : DevId) (id : HandleId) → base_handle setup dev ≡ Some id → is_base_handle setup id ≡ true
+base_handle_is setup dev id h = go (base_is setup (position (shares_handle setup dev) (firsts setup)) id h)
   where
-    next : (a n m : ℕ) → a + suc n ≤ m → a + 1 + n ≤ m
-    next a n m h = omega arith
+    at : (b : Bool) (k n : ℕ) → nat_lt k (length (firsts setup)) ≡ b → cond b (Some k) None ≡ Some n → nat_lt n (length (firsts setup)) ≡ true
+    at true k n e h = let same : k ≡ n = cc in subst (λ (m : ℕ). nat_lt m (length (firsts setup)) ≡ true) same e
+    at false k n e h = cc
 
-    less : (a n m : ℕ) → a + suc n ≤ m → a < m
-    less a n m h = omega arith
-
-    go : (b : Bool) → AllByRecursion (λ (id : HandleId). is_base_handle setup id ≡ true) (map handle_of_number (filter is (range_with_len (a + 1) n)))
-        → AllByRecursion (λ (id : HandleId). is_base_handle setup id ≡ true) (map handle_of_number (cond b (a ∷ filter is (range_with_len (a + 1) n)) (filter is (range_with_len (a + 1) n))))
-    go true rest = (lt-ltb a (length (base_handles setup)) (less a n (length (base_handles setup)) h), rest)
-    go false rest = rest
-
-handle_is : (hs : List Handle) (id : HandleId) (h : Handle) → handle_of hs id ≡ Some h → id ≡ h.id
-handle_is [] id h e = cc
-handle_is (x ∷ xs) id h e = go (same_handle x.id id) refl e (handle_is xs id h)
-  where
-    go : (b : Bool) → same_handle x.id id ≡ b → cond b (Some x) (handle_of xs id) ≡ Some h → (handle_of xs id ≡ Some h → id ≡ h.id) → id ≡ h.id
-    go true f e rest =
-        let same : x ≡ h = cc in
-        subst (λ (y : Handle). id ≡ y.id) same (ap (λ (n : ℕ). let i : HandleId = record { 0 = n } in i) (sym (eqb-true x.id.0 id.0 f)))
-    go false f e rest = rest e
-
-left_base : (setup : Setup) (r : Registry) (dev : DevId) (ids : List HandleId) → AllByRecursion (λ (id : HandleId). is_base_handle setup id ≡ true) ids
-    → AllByRecursion (λ (h : HandleId × ThreadId). is_base_handle setup h.0 ≡ true) (left_among setup r dev ids)
-left_base setup r dev [] h = tt
-left_base setup r dev (id ∷ ids) h = go (is_last_user setup r dev id) (handle_of r.handles id) refl (left_base setup r dev ids h.1)
-  where
-    go : (b : Bool) (o : Option Handle) → handle_of r.handles id ≡ o → AllByRecursion (λ (h : HandleId × ThreadId). is_base_handle setup h.0 ≡ true) (left_among setup r dev ids)
-        → AllByRecursion (λ (h : HandleId × ThreadId). is_base_handle setup h.0 ≡ true) (cons_option (cond b (option_map opener_of o) None) (left_among setup r dev ids))
-    go true (Some x) e rest = (subst (λ (i : HandleId). is_base_handle setup i ≡ true) (handle_is r.handles id x e) h.0, rest)
-    go true None e rest = rest
-    go false o e rest = rest
-
-same_base : (setup : Setup) (hs ks : List (HandleId × ThreadId)) → pointwise same_holder hs ks ≡ true → AllByRecursion (λ (h : HandleId × ThreadId). is_base_handle setup h.0 ≡ true) ks → AllByRecursion (λ (h : HandleId × ThreadId). is_base_handle setup h.0 ≡ true) hs
-same_base setup [] ks e all = tt
-same_base setup (h ∷ hs) [] e all = cc
-same_base setup (h ∷ hs) (k ∷ ks) e all =
-    let p = and_parts (same_holder h k) (pointwise same_holder hs ks) e in
-    let q = and_parts (same_handle h.0 k.0) (h.1.0 == k.1.0) p.0 in (
-      subst (λ (m : ℕ). nat_lt m (length (base_handles setup)) ≡ true) (sym (eqb-true h.0.0 k.0.0 q.0)) all.0,
-      same_base setup hs ks p.1 all.1,
-    )
+    go : (n : ℕ) × ((position (shares_handle setup dev) (firsts setup) ≡ Some n) × (id.0 ≡ n)) → is_base_handle setup id ≡ true
+    go (n, (e, is)) =
+        subst (λ (m : ℕ). nat_lt m (length (firsts setup)) ≡ true) (sym is)
+        (at (nat_lt (position_or_len (shares_handle setup dev) (firsts setup)) (length (firsts setup))) (position_or_len (shares_handle setup dev) (firsts setup)) n refl e)
 
 frees_base : (setup : Setup) (t : ℕ) (r : Registry) (dev : DevId) (a : Answer) → same_answer a (destructed_answer setup r dev) ≡ true → FreesBase setup t a
 frees_base setup t r dev a h = go (is_free setup r dev) a h
   where
-    all : AllByRecursion (λ (h : HandleId × ThreadId). is_base_handle setup h.0 ≡ true) (left_among setup r dev (base_handles_of setup dev))
-    all = left_base setup r dev (base_handles_of setup dev) (numbers_base setup (λ n. is_handle_of setup dev (slice_get (base_handles setup) n)) 0 (length (base_handles setup)) (plus (length (base_handles setup))))
-      where
-        plus : (n : ℕ) → 0 + n ≤ n
-        plus n = omega arith
+    kept : (b : Bool) (x id : HandleId) → same_if_any same_handle (Some id) (cond b (Some x) None) ≡ true → x ≡ id
+    kept true x id h = ap (λ (n : ℕ). let i : HandleId = record { 0 = n } in i) (sym (eqb-true id.0 x.0 h))
+    kept false x id h = cc
 
-    go : (b : Bool) (a : Answer) → same_answer a (cond b (answers.Freed (left_among setup r dev (base_handles_of setup dev))) (answers.Refused Inval)) ≡ true → FreesBase setup t a
-    go b (answers.Freed handles) h = at b h
+    by : (o : Option HandleId) (id : HandleId) → base_handle setup dev ≡ o → same_if_any same_handle (Some id) (left_open setup r dev o) ≡ true → is_base_handle setup id ≡ true
+    by None id e h = cc
+    by (Some x) id e h = base_handle_is setup dev id (e ∙ ap (λ (y : HandleId). Some y) (kept (is_some (handle_of r.handles x) && is_last_user setup r dev x) x id h))
+
+    go : (b : Bool) (a : Answer) → same_answer a (cond b (answers.Freed (left_open setup r dev (base_handle setup dev))) (answers.Refused Inval)) ≡ true → FreesBase setup t a
+    go b (answers.Freed (Some id)) h = at b h
       where
-        at : (b : Bool) → same_answer (answers.Freed handles) (cond b (answers.Freed (left_among setup r dev (base_handles_of setup dev))) (answers.Refused Inval)) ≡ true → AllByRecursion (λ (h : HandleId × ThreadId). is_base_handle setup h.0 ≡ true) handles
-        at true h = same_base setup handles (left_among setup r dev (base_handles_of setup dev)) h all
+        at : (b : Bool) → same_answer (answers.Freed (Some id)) (cond b (answers.Freed (left_open setup r dev (base_handle setup dev))) (answers.Refused Inval)) ≡ true → is_base_handle setup id ≡ true
+        at true h = by (base_handle setup dev) id refl h
         at false h = cc
+    go b (answers.Freed None) h = tt
     go b _ h = tt
 
 -- a number from the next on is no base handle's
-not_base : (setup : Setup) (next : ℕ) (id : HandleId) → length (base_handles setup) ≤ next → id.0 ≡ next → is_base_handle setup id ≡ false
-not_base setup next id h e = go (nat_lt id.0 (length (base_handles setup))) refl
+not_base : (setup : Setup) (next : ℕ) (id : HandleId) → length (firsts setup) ≤ next → id.0 ≡ next → is_base_handle setup id ≡ false
+not_base setup next id h e = go (nat_lt id.0 (length (firsts setup))) refl
   where
     clash : (a b c : ℕ) → b ≤ c → a ≡ c → a < b → ⊥
     clash a b c h e k = omega arith
 
-    go : (b : Bool) → nat_lt id.0 (length (base_handles setup)) ≡ b → b ≡ false
-    go true f = absurd (clash id.0 (length (base_handles setup)) next h e (ltb-true id.0 (length (base_handles setup)) f))
+    go : (b : Bool) → nat_lt id.0 (length (firsts setup)) ≡ b → b ≡ false
+    go true f = absurd (clash id.0 (length (firsts setup)) next h e (ltb-true id.0 (length (firsts setup)) f))
     go false f = refl
 
-pub event_fine : (setup : Setup) (r : Registry) (t : ℕ) (event : RegEvent) (a : Answer) → length (base_handles setup) ≤ r.next → Answered setup r t event a → EventFine setup t event a
+pub event_fine : (setup : Setup) (r : Registry) (t : ℕ) (event : RegEvent) (a : Answer) → length (firsts setup) ≤ r.next → Answered setup r t event a → EventFine setup t event a
 event_fine setup r t (events.Open name write) (answers.Opened id d blocks) n h = not_base setup r.next id n (opened_is setup r write (device_named setup name) id d blocks h).0
 event_fine setup r t (events.Open name write) _ n h = tt
 event_fine setup r t (events.Claim id kind) (answers.Opened i d blocks) n h = absurd (claim_opens r t kind (handle_of r.handles id) i d blocks h)
@@ -217,8 +186,8 @@ order_event setup r t (events.Claim id kind) answers.Claimed h o = order_map (λ
 order_event setup r t _ (answers.Opened id d blocks) h o = order_rises 0 r.next r.handles o
 order_event setup r t _ _ h o = o
 
-pub next_event : (setup : Setup) (r : Registry) (a : Answer) → length (base_handles setup) ≤ r.next → length (base_handles setup) ≤ next_after r.next a
-next_event setup r (answers.Opened id d blocks) h = more (length (base_handles setup)) r.next h
+pub next_event : (setup : Setup) (r : Registry) (a : Answer) → length (firsts setup) ≤ r.next → length (firsts setup) ≤ next_after r.next a
+next_event setup r (answers.Opened id d blocks) h = more (length (firsts setup)) r.next h
   where
     more : (a b : ℕ) → a ≤ b → a ≤ b + 1
     more a b h = omega arith

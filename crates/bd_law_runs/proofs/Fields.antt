@@ -39,9 +39,9 @@ use Rattle.bd_machine.specs.declared.state.Trip.TheVariants as trips
 use Rattle.bd_machine.specs.Aborts.{stopped}
 use Rattle.bd_machine.specs.Admission.{is_gone}
 use Rattle.bd_machine.specs.Asked.{owes_removal}
-use Rattle.bd_machine.specs.BlockMap.{home, size_of}
+use Rattle.bd_machine.specs.BlockMap.{below, home, size_of}
 use Rattle.bd_machine.specs.Changes.{is_dropped}
-use Rattle.bd_machine.specs.Events.{decided_by, paid, with_due, alone, closed_by, born, all_born, got_by, put_down_by, put_paid, dropped_by, removal_paid, with_reset, advanced, reset_finishes, freed_by, channels_due, removing, reset_begun, reset_thaws, injection_taken, drain_time, resizing, resized, change_reg, first_req}
+use Rattle.bd_machine.specs.Events.{decided_by, paid, owing, with_due, alone, closed_by, born, all_born, got_by, put_down_by, put_paid, dropped_by, removal_paid, with_reset, advanced, reset_finishes, freed_by, channel_due, removing, reset_begun, reset_thaws, injection_taken, drain_time, resizing, resized, change_reg, first_req}
 use Rattle.bd_machine.specs.Guards.{change}
 use Rattle.bd_machine.specs.Homes.{base_here, change_applied}
 use Rattle.bd_machine.specs.Kept.{request_here, piece_here, walk_here}
@@ -90,7 +90,7 @@ born_holds frozen [] p = unchanged _ _ refl refl
 born_holds frozen (d ∷ ds) p = holds_then p (born frozen d p) (all_born frozen ds (born frozen d p)) (unchanged _ _ refl refl) (born_holds frozen ds (born frozen d p))
 
 got_holds : (setup : Setup) (v : View) (dev : DevId) (a : Answer) → Holds v.part (got_by setup v dev a)
-got_holds setup v dev (answers.Got fresh frozen) = born_holds frozen (made setup v.channels dev) v.part
+got_holds setup v dev (answers.Got fresh frozen) = born_holds frozen (made v.channels (below setup dev)) v.part
 got_holds setup v dev _ = unchanged _ _ refl refl
 
 put_holds : (t : ℕ) (dev : DevId) (closing : Bool) (a : Answer) (p : Part) → Holds p (put_down_by t dev a (put_paid dev closing p))
@@ -102,7 +102,7 @@ put_holds t dev false _ p = unchanged _ _ refl refl
 dropped_holds : (t : ℕ) (dev : DevId) (a : Answer) (p : Part) → Holds p (dropped_by t dev a p)
 dropped_holds t dev (answers.Dropped what zero destruct) p =
     let q : Part = cond (is_dropped what) (remarked dev (with_frozen Not) p) p in
-    holds_then p q (with_due (channels_due t zero) q) (holds_cond (is_dropped what) p (remarked dev (with_frozen Not) p) p (unchanged _ _ refl refl) (unchanged _ _ refl refl)) (unchanged _ _ refl refl)
+    holds_then p q (with_due (channel_due t zero) q) (holds_cond (is_dropped what) p (remarked dev (with_frozen Not) p) p (unchanged _ _ refl refl) (unchanged _ _ refl refl)) (unchanged _ _ refl refl)
 dropped_holds t dev _ p = unchanged _ _ refl refl
 
 removal_holds : (came : Came) (a : Answer) (o : Option ℕ) (p : Part) → Holds p (removal_paid came a o p)
@@ -115,7 +115,8 @@ finishes_holds dev (answers.ResetFinished next) p = unchanged _ _ refl refl
 finishes_holds dev _ p = unchanged _ _ refl refl
 
 freed_holds : (a : Answer) (p : Part) → Holds p (freed_by a p)
-freed_holds (answers.Freed handles) p = unchanged _ _ refl refl
+freed_holds (answers.Freed (Some id)) p = unchanged _ _ refl refl
+freed_holds (answers.Freed None) p = unchanged _ _ refl refl
 freed_holds _ p = unchanged _ _ refl refl
 
 staged_holds : (req : Option ReqId) (stage : Stage) (p : Part) → Holds p (staged req stage p)
@@ -128,7 +129,7 @@ marked_holds setup t v walk dev Drain = unchanged _ _ refl refl
 marked_holds setup t v walk dev Thaw = unchanged _ _ refl refl
 marked_holds setup t v walk dev Removal =
     let p : Part = remarked dev removal_set v.part in
-    holds_then v.part p (put_owed setup t dev p) (unchanged _ _ refl refl) (holds_cond (is_limited setup dev && (home setup dev == t)) p (record p { owed = p.owed ++ owes.Put dev ∷ [] }) p (unchanged _ _ refl refl) (unchanged _ _ refl refl))
+    holds_then v.part p (put_owed setup t dev p) (unchanged _ _ refl refl) (holds_cond (is_limited setup dev && (home setup dev == t)) p (owing (owes.Put dev) p) p (unchanged _ _ refl refl) (unchanged _ _ refl refl))
 
 told_holds : (setup : Setup) (told : News) (p : Part) → Holds p (told_part setup told p)
 told_holds setup (news.Mark mark) p = unchanged _ _ refl refl

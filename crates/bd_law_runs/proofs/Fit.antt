@@ -24,11 +24,11 @@ use Rattle.bd_machine.specs.Laws.{one_if}
 use Rattle.bd_machine.specs.Registry.{Question, references}
 use Rattle.bd_machine.specs.Same.{same_dev}
 use Rattle.bd_machine.specs.Step.{guards_in, change_in, refusal, after}
-use Rattle.bd_machine.specs.Stacking.{IsStacked}
-use Rattle.bd_machine.specs.Users.{base_handles}
+use Rattle.bd_machine.specs.Users.{firsts}
 use Rattle.bd_machine.specs.View.{View, Came, view, came_for, part_of, asked, is_of}
 use Rattle.bd_machine.proofs.Acts.{Passes, passed, IsFresh}
 use Rattle.bd_machine.proofs.Steps.{allowed_passes, part_is, part_stays, own, frame}
+use Rattle.bd_machine.specs.BlockMap.{StandsOnEarlier}
 use Rattle.bd_law_runs.proofs.Channels.{Covered}
 use Rattle.bd_law_runs.proofs.Counted.{InOrder, LiveFine, Spends, pending, users_on, weaker, covered_event}
 use Rattle.bd_law_runs.proofs.Credits.{Credit, credit_after, credit_pays, is_put_by_home, registry_is}
@@ -40,7 +40,7 @@ use Rattle.bd_law_runs.proofs.Opened.{RowsOpen, rows_act}
 -- handles are numbered in order, names and requests stand on none of a base, and each open request's handle is open
 pub record Fit (setup : Setup) (s : State) : Type 0 where
   pub order : InOrder 0 s.registry.handles s.registry.next
-  pub next : length (base_handles setup) ≤ s.registry.next
+  pub next : length (firsts setup) ≤ s.registry.next
   pub live : LiveFine setup s.registry s.registry.between
   pub names : (t : ℕ) → FineNames setup t (part_of s t)
   pub rows : (t : ℕ) → RowsOpen setup (filter (is_of t) s.registry.handles) (part_of s t).requests
@@ -68,7 +68,7 @@ module _ (setup : Setup) (s : State) (e : Entry) (fresh : IsFresh s) (allowed : 
   order_of (acts.Reg event a) p = order_event setup s.registry e.thread event a (passed (guards_in setup s e.thread (acts.Reg event a)) p).0 fit.order
   order_of _ p = fit.order
 
-  next_of : (act : Act) → length (base_handles setup) ≤ (registry_after setup s.registry e.thread (asked act)).next
+  next_of : (act : Act) → length (firsts setup) ≤ (registry_after setup s.registry e.thread (asked act)).next
   next_of (acts.Reg event a) = next_event setup s.registry a fit.next
   next_of _ = fit.next
 
@@ -108,7 +108,7 @@ module _ (setup : Setup) (s : State) (e : Entry) (fresh : IsFresh s) (allowed : 
   pub fit_after : Fit setup (after setup s e)
   fit_after = record {
     order = subst (λ (r : Registry). InOrder 0 r.handles r.next) (sym (registry_is setup s e)) (order_of e.act passes);
-    next = subst (λ (r : Registry). length (base_handles setup) ≤ r.next) (sym (registry_is setup s e)) (next_of e.act);
+    next = subst (λ (r : Registry). length (firsts setup) ≤ r.next) (sym (registry_is setup s e)) (next_of e.act);
     live = subst (λ (r : Registry). LiveFine setup r r.between) (sym (registry_is setup s e)) (live_of e.act passes);
     names = names_on;
     rows = rows_on;
@@ -116,7 +116,7 @@ module _ (setup : Setup) (s : State) (e : Entry) (fresh : IsFresh s) (allowed : 
 
 -- ---- references
 
-module _ (setup : Setup) (stacked : IsStacked setup) (s : State) (e : Entry) (fresh : IsFresh s) (allowed : refusal setup s e ≡ None) (fit : Fit setup s) (counts : (t : ℕ) → Counts setup t s) where
+module _ (setup : Setup) (ordered : StandsOnEarlier setup) (s : State) (e : Entry) (fresh : IsFresh s) (allowed : refusal setup s e ≡ None) (fit : Fit setup s) (counts : (t : ℕ) → Counts setup t s) where
   may_happen : Passes (guards_in setup s e.thread e.act)
   may_happen = allowed_passes setup s e allowed
 
@@ -186,7 +186,7 @@ module _ (setup : Setup) (stacked : IsStacked setup) (s : State) (e : Entry) (fr
           let ok = passed (guards_in setup s e.thread (acts.Reg event a)) p in
           subst (λ (x : Act). CoveredBy e.thread (left_extra e.thread c.extra) (own_handles_after e.thread (view s e.thread).handles (asked x)) (own_channels_after setup (view s e.thread).channels (asked x)) (after setup s e).registry.between) (sym is)
           (subst (λ (o : Option Between). CoveredBy e.thread (left_extra e.thread c.extra) (handles_after e.thread (view s e.thread).handles event a) (counts_by (counts_after setup (references s.registry e.thread) event a) (references s.registry e.thread)) o) (sym (between_is (acts.Reg event a) is))
-          (covered_event setup stacked s e.thread (came_for setup s e.thread (acts.Reg event a)) c.extra (left_extra e.thread c.extra) fit.live fit.order event a ok.0 ok.1.0 (spends event a is c) c.covered))
+          (covered_event setup ordered s e.thread (came_for setup s e.thread (acts.Reg event a)) c.extra (left_extra e.thread c.extra) fit.live fit.order event a ok.0 ok.1.0 (spends event a is c) c.covered))
       go act is p = others act is refl
         where
           others : (act : Act) → e.act ≡ act → asked act ≡ None → CoveredBy e.thread (left_extra e.thread c.extra) (own_handles_after e.thread (view s e.thread).handles (asked e.act)) (own_channels_after setup (view s e.thread).channels (asked e.act)) (after setup s e).registry.between

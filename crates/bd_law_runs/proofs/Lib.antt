@@ -1,5 +1,4 @@
 pub mod Sums
-pub mod Stacked
 pub mod Channels
 pub mod Fields
 pub mod Names

@@ -1,6 +1,6 @@
 -- A part's names, decisions and debts: no name is bound to a base handle, only base handles are closed as owed, and a put is owed by the home of a limited device alone, as often as a walk of its removal came.
-use Rattle.std.proofs.Common.{◌≡◌, ℕ, ◌+◌, ◌≤◌, ◌==◌, Bool, true, false, cond, not, ◌&&◌, ◌||◌, List, [], ◌∷◌, ◌++◌, map, Option, Some, None, refl, sym, ap, subst, arith, le_refl}
-use Rattle.std.specs.List.{AllByRecursion, filter, list_any}
+use Rattle.std.proofs.Common.{◌≡◌, ℕ, ◌+◌, ◌≤◌, ◌==◌, Bool, true, false, cond, not, ◌&&◌, ◌||◌, List, [], ◌∷◌, ◌++◌, Option, Some, None, refl, sym, ap, subst, arith, le_refl}
+use Rattle.std.specs.List.{AllByRecursion, list_any}
 use Rattle.bd_base.specs.Name.{same_name}
 use Rattle.bd_base.specs.declared.act.Act.{Act}
 use Rattle.bd_base.specs.declared.act.Act.TheVariants as acts
@@ -14,7 +14,6 @@ use Rattle.bd_base.specs.declared.event.RegEvent.TheVariants as events
 use Rattle.bd_base.specs.declared.id.DevId.{DevId}
 use Rattle.bd_base.specs.declared.id.HandleId.{HandleId}
 use Rattle.bd_base.specs.declared.id.ReqId.{ReqId}
-use Rattle.bd_base.specs.declared.id.ThreadId.{ThreadId}
 use Rattle.bd_base.specs.declared.id.WalkId.{WalkId}
 use Rattle.bd_base.specs.declared.job.Job.{Job}
 use Rattle.bd_base.specs.declared.job.Job.TheVariants as jobs
@@ -45,9 +44,9 @@ use Rattle.bd_machine.specs.declared.state.Trip.TheVariants as trips
 use Rattle.bd_machine.specs.Aborts.{stopped}
 use Rattle.bd_machine.specs.Admission.{is_gone}
 use Rattle.bd_machine.specs.Asked.{owes_removal}
-use Rattle.bd_machine.specs.BlockMap.{home, size_of}
+use Rattle.bd_machine.specs.BlockMap.{below, home, size_of}
 use Rattle.bd_machine.specs.Changes.{is_dropped}
-use Rattle.bd_machine.specs.Events.{decision_of, decided_by, paid, close_owed, with_due, alone, closed_by, born, all_born, got_by, put_down_by, put_paid, dropped_by, removal_paid, with_reset, advanced, reset_finishes, freed_by, channels_due, removing, reset_begun, reset_thaws, injection_taken, drain_time, resizing, resized, change_reg, first_req}
+use Rattle.bd_machine.specs.Events.{decision_of, decided_by, paid, owing, with_due, alone, closed_by, born, all_born, got_by, put_down_by, put_paid, dropped_by, removal_paid, with_reset, advanced, reset_finishes, freed_by, channel_due, removing, reset_begun, reset_thaws, injection_taken, drain_time, resizing, resized, change_reg, first_req}
 use Rattle.bd_machine.specs.Guards.{change}
 use Rattle.bd_machine.specs.Homes.{base_here, change_applied, change_grow, is_told}
 use Rattle.bd_machine.specs.Kept.{request_here, piece_here, walk_here}
@@ -57,7 +56,7 @@ use Rattle.bd_machine.specs.declared.state.Marking.{Marking}
 use Rattle.bd_machine.specs.declared.state.FreezeMark.TheVariants.{Not}
 use Rattle.bd_machine.specs.Grace.{dev_if_any, ended, ending_mark, remarked_if_any, softened}
 use Rattle.bd_machine.specs.Marks.{remarked, with_frozen, with_until, hardened, freeze_set, removal_set}
-use Rattle.bd_machine.specs.Messages.{request_took, told_part, is_leaving, removal_owed, removals_owed, freezes, went, told_walk, taken_by, arrived_walk, closed_notice}
+use Rattle.bd_machine.specs.Messages.{request_took, told_part, removals_owed, freezes, went, told_walk, taken_by, arrived_walk, closed_notice}
 use Rattle.bd_machine.specs.Registry.{made, device_named}
 use Rattle.bd_machine.specs.Same.{same_dev, same_owed}
 use Rattle.bd_machine.specs.Scripts.{bound_after, unbound}
@@ -210,7 +209,7 @@ module _ (setup : Setup) (t : ℕ) where
   born_tame frozen (d ∷ ds) p = tame_then p (born frozen d p) (all_born frozen ds (born frozen d p)) (tame_same _ _ refl refl refl) (born_tame frozen ds (born frozen d p))
 
   got_tame : (v : View) (dev : DevId) (a : Answer) → Tame v.part (got_by setup v dev a)
-  got_tame v dev (answers.Got fresh frozen) = born_tame frozen (made setup v.channels dev) v.part
+  got_tame v dev (answers.Got fresh frozen) = born_tame frozen (made v.channels (below setup dev)) v.part
   got_tame v dev _ = tame_same v.part v.part refl refl refl
 
   down_tame : (dev : DevId) (a : Answer) (p : Part) → Tame p (put_down_by t dev a p)
@@ -224,7 +223,7 @@ module _ (setup : Setup) (t : ℕ) where
   dropped_tame : (dev : DevId) (a : Answer) (p : Part) → Tame p (dropped_by t dev a p)
   dropped_tame dev (answers.Dropped what zero destruct) p =
       let q : Part = cond (is_dropped what) (remarked dev (with_frozen Not) p) p in
-      tame_then p q (with_due (channels_due t zero) q) (tame_cond (is_dropped what) p (remarked dev (with_frozen Not) p) p (tame_same _ _ refl refl refl) (tame_same p p refl refl refl)) (tame_same _ _ refl refl refl)
+      tame_then p q (with_due (channel_due t zero) q) (tame_cond (is_dropped what) p (remarked dev (with_frozen Not) p) p (tame_same _ _ refl refl refl) (tame_same p p refl refl refl)) (tame_same _ _ refl refl refl)
   dropped_tame dev _ p = tame_same p p refl refl refl
 
   removal_tame : (came : Came) (a : Answer) (o : Option ℕ) (p : Part) → AnswerFine a → Tame p (removal_paid came a o p)
@@ -237,19 +236,12 @@ module _ (setup : Setup) (t : ℕ) where
 
   -- only base handles are freed
   abbrev pub FreesBase : Answer → Type 0
-  FreesBase (answers.Freed handles) = AllByRecursion (λ (h : HandleId × ThreadId). is_base_handle setup h.0 ≡ true) handles
+  FreesBase (answers.Freed (Some id)) = is_base_handle setup id ≡ true
   FreesBase _ = Unit {0}
 
   freed_tame : (a : Answer) (p : Part) → FreesBase a → Tame p (freed_by a p)
-  freed_tame (answers.Freed handles) p h = owing_tame (map close_owed handles) p (fine handles h) (λ d. none d handles)
-    where
-      fine : (hs : List (HandleId × ThreadId)) → AllByRecursion (λ (h : HandleId × ThreadId). is_base_handle setup h.0 ≡ true) hs → OwedFine (map close_owed hs)
-      fine [] all = tt
-      fine (h ∷ hs) all = (all.0, fine hs all.1)
-
-      none : (d : DevId) (hs : List (HandleId × ThreadId)) → count_in (same_owed (owes.Put d)) (map close_owed hs) ≡ 0
-      none d [] = refl
-      none d (h ∷ hs) = ap (λ (n : ℕ). 0 + n) (none d hs)
+  freed_tame (answers.Freed (Some id)) p h = owing_tame (owes.Close id ∷ []) p (h, tt) (λ d. refl)
+  freed_tame (answers.Freed None) p h = tame_same p p refl refl refl
   freed_tame _ p h = tame_same p p refl refl refl
 
   staged_tame : (req : Option ReqId) (stage : Stage) (p : Part) → Tame p (staged req stage p)
@@ -258,13 +250,13 @@ module _ (setup : Setup) (t : ℕ) where
 
   told_tame : (told : News) (p : Part) → Tame p (told_part setup told p)
   told_tame (news.Mark mark) p = tame_same _ _ refl refl refl
-  told_tame (news.Gone handle) p = tame_then p (record p { gone = p.gone ++ handle ∷ [] }) (told_part setup (news.Gone handle) p) (tame_same _ _ refl refl refl) (owing_tame (removals_owed setup p.gone handle) (record p { gone = p.gone ++ handle ∷ [] }) (fine (filter (λ dev. not (is_leaving setup p.gone dev)) (users setup handle))) (λ d. none d (filter (λ dev. not (is_leaving setup p.gone dev)) (users setup handle))))
+  told_tame (news.Gone handle) p = tame_then p (record p { gone = p.gone ++ handle ∷ [] }) (told_part setup (news.Gone handle) p) (tame_same _ _ refl refl refl) (owing_tame (removals_owed (users setup handle)) (record p { gone = p.gone ++ handle ∷ [] }) (fine (users setup handle)) (λ d. none d (users setup handle)))
     where
-      fine : (ds : List DevId) → OwedFine (map removal_owed ds)
+      fine : (ds : List DevId) → OwedFine (removals_owed ds)
       fine [] = tt
       fine (d ∷ ds) = (tt, fine ds)
 
-      none : (d : DevId) (ds : List DevId) → count_in (same_owed (owes.Put d)) (map removal_owed ds) ≡ 0
+      none : (d : DevId) (ds : List DevId) → count_in (same_owed (owes.Put d)) (removals_owed ds) ≡ 0
       none d [] = refl
       none d (x ∷ ds) = ap (λ (n : ℕ). 0 + n) (none d ds)
   told_tame (news.Channel dev) p = owing_tame (owes.Drop dev ∷ []) p (tt, tt) (λ d. refl)
@@ -444,7 +436,7 @@ module _ (setup : Setup) (t : ℕ) where
   grown_tame : (v : View) (dev : DevId) (blocks : ℕ) → Tame v.part (change_grow setup v dev blocks).part
   grown_tame v dev blocks =
       tame_then v.part (paid (owes.Grow dev blocks) v.part) _ (paid_tame (owes.Grow dev blocks) v.part)
-      (tame_then (paid (owes.Grow dev blocks) v.part) (record (paid (owes.Grow dev blocks) v.part) { owed = (paid (owes.Grow dev blocks) v.part).owed ++ owes.EndResize dev ∷ [] }) _ (owing_tame (owes.EndResize dev ∷ []) (paid (owes.Grow dev blocks) v.part) (tt, tt) (λ d. refl)) (tame_same _ _ refl refl refl))
+      (tame_then (paid (owes.Grow dev blocks) v.part) (owing (owes.EndResize dev) (paid (owes.Grow dev blocks) v.part)) _ (owing_tame (owes.EndResize dev ∷ []) (paid (owes.Grow dev blocks) v.part) (tt, tt) (λ d. refl)) (tame_same _ _ refl refl refl))
 
   -- a line binds its name to what was opened
   bound_fine : (job : Option Job) (p : Part) → FineNames p → BoundFine (bound_after job p.decided p.bound)
@@ -522,7 +514,7 @@ module _ (setup : Setup) (t : ℕ) where
   pub visit_fine : (v : View) (walk : WalkId) (dev : DevId) (came : Came) → FineNames v.part → FineNames (change setup t v (acts.Visit walk dev Removal) came).part
   visit_fine v walk dev came f = (after_marked v walk dev came).fine (by (is_putter setup t dev) refl)
     where
-      by : (b : Bool) → is_putter setup t dev ≡ b → FineNames (cond b (record (remarked dev removal_set v.part) { owed = v.part.owed ++ owes.Put dev ∷ [] }) (remarked dev removal_set v.part))
+      by : (b : Bool) → is_putter setup t dev ≡ b → FineNames (cond b (owing (owes.Put dev) (remarked dev removal_set v.part)) (remarked dev removal_set v.part))
       by true e = (f.0, f.1, owed_both v.part.owed (owes.Put dev ∷ []) f.2 (e, tt))
       by false e = f
 
@@ -532,7 +524,7 @@ module _ (setup : Setup) (t : ℕ) where
       less_then (puts (marked_removed v dev) d) (puts v.part d + one_if (is_putter setup t dev && same_dev d dev)) (puts (change setup t v (acts.Visit walk dev Removal) came).part d)
       (by (is_putter setup t dev)) ((after_marked v walk dev came).puts_less d)
     where
-      by : (b : Bool) → puts (cond b (record (remarked dev removal_set v.part) { owed = v.part.owed ++ owes.Put dev ∷ [] }) (remarked dev removal_set v.part)) d ≤ puts v.part d + one_if (b && same_dev d dev)
+      by : (b : Bool) → puts (cond b (owing (owes.Put dev) (remarked dev removal_set v.part)) (remarked dev removal_set v.part)) d ≤ puts v.part d + one_if (b && same_dev d dev)
       by true = same_as (count_in (same_owed (owes.Put d)) (v.part.owed ++ owes.Put dev ∷ [])) (puts v.part d + one_if (same_dev d dev)) (in_push (same_owed (owes.Put d)) v.part.owed (owes.Put dev))
         where
           same_as : (a b : ℕ) → a ≡ b → a ≤ b

@@ -15,13 +15,12 @@ use Rattle.bd_machine.specs.declared.state.Open.{Open}
 use Rattle.bd_machine.specs.declared.state.Part.{Part}
 use Rattle.bd_machine.specs.declared.state.State.{State}
 use Rattle.bd_machine.specs.Aborts.{is_below}
-use Rattle.bd_machine.specs.BlockMap.{below}
+use Rattle.bd_machine.specs.BlockMap.{below, StandsOnEarlier}
 use Rattle.bd_machine.specs.Content.{Told}
 use Rattle.bd_machine.specs.Laws.{is_accept_of, is_complete_of, count_of}
 use Rattle.bd_machine.specs.Registry.{references, threads_of}
 use Rattle.bd_machine.specs.Run.{IsRunFrom, after_all, state_after}
 use Rattle.bd_machine.specs.Same.{same_dev, same_handle}
-use Rattle.bd_machine.specs.Stacking.{IsStacked}
 use Rattle.bd_machine.specs.Start.{start, part_at_start}
 use Rattle.bd_machine.specs.Step.{after, change_in}
 use Rattle.bd_machine.specs.Users.{is_base_handle}
@@ -84,12 +83,9 @@ module _ (setup : Setup) where
       go true false f g h ih = or_right (is_user setup o.dev x) (ih h)
       go false q f g h ih = or_right (is_user setup o.dev x) (ih h)
 
-  has_channel : IsStacked setup → (s : State) (u : ℕ) (c : Counts setup u s) → s.registry.between ≡ None → (o : Open) → HasHandle setup (filter (is_of u) s.registry.handles) o → (dev : DevId) → is_below setup o.dev dev ≡ true → is_some (references s.registry u dev) ≡ true
-  has_channel stacked s u c none o h dev lower = all_have setup stacked (λ d. users_on setup (filter (is_of u) s.registry.handles) d + c.extra d) (references s.registry u) covered (suc o.dev.0) o.dev (same_less o.dev.0) top dev lower
+  has_channel : (s : State) (u : ℕ) (c : Counts setup u s) → s.registry.between ≡ None → (o : Open) → HasHandle setup (filter (is_of u) s.registry.handles) o → (dev : DevId) → is_below setup o.dev dev ≡ true → is_some (references s.registry u dev) ≡ true
+  has_channel s u c none o h dev lower = all_have setup (λ d. users_on setup (filter (is_of u) s.registry.handles) d + c.extra d) (references s.registry u) covered (suc (length setup.devices)) o.dev 0 top dev lower
     where
-      same_less : (n : ℕ) → n < suc n
-      same_less n = omega arith
-
       covered : Covered setup (λ d. users_on setup (filter (is_of u) s.registry.handles) d + c.extra d) (references s.registry u) (λ d. 0)
       covered = subst (λ b. Covered setup (λ d. users_on setup (filter (is_of u) s.registry.handles) d + c.extra d) (references s.registry u) (pending b u)) none c.covered
 
@@ -105,23 +101,23 @@ module _ (setup : Setup) where
           some (users_on setup (filter (is_of u) s.registry.handles) o.dev) (c.extra o.dev) (above setup (references s.registry u) o.dev) (references s.registry u o.dev)
           (in_some (is_user setup o.dev) (filter (is_of u) s.registry.handles) (user_of o (filter (is_of u) s.registry.handles) h.1 h.0)) (covered o.dev)
 
-  waits_has : IsStacked setup → (s : State) (u : ℕ) (dev : DevId) (is : Open → Bool) → ((o : Open) → is o ≡ true → is_below setup o.dev dev ≡ true) → Counts setup u s → s.registry.between ≡ None → (rows : List Open) → RowsOpen setup (filter (is_of u) s.registry.handles) rows
+  waits_has : (s : State) (u : ℕ) (dev : DevId) (is : Open → Bool) → ((o : Open) → is o ≡ true → is_below setup o.dev dev ≡ true) → Counts setup u s → s.registry.between ≡ None → (rows : List Open) → RowsOpen setup (filter (is_of u) s.registry.handles) rows
       → list_any is rows ≡ true → is_some (references s.registry u dev) ≡ true
-  waits_has stacked s u dev is lower c none [] r h = cc
-  waits_has stacked s u dev is lower c none (o ∷ os) r h = go (is o) refl h (waits_has stacked s u dev is lower c none os r.1)
+  waits_has s u dev is lower c none [] r h = cc
+  waits_has s u dev is lower c none (o ∷ os) r h = go (is o) refl h (waits_has s u dev is lower c none os r.1)
     where
       go : (b : Bool) → is o ≡ b → (b || list_any is os) ≡ true → (list_any is os ≡ true → is_some (references s.registry u dev) ≡ true) → is_some (references s.registry u dev) ≡ true
-      go true e h rest = has_channel stacked s u c none o r.0 dev (lower o e)
+      go true e h rest = has_channel s u c none o r.0 dev (lower o e)
       go false e h rest = rest h
 
   -- ---- the registry names every busy thread
 
-  module _ (stacked : IsStacked setup) (reset : ReqId) (dev : DevId) (before : List Entry) where
+  module _ (ordered : StandsOnEarlier setup) (reset : ReqId) (dev : DevId) (before : List Entry) where
     names_all : (s : State) → Fit setup s → ((t : ℕ) → Counts setup t s) → length s.parts ≡ setup.threads → s.registry.between ≡ None → (d : DevId) → d ≡ dev → Covers reset (There dev) (busy_in setup dev before (λ u. true) s) (threads_of setup s.registry d)
     names_all s fit counts threads none d same u busy =
         let row = (and_parts true (list_any (is_older setup dev before) (part_of s u).requests) busy).1 in
         those_have (λ t. is_some (references s.registry t d)) setup.threads u (subst (λ (n : ℕ). u < n) threads (busy_thread (is_older setup dev before) s.parts u row))
-        (subst (λ (x : DevId). is_some (references s.registry u x) ≡ true) (sym same) (waits_has stacked s u dev (is_older setup dev before) lower (counts u) none (part_of s u).requests (fit.rows u) row))
+        (subst (λ (x : DevId). is_some (references s.registry u x) ≡ true) (sym same) (waits_has s u dev (is_older setup dev before) lower (counts u) none (part_of s u).requests (fit.rows u) row))
       where
         lower : (o : Open) → is_older setup dev before o ≡ true → is_below setup o.dev dev ≡ true
         lower o h = (and_parts (not (is_reset o.op)) (list_any (same_dev dev) (below setup o.dev)) (and_parts (was_accepted before o.id) (is_kept_waiting setup dev o) h).1).1
@@ -132,7 +128,7 @@ module _ (setup : Setup) where
     all_named s (e ∷ es) fresh fit counts threads run new a c held =
         let named = named_of setup s e reset (There dev) (busy_in setup dev before (λ u. true) s) held e.thread e.act (allowed_passes setup s e run.0) (λ d same none. names_all s fit counts threads none d same) in (
           named,
-          all_named (after setup s e) es (fresh_after setup s e fresh run.0) (fit_after setup s e fresh run.0 fit) (counts_stay setup stacked s e fresh run.0 fit counts) (threads_stay setup s e ∙ threads) run.1 new.1 a.1 c.1
+          all_named (after setup s e) es (fresh_after setup s e fresh run.0) (fit_after setup s e fresh run.0 fit) (counts_stay setup ordered s e fresh run.0 fit counts) (threads_stay setup s e ∙ threads) run.1 new.1 a.1 c.1
               (held_on setup s e reset (There dev) (busy_in setup dev before (λ u. true) s) (busy_in setup dev before (λ u. true) (after setup s e)) fresh run.0 (completes_is reset e.act c.0) held named
               (λ d same k b. not_busy setup dev before (λ u. true) (part_of s e.thread) true (subst (λ (x : DevId). is_drained setup (part_of s e.thread) x Drain ≡ true) same k) b)
               (accepting_none reset (There dev) e.act a.0).0 (fewer_busy setup dev before (λ u. true) s e fresh run.0 new.0)),
@@ -144,25 +140,25 @@ pub all_fit : (setup : Setup) (s : State) (es : List Entry) → IsFresh s → Is
 all_fit setup s [] fresh run fit = fit
 all_fit setup s (e ∷ es) fresh run fit = all_fit setup (after setup s e) es (fresh_after setup s e fresh run.0) run.1 (fit_after setup s e fresh run.0 fit)
 
-all_counts : (setup : Setup) → IsStacked setup → (s : State) (es : List Entry) → IsFresh s → IsRunFrom setup s es → Fit setup s → ((t : ℕ) → Counts setup t s) → (t : ℕ) → Counts setup t (after_all setup s es)
-all_counts setup stacked s [] fresh run fit counts = counts
-all_counts setup stacked s (e ∷ es) fresh run fit counts =
-    all_counts setup stacked (after setup s e) es (fresh_after setup s e fresh run.0) run.1 (fit_after setup s e fresh run.0 fit) (counts_stay setup stacked s e fresh run.0 fit counts)
+all_counts : (setup : Setup) → StandsOnEarlier setup → (s : State) (es : List Entry) → IsFresh s → IsRunFrom setup s es → Fit setup s → ((t : ℕ) → Counts setup t s) → (t : ℕ) → Counts setup t (after_all setup s es)
+all_counts setup ordered s [] fresh run fit counts = counts
+all_counts setup ordered s (e ∷ es) fresh run fit counts =
+    all_counts setup ordered (after setup s e) es (fresh_after setup s e fresh run.0) run.1 (fit_after setup s e fresh run.0 fit) (counts_stay setup ordered s e fresh run.0 fit counts)
 
 all_threads : (setup : Setup) (s : State) (es : List Entry) → length (after_all setup s es).parts ≡ length s.parts
 all_threads setup s [] = refl
 all_threads setup s (e ∷ es) = all_threads setup (after setup s e) es ∙ threads_stay setup s e
 
 older_completed : (setup : Setup) (told : Told) (reset : ReqId) (dev : DevId) (before : List Entry) (accept : Entry) (between : List Entry) (complete : Entry)
-    → IsStacked setup → spec.Completes setup told reset dev before accept between complete
+    → StandsOnEarlier setup → spec.Completes setup told reset dev before accept between complete
     → (r : ReqId) → 0 < count_of (is_accept_above setup dev r) before → 0 < count_of (is_complete_of r) (before ++ accept ∷ between)
-older_completed setup told reset dev before accept between complete stacked c r some =
+older_completed setup told reset dev before accept between complete ordered c r some =
     completed setup told reset dev before accept between complete c (λ u. true)
-    (all_named setup stacked reset dev before (after setup (after_all setup (start setup told) before) accept) between
+    (all_named setup ordered reset dev before (after setup (after_all setup (start setup told) before) accept) between
     (fresh2 setup told reset dev before accept between complete c (λ u. true))
     (fit_after setup (after_all setup (start setup told) before) accept fresh_then (run_later setup told reset dev before accept between complete c).0 fit)
-    (counts_stay setup stacked (after_all setup (start setup told) before) accept fresh_then (run_later setup told reset dev before accept between complete c).0 fit
-    (all_counts setup stacked (start setup told) before (fresh_start setup told) run_first (first_fit setup told) (λ u. first_counts setup stacked u told)))
+    (counts_stay setup ordered (after_all setup (start setup told) before) accept fresh_then (run_later setup told reset dev before accept between complete c).0 fit
+    (all_counts setup ordered (start setup told) before (fresh_start setup told) run_first (first_fit setup told) (λ u. first_counts setup ordered u told)))
     (threads_stay setup (after_all setup (start setup told) before) accept ∙ all_threads setup (start setup told) before ∙ length-map-range_with_len (part_at_start setup told) 0 setup.threads)
     (run_later setup told reset dev before accept between complete c).1
     (all_later setup told reset dev before accept between complete c).1
@@ -181,8 +177,8 @@ older_completed setup told reset dev before accept between complete stacked c r 
     fit = all_fit setup (start setup told) before (fresh_start setup told) (run_before setup told reset dev before accept between complete c) (first_fit setup told)
 
 pub quiescence : Quiescence
-quiescence setup told reset dev before accept between complete stacked c r some =
-    let done = older_completed setup told reset dev before accept between complete stacked c r some in
+quiescence setup told reset dev before accept between complete ordered c r some =
+    let done = older_completed setup told reset dev before accept between complete ordered c r some in
     record { completed = done; nowhere = completed_stays_closed setup told (before ++ accept ∷ between) r (run_most setup told reset dev before accept between complete c) done }
 
 -- ---- the laws of what requests stand on
@@ -195,7 +191,7 @@ requests_have_handles setup told es run t = go (part_of (state_after setup told 
     go (o ∷ os) r = and_from (has_handle (view (state_after setup told es) t).handles o) (list_all (has_handle (view (state_after setup told es) t).handles) os) r.0.0 (go os r.1)
 
 pub requests_have_channels : RequestsHaveChannels
-requests_have_channels setup told es stacked run none t dev used =
-    waits_has setup stacked (state_after setup told es) t dev (λ (o : Open). is_below setup o.dev dev) (λ o h. h)
-    (all_counts setup stacked (start setup told) es (fresh_start setup told) run (first_fit setup told) (λ u. first_counts setup stacked u told) t)
+requests_have_channels setup told es ordered run none t dev used =
+    waits_has setup (state_after setup told es) t dev (λ (o : Open). is_below setup o.dev dev) (λ o h. h)
+    (all_counts setup ordered (start setup told) es (fresh_start setup told) run (first_fit setup told) (λ u. first_counts setup ordered u told) t)
     none (part_of (state_after setup told es) t).requests ((all_fit setup (start setup told) es (fresh_start setup told) run (first_fit setup told)).rows t) used

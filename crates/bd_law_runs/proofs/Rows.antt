@@ -37,9 +37,9 @@ use Rattle.bd_machine.specs.declared.state.Trip.TheVariants as trips
 use Rattle.bd_machine.specs.Aborts.{stopped}
 use Rattle.bd_machine.specs.Admission.{is_gone}
 use Rattle.bd_machine.specs.Asked.{owes_removal, is_reset_at}
-use Rattle.bd_machine.specs.BlockMap.{home, size_of}
+use Rattle.bd_machine.specs.BlockMap.{below, home, size_of}
 use Rattle.bd_machine.specs.Changes.{is_dropped}
-use Rattle.bd_machine.specs.Events.{decided_by, paid, with_due, alone, closed_by, born, all_born, got_by, put_paid, removal_paid, with_reset, advanced, freed_by, removing, reset_begun, reset_thaws, reset_finishes, injection_taken, drain_time, resizing, resized, change_reg, first_req, dropped_by, put_down_by}
+use Rattle.bd_machine.specs.Events.{decided_by, paid, owing, with_due, alone, closed_by, born, all_born, got_by, put_paid, removal_paid, with_reset, advanced, freed_by, removing, reset_begun, reset_thaws, reset_finishes, injection_taken, drain_time, resizing, resized, change_reg, first_req, dropped_by, put_down_by}
 use Rattle.bd_machine.specs.Guards.{change}
 use Rattle.bd_machine.specs.Homes.{base_here, change_applied}
 use Rattle.bd_machine.specs.Kept.{request_here, piece_here, walk_here}
@@ -156,7 +156,7 @@ born_leaves frozen [] p = record { resets = refl; due = refl }
 born_leaves frozen (d ∷ ds) p = leaves_then p (born frozen d p) (all_born frozen ds (born frozen d p)) (record { resets = refl; due = refl }) (born_leaves frozen ds (born frozen d p))
 
 pub got_leaves : (setup : Setup) (v : View) (dev : DevId) (a : Answer) → Leaves v.part (got_by setup v dev a)
-got_leaves setup v dev (answers.Got fresh frozen) = born_leaves frozen (made setup v.channels dev) v.part
+got_leaves setup v dev (answers.Got fresh frozen) = born_leaves frozen (made v.channels (below setup dev)) v.part
 got_leaves setup v dev _ = record { resets = refl; due = refl }
 
 pub put_leaves : (dev : DevId) (closing : Bool) (p : Part) → Leaves p (put_paid dev closing p)
@@ -171,7 +171,8 @@ removal_leaves came a (Some n) p =
     leaves_cond (owes_removal p (Some n)) p (paid (owes.Remove (record { 0 = n })) p) (decided_by came a p) (record { resets = refl; due = refl }) (record { resets = refl; due = refl })
 
 pub freed_leaves : (a : Answer) (p : Part) → Leaves p (freed_by a p)
-freed_leaves (answers.Freed handles) p = record { resets = refl; due = refl }
+freed_leaves (answers.Freed (Some id)) p = record { resets = refl; due = refl }
+freed_leaves (answers.Freed None) p = record { resets = refl; due = refl }
 freed_leaves _ p = record { resets = refl; due = refl }
 
 pub marked_leaves : (setup : Setup) (t : ℕ) (v : View) (walk : WalkId) (dev : DevId) (kind : WalkKind) → Leaves v.part (marked_by setup t v walk dev kind)
@@ -180,7 +181,7 @@ marked_leaves setup t v walk dev Drain = record { resets = refl; due = refl }
 marked_leaves setup t v walk dev Thaw = record { resets = refl; due = refl }
 marked_leaves setup t v walk dev Removal =
     let p : Part = remarked dev removal_set v.part in
-    leaves_then v.part p (put_owed setup t dev p) (record { resets = refl; due = refl }) (leaves_cond (is_limited setup dev && (home setup dev == t)) p (record p { owed = p.owed ++ owes.Put dev ∷ [] }) p (record { resets = refl; due = refl }) (record { resets = refl; due = refl }))
+    leaves_then v.part p (put_owed setup t dev p) (record { resets = refl; due = refl }) (leaves_cond (is_limited setup dev && (home setup dev == t)) p (owing (owes.Put dev) p) p (record { resets = refl; due = refl }) (record { resets = refl; due = refl }))
 
 pub told_leaves : (setup : Setup) (told : News) (p : Part) → Leaves p (told_part setup told p)
 told_leaves setup (news.Mark mark) p = record { resets = refl; due = refl }

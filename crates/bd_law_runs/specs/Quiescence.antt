@@ -19,7 +19,7 @@ use Rattle.bd_machine.specs.Run.{IsRun, state_after}
 use Rattle.bd_machine.specs.Same.{same_dev, same_request}
 use Rattle.bd_machine.specs.Threads.{has}
 use Rattle.bd_machine.specs.Walks.{is_reset}
-use Rattle.bd_machine.specs.Stacking.{IsStacked}
+use Rattle.bd_machine.specs.BlockMap.{StandsOnEarlier}
 
 -- a reset of the device is accepted
 abbrev pub is_reset_accept : ReqId → DevId → Act → Bool
@@ -60,5 +60,5 @@ pub record IsOver (setup : Setup) (told : Told) (r : ReqId) (es : List Entry) : 
 -- when a reset completes, no request but resets is open that was accepted before it, over its device
 abbrev pub Quiescence : Type 0
 Quiescence = (setup : Setup) (told : Told) (reset : ReqId) (dev : DevId) (before : List Entry) (accept : Entry) (between : List Entry) (complete : Entry)
-    → IsStacked setup → Completes setup told reset dev before accept between complete
+    → StandsOnEarlier setup → Completes setup told reset dev before accept between complete
     → (r : ReqId) → 0 < count_of (is_accept_above setup dev r) before → IsOver setup told r (before ++ accept ∷ between)

@@ -8,11 +8,11 @@ use Rattle.bd_machine.specs.declared.state.Handle.{Handle}
 use Rattle.bd_machine.specs.declared.state.Open.{Open}
 use Rattle.bd_machine.specs.declared.state.State.{State}
 use Rattle.bd_machine.specs.Aborts.{is_below}
+use Rattle.bd_machine.specs.BlockMap.{StandsOnEarlier}
 use Rattle.bd_machine.specs.Content.{Told}
 use Rattle.bd_machine.specs.Registry.{references}
 use Rattle.bd_machine.specs.Run.{IsRun, state_after}
 use Rattle.bd_machine.specs.Same.{same_dev, same_handle}
-use Rattle.bd_machine.specs.Stacking.{IsStacked}
 use Rattle.bd_machine.specs.View.{part_of, view}
 
 -- the request's handle is among these, on the request's device
@@ -29,5 +29,5 @@ is_used_by setup s t dev = list_any (λ (o : Open). is_below setup o.dev dev) (p
 
 -- after each entry of a run, a thread has a channel of each device below an open request of it; but between an open and its get, and between a put and its close
 abbrev pub RequestsHaveChannels : Type 0
-RequestsHaveChannels = (setup : Setup) (told : Told) (es : List Entry) → IsStacked setup → IsRun setup told es → (state_after setup told es).registry.between ≡ None
+RequestsHaveChannels = (setup : Setup) (told : Told) (es : List Entry) → StandsOnEarlier setup → IsRun setup told es → (state_after setup told es).registry.between ≡ None
     → (t : ℕ) (dev : DevId) → is_used_by setup (state_after setup told es) t dev ≡ true → is_some (references (state_after setup told es).registry t dev) ≡ true

@@ -22,16 +22,16 @@ pub fn requests_have_handles()
     ensures { RequestsHaveHandles }
 {}
 
-/// In every run of a setup in which each device stands on ones with smaller numbers, as its row says: a
-/// thread has a channel of each device below an open request of it, but between an open and its get and
-/// between a put and its close.
+/// In every run of a setup in which each device stands on one with a smaller number: a thread has a
+/// channel of each device below an open request of it, but between an open and its get and between a
+/// put and its close.
 pub fn requests_have_channels()
     ensures { RequestsHaveChannels }
 {}
 
-/// In every run of a setup in which each device stands on ones with smaller numbers, as its row says:
-/// when a reset completes, no request but resets is open, on any thread, that was accepted before it
-/// and has its device below. Each is completed, and nowhere.
+/// In every run of a setup in which each device stands on one with a smaller number: when a reset
+/// completes, no request but resets is open, on any thread, that was accepted before it and has its
+/// device below. Each is completed, and nowhere.
 pub fn quiescence()
     ensures { Quiescence }
 {}

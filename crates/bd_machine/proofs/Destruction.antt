@@ -192,7 +192,7 @@ out : (setup : Setup) (s : State) (t : ℕ) (act : Act) (dev : DevId) → is_liv
 out setup s t (acts.Reg (events.Open name write) (answers.Opened id d blocks)) dev gone h e =
     not_opened setup s.registry write (device_named setup name) (answers.Opened id d blocks) d dev gone e id.0 blocks (passed (guards_in setup s t (acts.Reg (events.Open name write) (answers.Opened id d blocks))) h).0
 out setup s t (acts.Reg (events.GetChannel d) (answers.Got fresh frozen)) dev gone h e =
-    got setup s.registry d dev fresh frozen (answers.Got (is_none (references s.registry t d)) (filter (λ d. is_born_frozen (slice_get s.registry.devices d.0)) (made setup (references s.registry t) d))) gone e (are_live setup s.registry d) refl (passed (guards_in setup s t (acts.Reg (events.GetChannel d) (answers.Got fresh frozen))) h).0
+    got setup s.registry d dev fresh frozen (answers.Got (is_none (references s.registry t d)) (filter (λ d. is_born_frozen (slice_get s.registry.devices d.0)) (made (references s.registry t) (below setup d)))) gone e (are_live setup s.registry d) refl (passed (guards_in setup s t (acts.Reg (events.GetChannel d) (answers.Got fresh frozen))) h).0
 out setup s t _ dev gone h e = never e
 
 -- what isn't live is out of reach

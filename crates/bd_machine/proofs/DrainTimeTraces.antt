@@ -20,7 +20,7 @@ use Rattle.bd_base.specs.declared.setup.Setup.{Setup}
 use Rattle.bd_machine.specs.Run.{after_all, is_finished}
 use Rattle.bd_machine.specs.Start.{start}
 use Rattle.bd_machine.specs.Step.{after}
-use Rattle.bd_machine.proofs.Words.{at, line, script, dev, handle, thread, threads, req, walk, write, refusal_in, over}
+use Rattle.bd_machine.proofs.Words.{at, line, script, dev, handle, thread, threads, req, walk, write, refusal_in}
 
 -- ---- a write that is kept without an answer is aborted once the drain time is over, and one that came after the freeze at once
 
@@ -28,8 +28,8 @@ abbrev pub drain_timed_setup : Setup
 drain_timed_setup = record {
   threads = 1;
   devices =
-      record { name = codes "N"; kind = devices.Null; stacked = None; blocks = 8; size = 512; boundary = 0; depth = 128; file = None; group = 0 } ∷
-      record { name = codes "EE_N"; kind = devices.Error; stacked = Some (over (dev 0)); blocks = 8; size = 512; boundary = 0; depth = 0; file = None; group = 1 } ∷
+      record { name = codes "N"; kind = devices.Null; base = None; blocks = 8; size = 512; boundary = 0; depth = 128; file = None; group = 0 } ∷
+      record { name = codes "EE_N"; kind = devices.Error; base = (Some (dev 0)); blocks = 8; size = 512; boundary = 0; depth = 0; file = None; group = 1 } ∷
       [];
   rates =
       [];
@@ -89,10 +89,10 @@ drain_timed =
     at 35 0 (acts.Script 6 outcomes.Done) ∷
     at 36 0 (acts.Put 0 3 (tokens.Channel (dev 1))) ∷
     at 37 0 (acts.Took 0 3 (tokens.Channel (dev 1))) ∷
-    at 38 0 (acts.Reg (events.DropChannel (dev 1)) (answers.Dropped dropped.Last ((dev 0) ∷ []) None)) ∷
+    at 38 0 (acts.Reg (events.DropChannel (dev 1)) (answers.Dropped dropped.Last (Some (dev 0)) None)) ∷
     at 39 0 (acts.Put 0 4 (tokens.Channel (dev 0))) ∷
     at 40 0 (acts.Took 0 4 (tokens.Channel (dev 0))) ∷
-    at 41 0 (acts.Reg (events.DropChannel (dev 0)) (answers.Dropped dropped.Last [] None)) ∷
+    at 41 0 (acts.Reg (events.DropChannel (dev 0)) (answers.Dropped dropped.Last None None)) ∷
     at 42 0 acts.Shutdown ∷
     at 43 0 (acts.Reg (events.BeginRemove (codes "EE_N")) (answers.Removing (dev 1) (threads 0) [] (Some (dev 1)))) ∷
     at 44 0 (acts.Reg (events.BeginRemove (codes "N")) (answers.Removing (dev 0) (threads 0) (((handle 0), thread 0) ∷ []) None)) ∷
@@ -100,14 +100,14 @@ drain_timed =
     at 46 0 (acts.Put 0 6 (tokens.Gone (handle 0))) ∷
     at 47 0 (acts.Took 0 5 (tokens.Device (dev 1))) ∷
     at 48 0 (acts.Destruct (dev 1) None) ∷
-    at 49 0 (acts.Reg (events.Destructed (dev 1)) (answers.Freed ((handle 0, thread 0) ∷ []))) ∷
+    at 49 0 (acts.Reg (events.Destructed (dev 1)) (answers.Freed (Some (handle 0)))) ∷
     at 50 0 (acts.Reg (events.Close (handle 0)) (answers.Closed (Some (dev 0)))) ∷
     at 51 0 (acts.Took 0 6 (tokens.Gone (handle 0))) ∷
     at 52 0 (acts.Reg (events.BeginRemove (codes "EE_N")) (answers.Refused errnos.NoDev)) ∷
     at 53 0 (acts.Put 0 7 (tokens.Device (dev 0))) ∷
     at 54 0 (acts.Took 0 7 (tokens.Device (dev 0))) ∷
     at 55 0 (acts.Destruct (dev 0) None) ∷
-    at 56 0 (acts.Reg (events.Destructed (dev 0)) (answers.Freed [])) ∷
+    at 56 0 (acts.Reg (events.Destructed (dev 0)) (answers.Freed None)) ∷
     []
 
 pub drain_timed_runs : refusal_in drain_timed_setup (start drain_timed_setup []) 0 drain_timed ≡ None

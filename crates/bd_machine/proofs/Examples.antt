@@ -28,7 +28,7 @@ abbrev pub first_path_setup : Setup
 first_path_setup = record {
   threads = 1;
   devices =
-      record { name = codes "Malloc0"; kind = devices.Malloc; stacked = None; blocks = 4; size = 512; boundary = 0; depth = 128; file = None; group = 0 } ∷
+      record { name = codes "Malloc0"; kind = devices.Malloc; base = None; blocks = 4; size = 512; boundary = 0; depth = 128; file = None; group = 0 } ∷
       [];
   rates =
       [];
@@ -78,13 +78,13 @@ first_path =
     at 26 0 (acts.Script 6 outcomes.Done) ∷
     at 27 0 (acts.Put 0 4 (tokens.Channel (dev 0))) ∷
     at 28 0 (acts.Took 0 4 (tokens.Channel (dev 0))) ∷
-    at 29 0 (acts.Reg (events.DropChannel (dev 0)) (answers.Dropped dropped.Last [] None)) ∷
+    at 29 0 (acts.Reg (events.DropChannel (dev 0)) (answers.Dropped dropped.Last None None)) ∷
     at 30 0 acts.Shutdown ∷
     at 31 0 (acts.Reg (events.BeginRemove (codes "Malloc0")) (answers.Removing (dev 0) (threads 0) [] (Some (dev 0)))) ∷
     at 32 0 (acts.Put 0 5 (tokens.Device (dev 0))) ∷
     at 33 0 (acts.Took 0 5 (tokens.Device (dev 0))) ∷
     at 34 0 (acts.Destruct (dev 0) (Some (38 ∷ 12 ∷ 148 ∷ 118 ∷ 209 ∷ 66 ∷ 200 ∷ 45 ∷ 247 ∷ 250 ∷ 128 ∷ 105 ∷ 165 ∷ 209 ∷ 10 ∷ 248 ∷ 214 ∷ 72 ∷ 129 ∷ 214 ∷ 117 ∷ 8 ∷ 85 ∷ 217 ∷ 67 ∷ 255 ∷ 240 ∷ 134 ∷ 2 ∷ 88 ∷ 11 ∷ 4 ∷ []))) ∷
-    at 35 0 (acts.Reg (events.Destructed (dev 0)) (answers.Freed [])) ∷
+    at 35 0 (acts.Reg (events.Destructed (dev 0)) (answers.Freed None)) ∷
     []
 
 first_path_runs : refused_in first_path_setup (start first_path_setup []) first_path ≡ None

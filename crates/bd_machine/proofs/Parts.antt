@@ -1,5 +1,5 @@
 -- What the words for changes of a part leave of it: what was put, the number of the next request, what was destructed, what bases store, and the open requests.
-use Rattle.std.proofs.Common.{◌≡◌, ℕ, ◌+◌, ◌==◌, ◌≤◌, Bool, true, false, cond, not, ◌&&◌, List, [], ◌∷◌, ◌++◌, filter, Option, Some, None, refl, sym, ◌∙◌, ap, arith, le_of_eq}
+use Rattle.std.proofs.Common.{◌≡◌, ℕ, ◌+◌, ◌==◌, ◌≤◌, Bool, true, false, cond, not, ◌&&◌, List, [], ◌∷◌, filter, Option, Some, None, refl, sym, ◌∙◌, ap, arith, le_of_eq}
 use Rattle.bd_base.specs.declared.event.Answer.{Answer}
 use Rattle.bd_base.specs.declared.event.Answer.TheVariants as answers
 use Rattle.bd_base.specs.declared.event.RegEvent.{RegEvent}
@@ -38,8 +38,8 @@ use Rattle.bd_machine.specs.declared.state.Trip.TheVariants as trips
 use Rattle.bd_machine.specs.Aborts.{stopped}
 use Rattle.bd_machine.specs.Asked.{owes_removal}
 use Rattle.bd_machine.specs.Admission.{is_gone}
-use Rattle.bd_machine.specs.BlockMap.{home}
-use Rattle.bd_machine.specs.Events.{decided_by, paid, with_due, alone, closed_by, born, all_born, got_by, put_down_by, put_paid, dropped_by, removal_paid, with_reset, advanced, reset_finishes, freed_by, drain_time, resizing, resized, device_due, destruct_of, channels_due, removing, reset_begun, reset_thaws, injection_taken, change_reg, first_req}
+use Rattle.bd_machine.specs.BlockMap.{below, home}
+use Rattle.bd_machine.specs.Events.{decided_by, paid, owing, with_due, alone, closed_by, born, all_born, got_by, put_down_by, put_paid, dropped_by, removal_paid, with_reset, advanced, reset_finishes, freed_by, drain_time, resizing, resized, device_due, destruct_of, channel_due, removing, reset_begun, reset_thaws, injection_taken, change_reg, first_req}
 use Rattle.bd_machine.specs.Changes.{is_dropped}
 use Rattle.bd_machine.specs.Guards.{change_by}
 use Rattle.bd_machine.specs.Homes.{is_base, without_last}
@@ -122,7 +122,7 @@ all_born_keeps frozen [] p = record { rest = refl; walks = refl }
 all_born_keeps frozen (d ∷ ds) p = keeps_then p (born frozen d p) (all_born frozen ds (born frozen d p)) (record { rest = refl; walks = refl }) (all_born_keeps frozen ds (born frozen d p))
 
 got_keeps : (setup : Setup) (v : View) (dev : DevId) (a : Answer) → Keeps v.part (got_by setup v dev a)
-got_keeps setup v dev (answers.Got fresh frozen) = all_born_keeps frozen (made setup v.channels dev) v.part
+got_keeps setup v dev (answers.Got fresh frozen) = all_born_keeps frozen (made v.channels (below setup dev)) v.part
 got_keeps setup v dev _ = record { rest = refl; walks = refl }
 
 put_paid_keeps : (dev : DevId) (closing : Bool) (p : Part) → Keeps p (put_paid dev closing p)
@@ -135,7 +135,7 @@ put_down_keeps t dev _ p = record { rest = refl; walks = refl }
 dropped_keeps : (t : ℕ) (dev : DevId) (a : Answer) (p : Part) → Keeps p (dropped_by t dev a p)
 dropped_keeps t dev (answers.Dropped what zero destruct) p =
     let q : Part = cond (is_dropped what) (remarked dev (with_frozen Not) p) p in
-    keeps_then p q (with_due (channels_due t zero) q) (keeps_cond (is_dropped what) p (remarked dev (with_frozen Not) p) p (record { rest = refl; walks = refl }) (record { rest = refl; walks = refl })) (record { rest = refl; walks = refl })
+    keeps_then p q (with_due (channel_due t zero) q) (keeps_cond (is_dropped what) p (remarked dev (with_frozen Not) p) p (record { rest = refl; walks = refl }) (record { rest = refl; walks = refl })) (record { rest = refl; walks = refl })
 dropped_keeps t dev _ p = record { rest = refl; walks = refl }
 
 pub removal_paid_keeps : (came : Came) (a : Answer) (o : Option ℕ) (p : Part) → Keeps p (removal_paid came a o p)
@@ -148,7 +148,8 @@ finishes_keeps dev (answers.ResetFinished next) p = record { rest = refl; walks 
 finishes_keeps dev _ p = record { rest = refl; walks = refl }
 
 freed_keeps : (a : Answer) (p : Part) → Keeps p (freed_by a p)
-freed_keeps (answers.Freed handles) p = record { rest = refl; walks = refl }
+freed_keeps (answers.Freed (Some id)) p = record { rest = refl; walks = refl }
+freed_keeps (answers.Freed None) p = record { rest = refl; walks = refl }
 freed_keeps _ p = record { rest = refl; walks = refl }
 
 pub staged_keeps : (req : Option ReqId) (stage : Stage) (p : Part) → Keeps p (staged req stage p)
@@ -156,7 +157,7 @@ staged_keeps None stage p = record { rest = refl; walks = refl }
 staged_keeps (Some req) stage p = record { rest = refl; walks = refl }
 
 put_owed_keeps : (setup : Setup) (t : ℕ) (dev : DevId) (p : Part) → Keeps p (put_owed setup t dev p)
-put_owed_keeps setup t dev p = keeps_cond (is_limited setup dev && (home setup dev == t)) p (record p { owed = p.owed ++ owes.Put dev ∷ [] }) p (record { rest = refl; walks = refl }) (record { rest = refl; walks = refl })
+put_owed_keeps setup t dev p = keeps_cond (is_limited setup dev && (home setup dev == t)) p (owing (owes.Put dev) p) p (record { rest = refl; walks = refl }) (record { rest = refl; walks = refl })
 
 pub marked_keeps : (setup : Setup) (t : ℕ) (v : View) (walk : WalkId) (dev : DevId) (kind : WalkKind) → Keeps v.part (marked_by setup t v walk dev kind)
 marked_keeps setup t v walk dev Freeze =

@@ -24,7 +24,7 @@ abbrev pub device_grown_setup : Setup
 device_grown_setup = record {
   threads = 1;
   devices =
-      record { name = codes "N"; kind = devices.Null; stacked = None; blocks = 8; size = 512; boundary = 0; depth = 128; file = None; group = 0 } ∷
+      record { name = codes "N"; kind = devices.Null; base = None; blocks = 8; size = 512; boundary = 0; depth = 128; file = None; group = 0 } ∷
       [];
   rates =
       [];
@@ -73,13 +73,13 @@ device_grown =
     at 25 0 (acts.Script 6 outcomes.Done) ∷
     at 26 0 (acts.Put 0 4 (tokens.Channel (dev 0))) ∷
     at 27 0 (acts.Took 0 4 (tokens.Channel (dev 0))) ∷
-    at 28 0 (acts.Reg (events.DropChannel (dev 0)) (answers.Dropped dropped.Last [] None)) ∷
+    at 28 0 (acts.Reg (events.DropChannel (dev 0)) (answers.Dropped dropped.Last None None)) ∷
     at 29 0 acts.Shutdown ∷
     at 30 0 (acts.Reg (events.BeginRemove (codes "N")) (answers.Removing (dev 0) (threads 0) [] (Some (dev 0)))) ∷
     at 31 0 (acts.Put 0 5 (tokens.Device (dev 0))) ∷
     at 32 0 (acts.Took 0 5 (tokens.Device (dev 0))) ∷
     at 33 0 (acts.Destruct (dev 0) None) ∷
-    at 34 0 (acts.Reg (events.Destructed (dev 0)) (answers.Freed [])) ∷
+    at 34 0 (acts.Reg (events.Destructed (dev 0)) (answers.Freed None)) ∷
     []
 
 pub device_grown_runs : refusal_in device_grown_setup (start device_grown_setup []) 0 device_grown ≡ None

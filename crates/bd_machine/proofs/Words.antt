@@ -1,7 +1,6 @@
 -- Words for traces.
 use Rattle.std.specs.List.{filter}
 use Rattle.std.proofs.Common.{Bool, true, false, not, cond, ◌==◌, ◌++◌, ℕ, ◌+◌, List, [], ◌∷◌, Option, Some, None}
-use Rattle.bd_base.specs.declared.device.Stacked.{Stacked}
 use Rattle.bd_base.specs.declared.id.DevId.{DevId}
 use Rattle.bd_base.specs.declared.id.HandleId.{HandleId}
 use Rattle.bd_base.specs.declared.id.ReqId.{ReqId}
@@ -30,10 +29,6 @@ script thread lines = record { thread = thread; lines = lines }
 
 abbrev pub dev : ℕ → DevId
 dev n = record { 0 = n }
-
--- what a device on this base device alone stands on
-abbrev pub over : DevId → Stacked
-over base = record { bases = base ∷ []; under = base ∷ []; base = base; layers = 2; spreads = false }
 
 abbrev pub handle : ℕ → HandleId
 handle n = record { 0 = n }

@@ -30,7 +30,7 @@ use Rattle.bd_machine.specs.declared.state.Stage.{Stage}
 use Rattle.bd_machine.specs.declared.state.Stage.TheVariants as stages
 use Rattle.bd_machine.specs.Admission.{is_gone}
 use Rattle.bd_machine.specs.Asked.{asks_event, owes_removal, is_reset_at}
-use Rattle.bd_machine.specs.BlockMap.{home}
+use Rattle.bd_machine.specs.BlockMap.{below, home}
 use Rattle.bd_machine.specs.Changes.{is_dropped}
 use Rattle.bd_machine.specs.Delays.{uncounted}
 use Rattle.bd_machine.specs.Injections.{asked_once_more}
@@ -67,6 +67,9 @@ decided_by came answer part = record part { decided = cond came.shut part.decide
 abbrev pub paid : Owed → Part → Part
 paid owed part = record part { owed = without_first (same_owed owed) part.owed }
 
+abbrev pub owing : Owed → Part → Part
+owing owed part = record part { owed = part.owed ++ owed ∷ [] }
+
 abbrev pub with_due : List Due → Part → Part
 with_due due part = record part { due = part.due ++ due }
 
@@ -79,11 +82,9 @@ device_due setup None = []
 device_due setup (Some dev) = due_to (home setup dev) (news.Device dev)
 
 -- a channel that is to be dropped is told to its own thread
-abbrev pub channel_due : ℕ → DevId → Due
-channel_due t dev = record { receiver = t; news = news.Channel dev }
-
-abbrev pub channels_due : ℕ → List DevId → List Due
-channels_due t devs = map (channel_due t) devs
+abbrev pub channel_due : ℕ → Option DevId → List Due
+channel_due t None = []
+channel_due t (Some dev) = due_to t (news.Channel dev)
 
 abbrev pub gone_due : HandleId × ThreadId → Due
 gone_due holder = record { receiver = holder.1.0; news = news.Gone holder.0 }
@@ -116,11 +117,11 @@ all_born frozen [] part = part
 all_born frozen (d ∷ ds) part = all_born frozen ds (born frozen d part)
 
 abbrev pub got_by : Setup → View → DevId → Answer → Part
-got_by setup v dev (answers.Got fresh frozen) = all_born frozen (made setup v.channels dev) v.part
+got_by setup v dev (answers.Got fresh frozen) = all_born frozen (made v.channels (below setup dev)) v.part
 got_by setup v dev _ = v.part
 
 abbrev pub put_down_by : ℕ → DevId → Answer → Part → Part
-put_down_by t dev (answers.PutDown left) part = with_due (cond (left == 0) (channels_due t (dev ∷ [])) []) part
+put_down_by t dev (answers.PutDown left) part = with_due (cond (left == 0) (channel_due t (Some dev)) []) part
 put_down_by t dev _ part = part
 
 abbrev pub put_paid : DevId → Bool → Part → Part
@@ -128,7 +129,7 @@ put_paid dev closing part = cond closing part (paid (owes.Put dev) part)
 
 -- the freeze mark goes with the channel
 abbrev pub dropped_by : ℕ → DevId → Answer → Part → Part
-dropped_by t dev (answers.Dropped what zero destruct) part = with_due (channels_due t zero) (cond (is_dropped what) (remarked dev (with_frozen Not) part) part)
+dropped_by t dev (answers.Dropped what zero destruct) part = with_due (channel_due t zero) (cond (is_dropped what) (remarked dev (with_frozen Not) part) part)
 dropped_by t dev _ part = part
 
 -- ---- BeginRemove
@@ -189,12 +190,8 @@ abbrev pub injection_taken : View → ReqId → Answer → Change
 injection_taken v req (answers.Injected decision) = record { part = v.part; moves = edited req asked_once_more (request_here v req) }
 injection_taken v req _ = alone v.part
 
-abbrev pub close_owed : HandleId × ThreadId → Owed
-close_owed holder = owes.Close holder.0
-
--- the base handles that the registry names are closed
 abbrev pub freed_by : Answer → Part → Part
-freed_by (answers.Freed handles) part = record part { owed = part.owed ++ map close_owed handles }
+freed_by (answers.Freed (Some id)) part = owing (owes.Close id) part
 freed_by _ part = part
 
 -- ---- BeginResize, EndResize

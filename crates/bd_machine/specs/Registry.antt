@@ -1,7 +1,7 @@
 -- The registry: its answers.
-use Rattle.std.specs.Prelude.{ℕ, ◌-◌, ◌*◌, Bool, true, false, cond, not, ◌&&◌, ◌||◌, ◌==◌, nat_le, nat_lt, sum_by, List, [], ◌∷◌, length, map, filter, filter_map, find, position, Option, Some, None, is_none, is_some, slice_get, unwrap_or}
+use Rattle.std.specs.Prelude.{ℕ, ◌-◌, ◌*◌, Bool, true, false, cond, not, ◌&&◌, ◌||◌, ◌==◌, nat_le, nat_lt, sum_by, List, [], ◌∷◌, length, map, filter, find, position, Option, Some, None, is_none, is_some, slice_get, unwrap_or}
 use Rattle.std.specs.List.{list_all}
-use Rattle.std.specs.Option.{option_flatten, option_map}
+use Rattle.std.specs.Option.{option_flatten}
 use Rattle.bd_base.specs.Name.{same_name}
 use Rattle.bd_base.specs.declared.id.DevId.{DevId}
 use Rattle.bd_base.specs.declared.id.HandleId.{HandleId}
@@ -25,13 +25,13 @@ use Rattle.bd_machine.specs.declared.state.ResetState.{ResetState}
 use Rattle.bd_machine.specs.declared.state.ResetState.TheVariants as resets
 use Rattle.bd_machine.specs.declared.state.Standing.{Standing}
 use Rattle.bd_machine.specs.declared.state.Standing.TheVariants as standings
-use Rattle.bd_machine.specs.BlockMap.{base_of, bases_of, below, blocks_of, home, is_error, is_malloc, is_null, is_over, size_of}
+use Rattle.bd_machine.specs.BlockMap.{base_of, below, blocks_of, home, is_error, is_malloc, is_null, is_over, size_of, stands_on}
 use Rattle.bd_machine.specs.Claims.{Holder, claim_refusal, open_refusal}
 use Rattle.bd_machine.specs.Injecting.{decision_for}
 use Rattle.bd_machine.specs.Same.{same_handle, same_dev, same_channel}
 use Rattle.bd_machine.specs.Table.{first_cause, look_up}
 use Rattle.bd_machine.specs.Threads.{is_nobody, those}
-use Rattle.bd_machine.specs.Users.{all_devices, base_handles_of, is_base_handle, users}
+use Rattle.bd_machine.specs.Users.{all_devices, base_handle, is_base_handle, users}
 
 -- an event with its answer
 pub record Question : Type 0 where
@@ -126,9 +126,10 @@ references registry t dev = option_flatten (look_up same_channel registry.channe
 abbrev pub threads_of : Setup → Registry → DevId → ThreadSet
 threads_of setup registry dev = those (λ t. is_some (references registry t dev)) setup.threads
 
--- the devices whose channels a get makes, in the order of those below: none where the device has one, and else all that have none
-abbrev pub made : Setup → (DevId → Option ℕ) → DevId → List DevId
-made setup channels dev = cond (is_some (channels dev)) [] (filter (λ d. is_none (channels d)) (below setup dev))
+-- the devices, from the top down, whose channels a get makes: those down to the first that has one
+abbrev pub made : (DevId → Option ℕ) → List DevId → List DevId
+made channels [] = []
+made channels (d ∷ ds) = cond (is_some (channels d)) [] (d ∷ made channels ds)
 
 -- ---- what prevents a destruction
 
@@ -190,7 +191,7 @@ is_born_frozen (Some device) = is_running_reset device.reset
 abbrev pub get_answer : Setup → Registry → ℕ → DevId → Answer
 get_answer setup registry t dev =
     cond (are_live setup registry dev)
-    (answers.Got (is_none (references registry t dev)) (filter (λ d. is_born_frozen (slice_get registry.devices d.0)) (made setup (references registry t) dev)))
+    (answers.Got (is_none (references registry t dev)) (filter (λ d. is_born_frozen (slice_get registry.devices d.0)) (made (references registry t) (below setup dev))))
     (answers.Refused NoDev)
 
 abbrev pub put_answer : Option ℕ → Answer
@@ -201,9 +202,10 @@ abbrev pub is_count : ℕ → Option ℕ → Bool
 is_count n None = false
 is_count n (Some count) = count == n
 
--- the bases whose counts on the thread come to zero where a channel above them goes
-abbrev pub zero_by_drop : Registry → ℕ → List DevId → List DevId
-zero_by_drop registry t bases = filter (λ base. is_count 1 (references registry t base)) bases
+-- the base whose count on the thread comes to zero where a channel above it goes
+abbrev pub zero_by_drop : Registry → ℕ → Option DevId → Option DevId
+zero_by_drop registry t None = None
+zero_by_drop registry t (Some base) = if_so (is_count 1 (references registry t base)) base
 
 -- the threads but this one that have a channel
 abbrev pub other_threads_of : Setup → Registry → ℕ → DevId → ThreadSet
@@ -214,8 +216,8 @@ abbrev pub drop_answer : Setup → Registry → ℕ → DevId → Answer
 drop_answer setup registry t dev =
     let others : ThreadSet = other_threads_of setup registry t dev in
     cond (is_count 0 (references registry t dev))
-    (answers.Dropped (cond (is_nobody others) dropped.Last dropped.Gone) (zero_by_drop registry t (bases_of setup dev)) (if_so (is_bare registry dev (handles_on registry dev) others) dev))
-    (answers.Dropped dropped.Kept [] None)
+    (answers.Dropped (cond (is_nobody others) dropped.Last dropped.Gone) (zero_by_drop registry t (stands_on setup dev)) (if_so (is_bare registry dev (handles_on registry dev) others) dev))
+    (answers.Dropped dropped.Kept None None)
 
 abbrev pub remove_answer_at : Setup → Registry → DevId → Standing → Answer
 remove_answer_at setup registry dev standings.Live =
@@ -262,16 +264,13 @@ injection_answer setup dev op (Some device) = cond (is_error setup dev) (answers
 abbrev pub is_last_user : Setup → Registry → DevId → HandleId → Bool
 is_last_user setup registry dev handle = list_all (λ d. same_dev d dev || is_destructed_standing (standing_of registry d)) (users setup handle)
 
--- a base handle with its thread, where it is open and the device is its last user
-abbrev pub left_open : Setup → Registry → DevId → HandleId → Option (HandleId × ThreadId)
-left_open setup registry dev handle = cond (is_last_user setup registry dev handle) (option_map opener_of (handle_of registry.handles handle)) None
-
--- those of these base handles that are open, where the device is their last user
-abbrev pub left_among : Setup → Registry → DevId → List HandleId → List (HandleId × ThreadId)
-left_among setup registry dev handles = filter_map (left_open setup registry dev) handles
+-- the base handle of a device, where it is open and the device is its last user
+abbrev pub left_open : Setup → Registry → DevId → Option HandleId → Option HandleId
+left_open setup registry dev None = None
+left_open setup registry dev (Some handle) = cond (is_some (handle_of registry.handles handle) && is_last_user setup registry dev handle) (Some handle) None
 
 abbrev pub destructed_answer : Setup → Registry → DevId → Answer
-destructed_answer setup registry dev = cond (is_free setup registry dev) (answers.Freed (left_among setup registry dev (base_handles_of setup dev))) (answers.Refused Inval)
+destructed_answer setup registry dev = cond (is_free setup registry dev) (answers.Freed (left_open setup registry dev (base_handle setup dev))) (answers.Refused Inval)
 
 -- ---- resizes
 

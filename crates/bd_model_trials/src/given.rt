@@ -1,7 +1,6 @@
 //! The setup of the cases.
-use crate::words::{device, number, small, split, words};
-use bd_base::{Boxed, DevList, DevRow, Kind, Name, OutOfMemory, Rates, Rows, Setup, Stacked};
-use bd_stack::stacked_over;
+use crate::words::{device, number, small, words};
+use bd_base::{DevId, DevRow, Kind, Name, OutOfMemory, Rates, Rows, Setup};
 use std::alloc::Global;
 
 /// What was given so far.
@@ -13,45 +12,23 @@ pub(crate) struct Given {
 }
 
 fn kind(word: &str) -> Kind {
-    match split(word, ":") {
-        ("malloc", _) => Kind::Malloc,
-        ("null", _) => Kind::Null,
-        ("passthru", _) => Kind::Passthru,
-        ("error", _) => Kind::Error,
-        ("concat", strip) => Kind::Concat {
-            strip: number(strip),
-        },
-        ("raid0", strip) => Kind::Raid0 {
-            strip: number(strip),
-        },
-        (part, _) => Kind::Part {
+    match word {
+        "malloc" => Kind::Malloc,
+        "null" => Kind::Null,
+        "passthru" => Kind::Passthru,
+        "error" => Kind::Error,
+        part => Kind::Part {
             shift: number(part),
         },
     }
 }
 
-fn bases(alloc: Global, word: &str) -> Result<DevList, OutOfMemory> {
-    let mut bases = Rows::new(alloc);
-    if word != "-" {
-        for base in word.split(",") {
-            bases.push(device(base))?;
-        }
+fn base(word: &str) -> Option<DevId> {
+    if word == "-" {
+        None
+    } else {
+        Some(device(word))
     }
-    Ok(bases)
-}
-
-// What a device stands on that is made after those of the setup.
-fn stacked(
-    alloc: Global,
-    setup: &Setup,
-    kind: Kind,
-    bases: DevList,
-) -> Result<Option<Boxed<Stacked>>, OutOfMemory> {
-    if bases.len() == 0 {
-        return Ok(None);
-    }
-    let stacked = stacked_over(alloc, setup, kind, bases)?;
-    Ok(Some(Boxed::new(alloc, stacked)?))
 }
 
 // The word at a place; none is the empty one.
@@ -62,14 +39,12 @@ fn word<'a>(words: &[&'a str], at: usize) -> &'a str {
     }
 }
 
-// The device of these words, or of those that are there, which is made after those of the setup.
-fn row(alloc: Global, setup: &Setup, words: &[&str]) -> Result<DevRow, OutOfMemory> {
-    let kind = kind(word(words, 1));
-    let bases = bases(alloc, word(words, 2))?;
+// The device of these words, or of those that are there.
+fn row(alloc: Global, words: &[&str]) -> Result<DevRow, OutOfMemory> {
     Ok(DevRow {
         name: Name::from_slice(alloc, word(words, 0).as_bytes())?,
-        kind,
-        stacked: stacked(alloc, setup, kind, bases)?,
+        kind: kind(word(words, 1)),
+        base: base(word(words, 2)),
         blocks: number(word(words, 3)),
         size: small(word(words, 4)),
         boundary: number(word(words, 5)),
@@ -79,14 +54,13 @@ fn row(alloc: Global, setup: &Setup, words: &[&str]) -> Result<DevRow, OutOfMemo
     })
 }
 
-// The devices of these words are made, one after the other.
-fn make_devices(alloc: Global, setup: &mut Setup, text: &str) -> Result<(), OutOfMemory> {
+fn devices(alloc: Global, text: &str) -> Result<Rows<DevRow>, OutOfMemory> {
+    let mut devices = Rows::new(alloc);
     for text in text.split("; ") {
         let words = words(alloc, text)?;
-        let row = row(alloc, setup, words.as_slice())?;
-        setup.devices.push(row)?;
+        devices.push(row(alloc, words.as_slice())?)?;
     }
-    Ok(())
+    Ok(devices)
 }
 
 fn rates(alloc: Global, text: &str) -> Result<Rows<Rates>, OutOfMemory> {
@@ -131,15 +105,15 @@ impl Given {
 
     /// The setup.
     pub(crate) fn setup(&self, alloc: Global) -> Result<Setup, OutOfMemory> {
-        let mut setup = Setup {
+        let devices = devices(alloc, self.devices.as_str())?;
+        let rates = rates(alloc, self.rates.as_str())?;
+        Ok(Setup {
             threads: self.threads,
-            devices: Rows::new(alloc),
-            rates: rates(alloc, self.rates.as_str())?,
+            devices,
+            rates,
             injections: Rows::new(alloc),
             waiting: Rows::new(alloc),
             scripts: Rows::new(alloc),
-        };
-        make_devices(alloc, &mut setup, self.devices.as_str())?;
-        Ok(setup)
+        })
     }
 }

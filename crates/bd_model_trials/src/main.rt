@@ -1,7 +1,7 @@
 //! The machine's rules as programs, asked one by one. Each line of the input is a case: its name, a colon, and what is
 //! asked; it is answered by its name and what the crate that has the rule says. What must be printed stands in `stdout`.
 //!
-//! `threads`, `devices` and `rates` give the setup of the cases after them: devices by their name, kind, bases (or `-`),
+//! `threads`, `devices` and `rates` give the setup of the cases after them: devices by their name, kind, base (or `-`),
 //! blocks, block size, boundary and group, and the four limits of each, with semicolons between devices.
 #![tactic(auto)]
 

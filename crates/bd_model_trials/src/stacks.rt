@@ -1,10 +1,9 @@
 //! Stacked devices, and the pieces of ranges on them.
-use crate::words::{device, devices, great, number, said, words};
+use crate::words::{device, devices, great, maybe, number, said, words};
 use bd_base::{DevId, HandleId, Name, OutOfMemory, Rows, Setup};
-use bd_blocks::{blocks_of, boundary_of, extents, is_aio_below, is_home, is_malloc, size_of};
+use bd_blocks::{blocks_of, boundary_of, extents, is_aio, is_home, is_malloc, size_of};
 use bd_stack::{
-    at, base_handles, base_handles_of, base_of, below, device_named, home, is_base_handle,
-    layers_of, spreads, under, users,
+    at, base_handle, base_of, below, device_named, firsts, home, is_base_handle, under, users,
 };
 use std::alloc::Global;
 
@@ -21,12 +20,8 @@ fn row(alloc: Global, setup: &Setup, dev: DevId) -> Result<String, OutOfMemory> 
     if is_malloc(setup, dev) {
         text.push_str(", malloc")?;
     }
-    if is_aio_below(setup, dev) {
+    if is_aio(setup, dev) {
         text.push_str(", aio")?;
-    }
-    if spreads(setup, dev) {
-        let layers = layers_of(setup, dev);
-        write!(text, ", spreads over {layers} layers")?;
     }
     Ok(text)
 }
@@ -50,8 +45,8 @@ fn lowest(alloc: Global, setup: &Setup, dev: DevId, block: u64) -> Result<String
 
 fn next_below(alloc: Global, setup: &Setup, dev: DevId, block: u64) -> Result<String, OutOfMemory> {
     match under(setup, dev, block) {
-        Ok(Some(lower)) => {
-            let (base, number) = (lower.dev.0, lower.number);
+        Ok(Some((base, number))) => {
+            let base = base.0;
             Ok(format!(in alloc; "block {number} of {base}")?)
         }
         Ok(None) => said(alloc, "none"),
@@ -92,28 +87,6 @@ fn used(alloc: Global, setup: &Setup, handle: HandleId) -> Result<String, OutOfM
     Ok(text)
 }
 
-// The base handles of a device.
-fn handles(alloc: Global, setup: &Setup, dev: DevId) -> Result<String, OutOfMemory> {
-    let found = base_handles_of(alloc, setup, dev)?;
-    let mut text = String::from_str(alloc, "handles")?;
-    for handle in found.as_slice() {
-        let number = handle.0;
-        write!(text, " {number}")?;
-    }
-    Ok(text)
-}
-
-// The first device and the base of each base handle.
-fn all_handles(alloc: Global, setup: &Setup) -> Result<String, OutOfMemory> {
-    let found = base_handles(alloc, setup)?;
-    let mut text = String::from_str(alloc, "handles")?;
-    for (first, base) in found.as_slice() {
-        let (first, base) = (first.0, base.0);
-        write!(text, " {first}:{base}")?;
-    }
-    Ok(text)
-}
-
 /// What is said of a device, a block, a range or a handle.
 pub(crate) fn answer(alloc: Global, setup: &Setup, asked: &str) -> Result<String, OutOfMemory> {
     let words = words(alloc, asked)?;
@@ -128,8 +101,11 @@ pub(crate) fn answer(alloc: Global, setup: &Setup, asked: &str) -> Result<String
             cut(alloc, setup, device(dev), range)
         }
         ["users", handle] => used(alloc, setup, HandleId(great(handle))),
-        ["handles", dev] => handles(alloc, setup, device(dev)),
-        ["handles"] => all_handles(alloc, setup),
+        ["handle", dev] => maybe(alloc, base_handle(setup, device(dev)).map(|h| h.0)),
+        ["firsts"] => {
+            let found = firsts(alloc, setup)?;
+            devices(alloc, found.as_slice())
+        }
         _ => said(alloc, "no such question"),
     }
 }

@@ -231,7 +231,7 @@ module _ {D : Type 0} (stamp : ℕ) (seats news : List (Seat D)) (len : length n
               held = at.held;
               once = at.once;
               replica = at.replica;
-              course = stamps_are_met setup i p c (seen_over setup contents s.worker) stamp le at.course;
+              course = λ lowest. stamps_are_met setup i p c (seen_over setup contents s.worker) stamp le (at.course lowest);
             };
             linked = q.linked;
             start = q.start;

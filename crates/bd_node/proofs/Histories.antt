@@ -26,7 +26,7 @@ use Rattle.bd_registry.specs.State.{HasRowsOf, IsReplayFromStart, Registered}
 use Rattle.bd_disks.specs.Contents.{contents_of}
 use Rattle.bd_disks.specs.Done.{AreDoneBy}
 use Rattle.bd_disks.proofs.Done.{done_same}
-use Rattle.bd_law_disks.specs.Told.{told_base}
+use Rattle.bd_law_disks.specs.Told.{told_base, AreBasesLowest}
 use Rattle.bd_thread.specs.Seen.{time_of}
 use Rattle.bd_turns.specs.Local.{Local}
 use Rattle.bd_wires.specs.declared.wires.Passes.{Passes}
@@ -73,7 +73,7 @@ pub record Settles {D : Type 0} (state : D → DiskState) (setup : Setup) (start
   pub held : (t : ℕ) → t < setup.threads → (s : Seat D) → slice_get seats t ≡ Some s → EndInTime setup (time_of s.worker.thread).moment (held_from setup t (start setup (told_of state setup starts)) merged)
 
 module _ {D : Type 0} (state : D → DiskState) (setup : Setup) (w : Wires) (starts : List (List (DevId × D))) (met : ℕ) (trace : List Entry) (seats : List (Seat D)) (phases : ℕ → Phase) (a : AreSeated state setup w starts (past_of met trace) seats true phases)
-    (sh : AreShut setup (told_of state setup starts) phases) (many : length starts ≡ setup.threads)
+    (sh : AreShut setup (told_of state setup starts) phases) (lowest : AreBasesLowest setup) (many : length starts ≡ setup.threads)
     (done : list_all seat_is_done seats ≡ true) (taken : are_all_taken seats ≡ true) (gone : list_all seat_has_destructed seats ≡ true) (d : wires.AreDelivered (map passes_of seats))
     (r : Registered) (h : wires.HasJournalOf (map passes_of seats) r) (ordered : IsOrdered r.journal) (replay : (x : Setup) → HasRowsOf r x → IsReplayFromStart x r.journal)
     (merged : List Entry) (m : IsMerge (map (log_with trace) seats) merged) where
@@ -87,10 +87,10 @@ module _ {D : Type 0} (state : D → DiskState) (setup : Setup) (w : Wires) (sta
       let s : Seat D = from.0 in
       let lt : t < setup.threads = subst (λ (n : ℕ). t < n) a.len (slice_get_within seats t s from.1) in
       let opened : disks_at starts t ≡ x = get_or_from_slice_get starts t x [] before in
-      let q = seat_is state setup told w starts met trace seats phases a sh t s from.1 in
-      let c = courses_of state setup told w starts met trace seats phases a sh t in
+      let q = seat_is state setup told w starts met trace seats phases a sh lowest t s from.1 in
+      let c = courses_of state setup told w starts met trace seats phases a sh lowest t in
       done_same state setup c.served (pieces_of state setup merged starts t) x y
-      (λ dev. sym (done_served state setup told w starts met trace seats phases a sh done taken gone d r h ordered replay merged m t dev lt))
+      (λ dev. sym (done_served state setup told w starts met trace seats phases a sh lowest done taken gone d r h ordered replay merged m t dev lt))
       (subst (λ (ds : List (DevId × D)). AreDoneBy state setup c.served ds y) opened
       (subst (λ (ds : List (DevId × D)). AreDoneBy state setup c.served (disks_at starts t) ds) from.2 q.done))
 
@@ -99,23 +99,23 @@ module _ {D : Type 0} (state : D → DiskState) (setup : Setup) (w : Wires) (sta
       → IfSome (find (is_base dev) (part_of (state_after setup told merged) (home setup dev)).bases) (λ base. base.content ≡ contents_of state (disks_at (disks_of seats) (home setup dev)) dev)
   holds dev aio =
       let at : ℕ = home setup dev in
-      let u = seat_of state setup told w starts met trace seats phases a sh at (mod_below (base_of setup dev).0 setup.threads a.some) in
+      let u = seat_of state setup told w starts met trace seats phases a sh lowest at (mod_below (base_of setup dev).0 setup.threads a.some) in
       let own : disks_at (disks_of seats) at ≡ u.0.disks = get_or_from_slice_get (disks_of seats) at u.0.disks [] (map_at (λ (s : Seat D). s.disks) seats at u.0 u.1) in
-      let seen : find (is_base dev) (part_of (state_after setup told merged) at).bases ≡ base_here (ends_of state setup told w starts met trace seats phases a sh at).view dev =
-      done_bases state setup told w starts met trace seats phases a sh done taken gone d r h ordered replay merged m dev in
+      let seen : find (is_base dev) (part_of (state_after setup told merged) at).bases ≡ base_here (ends_of state setup told w starts met trace seats phases a sh lowest at).view dev =
+      done_bases state setup told w starts met trace seats phases a sh lowest done taken gone d r h ordered replay merged m dev in
       subst (λ (o : Option Base). IfSome o (λ base. base.content ≡ contents_of state (disks_at (disks_of seats) at) dev)) (sym seen)
-      (subst (λ (l : Local). IfSome (base_here l.view dev) (λ base. base.content ≡ contents_of state (disks_at (disks_of seats) at) dev)) (sym (end_is state setup told w starts met trace seats phases a sh at u.0 u.1))
+      (subst (λ (l : Local). IfSome (base_here l.view dev) (λ base. base.content ≡ contents_of state (disks_at (disks_of seats) at) dev)) (sym (end_is state setup told w starts met trace seats phases a sh lowest at u.0 u.1))
       (subst (λ (ds : List (DevId × D)). IfSome (base_here (local_of state setup u.0).view dev) (λ base. base.content ≡ contents_of state ds dev)) (sym own)
       (found_tells setup (contents_of state u.0.disks) dev aio u.0.worker.thread.part.bases)))
 
   -- **a node that is done has a complete run, which says what its disks did**
   done_settles : Settles state setup starts seats merged
   done_settles = record {
-    complete = done_complete state setup told w starts met trace seats phases a sh done taken gone d r h ordered replay merged m;
+    complete = done_complete state setup told w starts met trace seats phases a sh lowest done taken gone d r h ordered replay merged m;
     says = record { len = length-map seats (λ (s : Seat D). s.disks) ∙ a.len ∙ sym many; each = each; holds = holds };
     held = λ t lt s e.
-        subst (EndInTime setup (time_of s.worker.thread).moment) (sym (done_held state setup told w starts met trace seats phases a sh done taken gone d r h ordered replay merged m t lt))
-        (seat_is state setup told w starts met trace seats phases a sh t s e).worker.held;
+        subst (EndInTime setup (time_of s.worker.thread).moment) (sym (done_held state setup told w starts met trace seats phases a sh lowest done taken gone d r h ordered replay merged m t lt))
+        (seat_is state setup told w starts met trace seats phases a sh lowest t s e).worker.held;
   }
 
 -- ---- a node, taken apart
@@ -127,11 +127,11 @@ done_parts false over true h = cc
 done_parts false over false h = cc
 
 -- where it is done, the merge of all that its threads did says so
-pub node_settles : {D : Type 0} → (state : D → DiskState) (starts : List (List (DevId × D))) (n : Node D) → IsNodeOf state starts n → state_of n ≡ Done
+pub node_settles : {D : Type 0} → (state : D → DiskState) (starts : List (List (DevId × D))) (n : Node D) → IsNodeOf state starts n → AreBasesLowest (setup_in n) → state_of n ≡ Done
     → (passes : List Passes) → passes ≡ map passes_of n.seats.items
     → wires.AreDelivered passes → (r : Registered) → wires.HasJournalOf passes r → IsOrdered r.journal → ((x : Setup) → HasRowsOf r x → IsReplayFromStart x r.journal)
     → (merged : List Entry) → IsMerge (logs_of n) merged → Settles state (setup_in n) starts n.seats.items merged
-node_settles {D} state starts n h done passes passes-is d r j ordered replay merged m =
+node_settles {D} state starts n h lowest done passes passes-is d r j ordered replay merged m =
     go n.shut (done_parts n.shut (is_over n) (is_idle n) done).0 h.seated h.phases_are
   where
     none : Bool
@@ -146,6 +146,6 @@ node_settles {D} state starts n h done passes passes-is d r j ordered replay mer
     go : (b : Bool) → b ≡ true → AreSeated state (setup_in n) n.wires starts (past_of h.met n.trace.items) n.seats.items b h.phases → ArePhases (setup_in n) (told_of state (setup_in n) starts) b h.phases
         → Settles state (setup_in n) starts n.seats.items merged
     go true e seated phased =
-        done_settles state (setup_in n) n.wires starts h.met n.trace.items n.seats.items h.phases seated phased h.many rest.0 rest.1 over.1
+        done_settles state (setup_in n) n.wires starts h.met n.trace.items n.seats.items h.phases seated phased lowest h.many rest.0 rest.1 over.1
         (subst (λ (qs : List Passes). wires.AreDelivered qs) passes-is d) r (subst (λ (qs : List Passes). wires.HasJournalOf qs r) passes-is j) ordered replay merged m
     go false e seated phased = cc

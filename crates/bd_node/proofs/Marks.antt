@@ -11,6 +11,7 @@ use Rattle.bd_base.specs.declared.setup.Setup.{Setup}
 use Rattle.bd_machine.specs.Content.{Told}
 use Rattle.bd_machine.specs.View.{View}
 use Rattle.bd_outside.specs.Disk.{DiskState}
+use Rattle.bd_law_disks.specs.Told.{AreBasesLowest}
 use Rattle.bd_turns.specs.Laws.{view_at_start}
 use Rattle.bd_log.proofs.Order.{all_map}
 use Rattle.bd_law_logs.specs.Rows.{Accepts, Row}
@@ -116,25 +117,25 @@ module _ {D : Type 0} (state : D → DiskState) (setup : Setup) (told : Told) (w
 
   module _ (stamp : ℕ) (below : (i : ℕ) (s : Seat D) → slice_get seats i ≡ Some s → s.worker.log.last < stamp) where
     -- all its rows are below the Shutdown
-    early_at : (t : ℕ) (s : Seat D) (h : slice_get seats t ≡ Some s) → AllByRecursion (λ r. r.entry.stamp < stamp) (a.each t s h).sits.course.rows
-    early_at t s h =
+    early_at : AreBasesLowest setup → (t : ℕ) (s : Seat D) (h : slice_get seats t ≡ Some s) → AllByRecursion (λ r. r.entry.stamp < stamp) (a.each t s h).sits.course.rows
+    early_at lowest t s h =
         let c : Course = (a.each t s h).sits.course in
         let q : IsSeat state setup t (first_phase setup told t) c (pasts t) w (disks_at starts t) s = (a.each t s h).sits.seat in
         let later : c.last < stamp = subst (λ (n : ℕ). n < stamp) q.worker.log_last (below t s h) in
-        all_map (λ (r : Row). r.entry.stamp ≤ c.last) (λ (r : Row). r.entry.stamp < stamp) c.rows (λ r k. omega arith) q.worker.course.within
+        all_map (λ (r : Row). r.entry.stamp ≤ c.last) (λ (r : Row). r.entry.stamp < stamp) c.rows (λ r k. omega arith) (q.worker.course lowest).within
 
     -- its rows are accepted, before any Shutdown
-    accepted_at : (t : ℕ) (s : Seat D) (h : slice_get seats t ≡ Some s) → Accepts setup false t (view_at_start setup told t) (a.each t s h).sits.course.rows (local_of state setup s).view
-    accepted_at t s h =
+    accepted_at : AreBasesLowest setup → (t : ℕ) (s : Seat D) (h : slice_get seats t ≡ Some s) → Accepts setup false t (view_at_start setup told t) (a.each t s h).sits.course.rows (local_of state setup s).view
+    accepted_at lowest t s h =
         let c : Course = (a.each t s h).sits.course in
         let q : IsSeat state setup t (first_phase setup told t) c (pasts t) w (disks_at starts t) s = (a.each t s h).sits.seat in
-        subst (λ (b : Bool). Accepts setup b t (view_at_start setup told t) c.rows (local_of state setup s).view) (a.each t s h).flag q.worker.course.accepts
+        subst (λ (b : Bool). Accepts setup b t (view_at_start setup told t) c.rows (local_of state setup s).view) (a.each t s h).flag (q.worker.course lowest).accepts
 
-    marked : 0 < stamp → list_all seat_rests seats ≡ true → are_all_taken seats ≡ true → list_all seat_is_blocked seats ≡ true → AreMarked setup told stamp firsts marks
-    marked positive rest taken blocked = record {
+    marked : AreBasesLowest setup → 0 < stamp → list_all seat_rests seats ≡ true → are_all_taken seats ≡ true → list_all seat_is_blocked seats ≡ true → AreMarked setup told stamp firsts marks
+    marked lowest positive rest taken blocked = record {
       positive = positive;
-      accepted = λ t lt. let u = seated t lt in of_marks t (λ rows v. Accepts setup false t (view_at_start setup told t) rows v) (accepted_at t) u.0 u.1;
-      early = λ t lt. let u = seated t lt in of_marks t (λ rows v. AllByRecursion (λ r. r.entry.stamp < stamp) rows) (early_at t) u.0 u.1;
+      accepted = λ t lt. let u = seated t lt in of_marks t (λ rows v. Accepts setup false t (view_at_start setup told t) rows v) (accepted_at lowest t) u.0 u.1;
+      early = λ t lt. let u = seated t lt in of_marks t (λ rows v. AllByRecursion (λ r. r.entry.stamp < stamp) rows) (early_at lowest t) u.0 u.1;
       rested = all_rest state setup w starts pasts seats false (first_phase setup told) a rest;
       untaken = none_injected state setup w starts pasts seats false (first_phase setup told) a rest 0 a.some;
       all_taken = all_taken state setup w starts pasts seats false (first_phase setup told) a taken;
@@ -156,21 +157,21 @@ module _ {D : Type 0} (state : D → DiskState) (setup : Setup) (told : Told) (w
     seconds i = choose (slice_get seats i) (after_seat i) (after_rows i [] (marks i))
 
     -- where its course is one, what it served and held before is what its rows say
-    seat_is_after : (i : ℕ) (s : Seat D) (h : slice_get seats i ≡ Some s) → after_seat i s h ≡ after_rows i (a.each i s h).sits.course.rows (marks i)
-    seat_is_after i s h =
+    seat_is_after : AreBasesLowest setup → (i : ℕ) (s : Seat D) (h : slice_get seats i ≡ Some s) → after_seat i s h ≡ after_rows i (a.each i s h).sits.course.rows (marks i)
+    seat_is_after lowest i s h =
         let c : Course = (a.each i s h).sits.course in
         let q : IsSeat state setup i (first_phase setup told i) c (pasts i) w (disks_at starts i) s = (a.each i s h).sits.seat in
         let served : c.served ≡ (λ dev. served_on setup false i dev (view_at_start setup told i) c.rows) =
-        fun_ext (λ dev. q.worker.course.served dev ∙ ap (λ (b : Bool). served_on setup b i dev (view_at_start setup told i) c.rows) (a.each i s h).flag) in
+        fun_ext (λ dev. (q.worker.course lowest).served dev ∙ ap (λ (b : Bool). served_on setup b i dev (view_at_start setup told i) c.rows) (a.each i s h).flag) in
         let held : c.held ≡ held_on setup false i (view_at_start setup told i) c.rows =
-        q.worker.course.held ∙ ap (λ (b : Bool). held_on setup b i (view_at_start setup told i) c.rows) (a.each i s h).flag in
+        (q.worker.course lowest).held ∙ ap (λ (b : Bool). held_on setup b i (view_at_start setup told i) c.rows) (a.each i s h).flag in
         let sees : (local_of state setup s).view ≡ marks i = sym (ap (λ (o : Option (Seat D)). (local_or state setup i o).view) h) in
         λ j. let p : Phase = record { earlier = c.rows ++ shutdown_of stamp i; served = served j; held = held j; from = sees j; since = stamp } in p
 
-    seconds_are : (i : ℕ) → seconds i ≡ phase_after setup told stamp firsts marks i
-    seconds_are i =
+    seconds_are : AreBasesLowest setup → (i : ℕ) → seconds i ≡ phase_after setup told stamp firsts marks i
+    seconds_are lowest i =
         both_chosen (λ (p : Phase) (rows : List Row). p ≡ after_rows i rows (marks i)) (slice_get seats i) (after_seat i) (after_rows i [] (marks i)) (λ s h. (a.each i s h).sits.course.rows) []
-        (seat_is_after i) refl
+        (seat_is_after lowest i) refl
 
     -- each thread sits in that phase
     seated_after : (news : List (Seat D)) → length news ≡ length seats → ((i : ℕ) (s s' : Seat D) → slice_get seats i ≡ Some s → slice_get news i ≡ Some s' → Shuts state w stamp s s')
@@ -221,8 +222,8 @@ all_shut {D} state starts n stamp news is idle positive len shuts =
         firsts = firsts state setup told w starts pasts seats a;
         marks = marks state setup told w starts pasts seats a;
         none_first = none_first state setup told w starts pasts seats a stamp below;
-        marked = marked state setup told w starts pasts seats a stamp below positive idle.rest idle.taken idle.blocked;
-        phases_are = seconds_are state setup told w starts pasts seats a stamp below;
+        marked = λ lowest. marked state setup told w starts pasts seats a stamp below lowest positive idle.rest idle.taken idle.blocked;
+        phases_are = λ lowest. seconds_are state setup told w starts pasts seats a stamp below lowest;
       };
     }
 

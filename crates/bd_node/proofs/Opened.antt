@@ -20,7 +20,7 @@ use Rattle.bd_disks.specs.Holding.{content_in}
 use Rattle.bd_disks.specs.Rows.{disk_of}
 use Rattle.bd_outside.specs.Disk.{DiskState}
 use Rattle.bd_disks.specs.Contents.{contents_of, content_if}
-use Rattle.bd_law_disks.specs.Told.{told_base, told_view}
+use Rattle.bd_law_disks.specs.Told.{told_base, told_view, AreBasesLowest}
 use Rattle.bd_law_disks.proofs.Start.{start_is_told}
 use Rattle.bd_turns.specs.Laws.{view_at_start}
 use Rattle.bd_node.specs.Disks.{blocks_in, disks_at, told_at, told_of}
@@ -81,11 +81,11 @@ module _ (setup : Setup) (t : ℕ) (f g : DevId → Content) (agree : (n : ℕ) 
 
 -- **at the start a thread sees what its own disks tell**
 pub opened_view : {D : Type 0} (state : D → DiskState) (setup : Setup) (disks : List (List (DevId × D))) (t : ℕ) (own : List (DevId × D))
-    → disks_at disks t ≡ own
+    → AreBasesLowest setup → disks_at disks t ≡ own
     → view_at_start setup (told_of state setup disks) t ≡ told_view setup (contents_of state own) (view_at_start setup [] t)
-opened_view {D} state setup disks t own at =
+opened_view {D} state setup disks t own lowest at =
     let told : Told = told_of state setup disks in
-    start_is_told setup told t
+    start_is_told setup told t lowest
     ∙ told_alike setup t (λ dev. content_told (slice_index_or told dev.0 None)) (contents_of state own)
     (λ n lt here.
     ap content_told (told_here state setup disks n lt)

@@ -16,6 +16,7 @@ use Rattle.bd_machine.specs.Run.{state_after, IsCompleteRun}
 use Rattle.bd_machine.specs.Start.{start}
 use Rattle.bd_machine.specs.View.{part_of}
 use Rattle.bd_outside.specs.Disk.{DiskState}
+use Rattle.bd_law_disks.specs.Told.{AreBasesLowest}
 use Rattle.bd_law_logs.specs.Fits.{IsMergeOf}
 use Rattle.bd_law_logs.specs.Journals.{events}
 use Rattle.bd_law_logs.specs.Laws.{ArePartsOf}
@@ -104,7 +105,7 @@ module _ {D : Type 0} (state : D → DiskState) (setup : Setup) (w : Wires) (sta
 -- ---- a node that is done
 
 module _ {D : Type 0} (state : D → DiskState) (setup : Setup) (told : Told) (w : Wires) (starts : List (List (DevId × D))) (met : ℕ) (trace : List Entry) (seats : List (Seat D)) (phases : ℕ → Phase) (a : AreSeated state setup w starts (past_of met trace) seats true phases)
-    (sh : AreShut setup told phases) where
+    (sh : AreShut setup told phases) (lowest : AreBasesLowest setup) where
   abbrev course_or : (t : ℕ) (o : Option (Seat D)) → slice_get seats t ≡ o → Course
   course_or t None e = new_course
   course_or t (Some s) e = (a.each t s e).sits.course
@@ -157,11 +158,11 @@ module _ {D : Type 0} (state : D → DiskState) (setup : Setup) (told : Told) (w
       → ends.AreEnded setup told sh.stamp sh.firsts sh.marks logs_of courses_of ends_of
   ended done taken gone = record {
     some = a.some;
-    marked = sh.marked;
+    marked = sh.marked lowest;
     courses = λ t lt.
         let u = seat_of t lt in
-        subst (λ (p : Phase). IsCourse setup t p (courses_of t) (ends_of t)) (sh.phases_are t)
-        (subst (λ (l : Local). IsCourse setup t (phases t) (courses_of t) l) (sym (end_is t u.0 u.1)) (seat_is t u.0 u.1).worker.course);
+        subst (λ (p : Phase). IsCourse setup t p (courses_of t) (ends_of t)) (sh.phases_are lowest t)
+        (subst (λ (l : Local). IsCourse setup t (phases t) (courses_of t) l) (sym (end_is t u.0 u.1)) ((seat_is t u.0 u.1).worker.course lowest));
     shut = λ t lt.
         let u = seat_of t lt in
         ap (λ (l : Local). l.shared.shut) (end_is t u.0 u.1) ∙ (a.each t u.0 u.1).flag;
@@ -173,7 +174,7 @@ module _ {D : Type 0} (state : D → DiskState) (setup : Setup) (told : Told) (w
         let u = seat_of t lt in
         let many : vec_len u.0.passes.sends ≡ setup.threads = (seat_is t u.0 u.1).linked.sends in
         sym ((seat_is t u.0 u.1).sent r) ∙ ap wires.put_by (slice_get_past u.0.passes.sends.items r (omega arith));
-    logs_are = λ t lt. logs_are t lt ∙ ap (λ (p : Phase). all_rows p (courses_of t)) (sh.phases_are t);
+    logs_are = λ t lt. logs_are t lt ∙ ap (λ (p : Phase). all_rows p (courses_of t)) (sh.phases_are lowest t);
     none_else = none_else;
     none_first = sh.none_first;
     spent = are_spent state setup w starts (past_of met trace) seats true phases a done taken;
@@ -210,7 +211,7 @@ module _ {D : Type 0} (state : D → DiskState) (setup : Setup) (told : Told) (w
         let u = seat_of t lt in
         h.rows t (passes_of u.0) (map_at passes_of seats t u.0 u.1)
         ∙ (seat_is t u.0 u.1).wrote
-        ∙ (seat_is t u.0 u.1).worker.course.wrote
+        ∙ ((seat_is t u.0 u.1).worker.course lowest).wrote
         ∙ ap (λ (rows : List Row). events (entries rows)) (sym (logs_are t lt));
     others = λ t le. h.others t (subst (λ (n : ℕ). n ≤ t) (sym (passes_many state setup w starts (past_of met trace) seats true phases a)) le);
     seen = λ t lt.

@@ -122,9 +122,9 @@ seat_begins {D} state setup disks w i s q within new own linked unused =
         held = tt;
         once = λ dev. subst (λ (l : Local). IsOnce dev l.view.part.bases) (sym begun) (start_is_once setup [] i dev);
         replica = ap (λ (l : Local). l.shared.registry) begun;
-        course =
+        course = λ lowest.
             subst (λ (l : Local). IsCourse setup i (first_phase setup told i) new_course (told_local setup contents l)) (sym begun)
-            (subst (λ (v : View). IsCourse setup i (first_phase setup told i) new_course (record { view = v; shared = shared_at_start setup })) (opened_view state setup disks i s.disks own)
+            (subst (λ (v : View). IsCourse setup i (first_phase setup told i) new_course (record { view = v; shared = shared_at_start setup })) (opened_view state setup disks i s.disks lowest own)
             (course_begins setup told i));
       };
       linked = subst (λ (x : Passes). IsLinked setup.threads w i x) (sym passes) linked;

@@ -18,6 +18,7 @@ use Rattle.bd_law_threads.specs.Steps.{first_phase}
 use Rattle.bd_thread.specs.Resting.{has_destructed_all, is_blocked, is_done, rests}
 use Rattle.bd_seat.specs.declared.seat_error.SeatError.{SeatError}
 use Rattle.bd_seat.specs.declared.seat_error.SeatError.TheVariants.{OutOfMemory, StampsSpent}
+use Rattle.bd_law_disks.specs.Told.{AreBasesLowest}
 use Rattle.bd_wires.specs.declared.wires.Wires.{Wires}
 use Rattle.bd_node.specs.declared.node.Node.{Node}
 use Rattle.bd_node.specs.declared.node.NodeState.{NodeState}
@@ -49,8 +50,9 @@ pub record AreShut (setup : Setup) (told : Told) (phases : ℕ → Phase) : Type
   pub firsts : ℕ → List Row
   pub marks : ℕ → View
   pub none_first : (t : ℕ) → setup.threads ≤ t → firsts t ≡ []
-  pub marked : AreMarked setup told stamp firsts marks
-  pub phases_are : (t : ℕ) → phases t ≡ phase_after setup told stamp firsts marks t
+  -- where base devices stand on nothing
+  pub marked : AreBasesLowest setup → AreMarked setup told stamp firsts marks
+  pub phases_are : AreBasesLowest setup → (t : ℕ) → phases t ≡ phase_after setup told stamp firsts marks t
 
 abbrev pub ArePhases : Setup → Told → Bool → (ℕ → Phase) → Type 0
 ArePhases setup told false phases = (t : ℕ) → phases t ≡ first_phase setup told t

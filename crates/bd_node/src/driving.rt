@@ -6,6 +6,7 @@ ghost use Rattle.bd_log.specs.Merge.{IsMerge};
 ghost use Rattle.bd_machine.specs.Run.{IsCompleteRun};
 ghost use Rattle.bd_outside.specs.Clock.{Moments};
 ghost use Rattle.bd_base.specs.declared.id.DevId.{DevId};
+ghost use Rattle.bd_law_disks.specs.Told.{AreBasesLowest};
 ghost use Rattle.bd_node.specs.Disks.{disks_of, told_of, SaysOfDisks};
 ghost use Rattle.bd_node.specs.Schedule.{advance, advance_by};
 ghost use Rattle.bd_worker.specs.Seats.{made_by, HasMoved, Tells};
@@ -454,15 +455,15 @@ impl<'a, D: Disk> Node<'a, D> {
         requires done { state_of self ≡ NodeState.Done }
         ensures merged { IfOk result.0 (λ run. IsMerge (logs_of self.entry) run.history) }
         ensures counted { IfOk result.0 (λ run. run.stats ≡ stats_of (setup_in self.entry) run.history) }
-        ensures complete { (starts : List (List (DevId × D))) → IsNodeOf D.state starts self.entry
+        ensures complete { (starts : List (List (DevId × D))) → IsNodeOf D.state starts self.entry → AreBasesLowest (setup_in self.entry)
             → IfOk result.0 (λ run. IsCompleteRun (setup_in self.entry) (told_of D.state (setup_in self.entry) starts) run.history) }
         ensures disks { (starts : List (List (DevId × D))) → self.entry.shelf.items ≡ []
-            → IsNodeOf D.state starts self.entry
+            → IsNodeOf D.state starts self.entry → AreBasesLowest (setup_in self.entry)
             → IfOk result.0 (λ run. SaysOfDisks D.state (setup_in self.entry) run.history starts result.1.items) }
         ensures moments { (range : Option Moments) → HaveTimesWithin range self.entry.seats.items → IfOk result.0 (λ run. AreMomentsWithin range run.history) }
-        ensures holds { (range : Option Moments) → HaveTimesWithin range self.entry.seats.items
+        ensures holds { (range : Option Moments) → HaveTimesWithin range self.entry.seats.items → AreBasesLowest (setup_in self.entry)
             → IfOk result.0 (λ run. AreHoldsWithin range (setup_in self.entry) run.history) }
-        ensures starts { (range : Option Moments) → HaveTimesWithin range self.entry.seats.items
+        ensures starts { (range : Option Moments) → HaveTimesWithin range self.entry.seats.items → AreBasesLowest (setup_in self.entry)
             → IfOk result.0 (λ run. AreStartsWithin range run.history) }
         ensures kept { IsPermutation (disks_in self.entry) result.1.items }
     {
@@ -495,15 +496,15 @@ impl<'a, D: Disk> Node<'a, D> {
         requires left { entries_left self ≡ 0 }
         ensures history { IfOk result.0 (λ run. run.history ≡ self.entry.trace.items) }
         ensures stats { IfOk result.0 (λ run. run.stats ≡ stats) }
-        ensures complete { (starts : List (List (DevId × D))) → IsNodeOf D.state starts self.entry
+        ensures complete { (starts : List (List (DevId × D))) → IsNodeOf D.state starts self.entry → AreBasesLowest (setup_in self.entry)
             → IfOk result.0 (λ run. IsCompleteRun (setup_in self.entry) (told_of D.state (setup_in self.entry) starts) run.history) }
         ensures disks { (starts : List (List (DevId × D))) → self.entry.shelf.items ≡ []
-            → IsNodeOf D.state starts self.entry
+            → IsNodeOf D.state starts self.entry → AreBasesLowest (setup_in self.entry)
             → IfOk result.0 (λ run. SaysOfDisks D.state (setup_in self.entry) run.history starts result.1.items) }
         ensures moments { (range : Option Moments) → HaveTimesWithin range self.entry.seats.items → IfOk result.0 (λ run. AreMomentsWithin range run.history) }
-        ensures holds { (range : Option Moments) → HaveTimesWithin range self.entry.seats.items
+        ensures holds { (range : Option Moments) → HaveTimesWithin range self.entry.seats.items → AreBasesLowest (setup_in self.entry)
             → IfOk result.0 (λ run. AreHoldsWithin range (setup_in self.entry) run.history) }
-        ensures starts { (range : Option Moments) → HaveTimesWithin range self.entry.seats.items
+        ensures starts { (range : Option Moments) → HaveTimesWithin range self.entry.seats.items → AreBasesLowest (setup_in self.entry)
             → IfOk result.0 (λ run. AreStartsWithin range run.history) }
         ensures kept { IsPermutation (disks_in self.entry) result.1.items }
     {

@@ -6,6 +6,7 @@ ghost use Rattle.bd_node.specs.declared.node.NodeState.TheVariants as states;
 ghost use Rattle.bd_node.specs.Schedule.{seed_by};
 ghost use Rattle.bd_node.specs.Disks.{told_of, SaysOfDisks};
 ghost use Rattle.bd_report.specs.Stats.{stats_of};
+ghost use Rattle.bd_law_disks.specs.Told.{AreBasesLowest};
 ghost use Rattle.bd_node.specs.Times.{AreHoldsWithin, AreMomentsWithin, AreStartsWithin, KeepsTimes};
 ghost use Rattle.bd_node.specs.Whole.{HasAllDisks, HasSameSetup, IsNode, KeepsDisks, state_of};
 
@@ -91,11 +92,12 @@ fn play_out<'a, R: Threads + Wait + Sync, C: Clock + Sync, G: Gate + Sync, D: Di
 }
 
 /// Plays the setup's scripts to their end on as many threads as it has, with the moments that the clock tells: however
-/// they are driven, and whatever it tells, what is returned is a complete run of the machine, over what the disks told
-/// when it was called, and the moments in it are such as the clock tells; beside it are its statistics. It answers out
-/// of memory also where a number of a thread runs out, as after 2^62 requests or 2^128 stamps. The disks are those of
-/// each thread, in the order of the threads' numbers, and are all given back however the run ends, those of a thread
-/// together, the threads in some order.
+/// they are driven, and whatever it tells, what is
+/// returned is a complete run of the machine, over what the disks told when it was called, where the setup's
+/// base devices stand on nothing, and the moments in it are such as the clock tells; beside it are its statistics. It answers out of memory also where a number of a
+/// thread runs out, as after 2^62 requests or 2^128 stamps. The disks are those of each thread, in the order of the
+/// threads' numbers, and are all given back however the run ends, those of a thread together, the threads in some
+/// order.
 pub fn play<R: Threads + Wait + Sync, C: Clock + Sync, G: Gate + Sync, D: Disk + Send>(
     rt: &R,
     alloc: Global,
@@ -107,11 +109,11 @@ pub fn play<R: Threads + Wait + Sync, C: Clock + Sync, G: Gate + Sync, D: Disk +
     requires some { 0 < setup.now.threads }
     requires disks { length disks.items ≡ setup.now.threads }
     requires room { setup.now.threads ≤ disks.capacity }
-    ensures complete { IfOk result.0 (λ run. IsCompleteRun setup.now (told_of D.state setup.now disks.items) run.history) }
-    ensures disks { IfOk result.0 (λ run. SaysOfDisks D.state setup.now run.history disks.items result.1.items) }
+    ensures complete { AreBasesLowest setup.now → IfOk result.0 (λ run. IsCompleteRun setup.now (told_of D.state setup.now disks.items) run.history) }
+    ensures disks { AreBasesLowest setup.now → IfOk result.0 (λ run. SaysOfDisks D.state setup.now run.history disks.items result.1.items) }
     ensures moments { IfOk result.0 (λ run. AreMomentsWithin (C.range outside.now.clock.now) run.history) }
-    ensures holds { IfOk result.0 (λ run. AreHoldsWithin (C.range outside.now.clock.now) setup.now run.history) }
-    ensures starts { IfOk result.0 (λ run. AreStartsWithin (C.range outside.now.clock.now) run.history) }
+    ensures holds { AreBasesLowest setup.now → IfOk result.0 (λ run. AreHoldsWithin (C.range outside.now.clock.now) setup.now run.history) }
+    ensures starts { AreBasesLowest setup.now → IfOk result.0 (λ run. AreStartsWithin (C.range outside.now.clock.now) run.history) }
     ensures counted { IfOk result.0 (λ run. run.stats ≡ stats_of setup.now run.history) }
     ensures kept { AreAllThere D.state disks.items result.1.items }
 {

@@ -45,10 +45,10 @@ fn removing(alloc: Global) -> Answer {
     }
 }
 
-fn dropped(alloc: Global) -> Answer {
+fn dropped() -> Answer {
     Answer::Dropped {
         what: Dropped::Last,
-        zero: Rows::new(alloc),
+        zero: None,
         destruct: None,
     }
 }
@@ -74,11 +74,9 @@ fn answer(alloc: Global, ask: &[&str]) -> Answer {
         ["claim"] => Answer::Claimed,
         ["put"] => Answer::PutDown { left: 0 },
         ["close"] => Answer::Closed { destruct: None },
-        ["drop"] => dropped(alloc),
+        ["drop"] => dropped(),
         ["remove"] => removing(alloc),
-        _ => Answer::Freed {
-            close: Rows::new(alloc),
-        },
+        _ => Answer::Freed { close: None },
     }
 }
 

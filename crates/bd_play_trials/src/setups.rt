@@ -20,7 +20,7 @@ fn devices(alloc: Global, blocks: u64, boundary: u64) -> Result<Rows<DevRow>, Ou
     devices.push(DevRow {
         name: Name::from_slice(alloc, b"Malloc0")?,
         kind: Kind::Malloc,
-        stacked: None,
+        base: None,
         blocks,
         size: 512,
         boundary,

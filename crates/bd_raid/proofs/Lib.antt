@@ -1,4 +1,4 @@
 mod Least
 mod Joined
-pub mod Striped
+mod Striped
 mod Sets

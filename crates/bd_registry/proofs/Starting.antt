@@ -7,7 +7,7 @@ use Rattle.bd_machine.specs.declared.state.Handle.{Handle}
 use Rattle.bd_machine.specs.declared.state.Registry.{Registry}
 use Rattle.bd_machine.specs.Limits.{is_limited}
 use Rattle.bd_machine.specs.Start.{bare_registry, handles_from, registry_at_start, with_channel, with_channels}
-use Rattle.bd_machine.specs.Users.{BaseHandle, all_devices, base_handles}
+use Rattle.bd_machine.specs.Users.{all_devices, firsts}
 use Rattle.bd_rule_channels.specs.Counts.{Table, Has}
 use Rattle.bd_registry.specs.Handles.{AreCounted, HandleTable, Keeps}
 use Rattle.bd_registry.specs.Tables.{Agrees}
@@ -20,21 +20,21 @@ next_kept : (setup : Setup) (devs : List DevId) (r : Registry) → (with_channel
 next_kept setup [] r = refl
 next_kept setup (d ∷ ds) r = next_kept setup ds (with_channel setup d r)
 
-counted_from : (setup : Setup) (n : ℕ) (hs : List BaseHandle) → AreCounted n (handles_from setup n hs)
+counted_from : (setup : Setup) (n : ℕ) (devs : List DevId) → AreCounted n (handles_from setup n devs)
 counted_from setup n [] = tt
-counted_from setup n (h ∷ hs) = (refl, counted_from setup (n + 1) hs)
+counted_from setup n (d ∷ ds) = (refl, counted_from setup (n + 1) ds)
 
-length_from : (setup : Setup) (n : ℕ) (hs : List BaseHandle) → length (handles_from setup n hs) ≡ length hs
+length_from : (setup : Setup) (n : ℕ) (devs : List DevId) → length (handles_from setup n devs) ≡ length devs
 length_from setup n [] = refl
-length_from setup n (h ∷ hs) = ap (λ (k : ℕ). suc k) (length_from setup (n + 1) hs)
+length_from setup n (d ∷ ds) = ap (λ (k : ℕ). suc k) (length_from setup (n + 1) ds)
 
 pub start_counted : (setup : Setup) → AreCounted 0 (registry_at_start setup).handles
-start_counted setup = subst (AreCounted 0) (sym (handles_kept setup (filter (is_limited setup) (all_devices setup)) (bare_registry setup))) (counted_from setup 0 (base_handles setup))
+start_counted setup = subst (AreCounted 0) (sym (handles_kept setup (filter (is_limited setup) (all_devices setup)) (bare_registry setup))) (counted_from setup 0 (firsts setup))
 
 pub start_next : (setup : Setup) → length (registry_at_start setup).handles ≡ (registry_at_start setup).next
 start_next setup =
     ap (λ (hs : List Handle). length hs) (handles_kept setup (filter (is_limited setup) (all_devices setup)) (bare_registry setup))
-    ∙ length_from setup 0 (base_handles setup)
+    ∙ length_from setup 0 (firsts setup)
     ∙ sym (next_kept setup (filter (is_limited setup) (all_devices setup)) (bare_registry setup))
 
 -- the number of the handle of a place

@@ -1,5 +1,5 @@
 -- The answers that an event may have, as far as opens and removals go.
-use Rattle.std.proofs.Common.{◌≡◌, ℕ, ◌-◌, Bool, true, false, cond, ◌==◌, List, [], filter, Option, Some, None, is_none, refl}
+use Rattle.std.proofs.Common.{◌≡◌, ℕ, ◌-◌, Bool, true, false, cond, ◌==◌, List, filter, Option, Some, None, is_none, refl}
 use Rattle.std.specs.Prelude.{slice_get}
 use Rattle.bd_base.specs.declared.event.Answer.{Answer}
 use Rattle.bd_base.specs.declared.event.Answer.TheVariants as answers
@@ -20,12 +20,12 @@ use Rattle.bd_machine.specs.declared.state.Handle.{Handle}
 use Rattle.bd_machine.specs.declared.state.Registry.{Registry}
 use Rattle.bd_machine.specs.declared.state.Standing.{Standing}
 use Rattle.bd_machine.specs.declared.state.Standing.TheVariants as standings
-use Rattle.bd_machine.specs.BlockMap.{bases_of, home, is_error}
+use Rattle.bd_machine.specs.BlockMap.{below, home, is_error, stands_on}
 use Rattle.bd_machine.specs.Claims.{claim_refusal, open_refusal}
 use Rattle.bd_machine.specs.Injecting.{decision_for}
-use Rattle.bd_machine.specs.Registry.{answer_to, are_live, begin_reset_answer, claim_answer, close_answer, device_named, drop_answer, end_reset_answer, end_resize_answer, finish_reset_answer, freed_by_close, growing_of, handle_of, handles_on, holders_on, if_so, injection_answer, is_bare, is_born_frozen, is_count, is_destructed_standing, is_free, is_idle_reset, is_live, is_running_reset, is_thawing_reset, left_among, made, next_reset, open_answer, other_threads_of, put_answer, references, refused_or, remove_answer, remove_answer_at, resize_answer, resize_refusal, size_now, standing_of, threads_of, zero_by_drop}
+use Rattle.bd_machine.specs.Registry.{answer_to, are_live, begin_reset_answer, claim_answer, close_answer, device_named, drop_answer, end_reset_answer, end_resize_answer, finish_reset_answer, freed_by_close, growing_of, handle_of, handles_on, holders_on, if_so, injection_answer, is_bare, is_born_frozen, is_count, is_destructed_standing, is_free, is_idle_reset, is_live, is_running_reset, is_thawing_reset, left_open, made, next_reset, open_answer, other_threads_of, put_answer, references, refused_or, remove_answer, remove_answer_at, resize_answer, resize_refusal, size_now, standing_of, threads_of, zero_by_drop}
 use Rattle.bd_machine.specs.Threads.{is_nobody}
-use Rattle.bd_machine.specs.Users.{base_handles_of}
+use Rattle.bd_machine.specs.Users.{base_handle}
 use Rattle.bd_registry.specs.Handles.{IsNext, is_of_kind}
 
 -- the answer is of the event's kind, and a handle that it gives has the next number
@@ -66,7 +66,7 @@ suits_claim r t id kind (Some h) =
 suits_get : (setup : Setup) (r : Registry) (t : ℕ) (dev : DevId) → Suits (events.GetChannel dev) r.next (answer_to setup r t (events.GetChannel dev))
 suits_get setup r t dev =
     either (events.GetChannel dev) r.next (are_live setup r dev)
-    (answers.Got (is_none (references r t dev)) (filter (λ d. is_born_frozen (slice_get r.devices d.0)) (made setup (references r t) dev))) (answers.Refused NoDev) (record { kind = refl; number = tt }) (record { kind = refl; number = tt })
+    (answers.Got (is_none (references r t dev)) (filter (λ d. is_born_frozen (slice_get r.devices d.0)) (made (references r t) (below setup dev)))) (answers.Refused NoDev) (record { kind = refl; number = tt }) (record { kind = refl; number = tt })
 
 suits_put : (next : ℕ) (dev : DevId) (closing : Bool) (o : Option ℕ) → Suits (events.PutChannel dev closing) next (put_answer o)
 suits_put next dev closing None = (record { kind = refl; number = tt })
@@ -76,8 +76,8 @@ suits_drop : (setup : Setup) (r : Registry) (t : ℕ) (dev : DevId) → Suits (e
 suits_drop setup r t dev =
     let others : ThreadSet = other_threads_of setup r t dev in
     either (events.DropChannel dev) r.next (is_count 0 (references r t dev))
-    (answers.Dropped (cond (is_nobody others) dropped.Last dropped.Gone) (zero_by_drop r t (bases_of setup dev)) (if_so (is_bare r dev (handles_on r dev) others) dev))
-    (answers.Dropped dropped.Kept [] None) (record { kind = refl; number = tt }) (record { kind = refl; number = tt })
+    (answers.Dropped (cond (is_nobody others) dropped.Last dropped.Gone) (zero_by_drop r t (stands_on setup dev)) (if_so (is_bare r dev (handles_on r dev) others) dev))
+    (answers.Dropped dropped.Kept None None) (record { kind = refl; number = tt }) (record { kind = refl; number = tt })
 
 suits_remove_at : (setup : Setup) (r : Registry) (name : List ℕ) (dev : DevId) (s : Standing) → Suits (events.BeginRemove name) r.next (remove_answer_at setup r dev s)
 suits_remove_at setup r name dev standings.Live = (record { kind = refl; number = tt })
@@ -108,7 +108,7 @@ suits_injection setup next dev req op None = (record { kind = refl; number = tt 
 suits_injection setup next dev req op (Some device) = either (events.TakeInjection dev req op) next (is_error setup dev) (answers.Injected (decision_for op device.injections)) (answers.Refused Inval) (record { kind = refl; number = tt }) (record { kind = refl; number = tt })
 
 suits_destructed : (setup : Setup) (r : Registry) (t : ℕ) (dev : DevId) → Suits (events.Destructed dev) r.next (answer_to setup r t (events.Destructed dev))
-suits_destructed setup r t dev = either (events.Destructed dev) r.next (is_free setup r dev) (answers.Freed (left_among setup r dev (base_handles_of setup dev))) (answers.Refused Inval) (record { kind = refl; number = tt }) (record { kind = refl; number = tt })
+suits_destructed setup r t dev = either (events.Destructed dev) r.next (is_free setup r dev) (answers.Freed (left_open setup r dev (base_handle setup dev))) (answers.Refused Inval) (record { kind = refl; number = tt }) (record { kind = refl; number = tt })
 
 suits_resize : (setup : Setup) (r : Registry) (name : List ℕ) (blocks : ℕ) (o : Option ℕ) → Suits (events.BeginResize name blocks) r.next (resize_answer setup r blocks o)
 suits_resize setup r name blocks None = (record { kind = refl; number = tt })

@@ -73,7 +73,7 @@ fn copy_answer(answer: &Answer) -> Result<Answer, OutOfMemory>
             destruct,
         } => Answer::Dropped {
             what: *what,
-            zero: zero.copy()?,
+            zero: *zero,
             destruct: *destruct,
         },
         Answer::Removing {
@@ -94,9 +94,7 @@ fn copy_answer(answer: &Answer) -> Result<Answer, OutOfMemory>
         Answer::Injected { decision } => Answer::Injected {
             decision: *decision,
         },
-        Answer::Freed { close } => Answer::Freed {
-            close: close.copy()?,
-        },
+        Answer::Freed { close } => Answer::Freed { close: *close },
         Answer::Resizing { dev, home } => Answer::Resizing {
             dev: *dev,
             home: *home,

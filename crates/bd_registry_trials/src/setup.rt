@@ -1,35 +1,14 @@
 //! The devices of each case: E injects errors over P, which passes all on to Malloc0, of which thread 0 is
 //! the home. The base handles are 0 (on Malloc0, for P) and 1 (on P, for E).
-use bd_base::{Boxed, DevId, DevRow, Kind, Name, OutOfMemory, Rows, Setup, Stacked};
+use bd_base::{DevId, DevRow, Kind, Name, OutOfMemory, Rows, Setup};
 use std::alloc::Global;
-
-// Each device but the first stands on the one before it.
-fn stacked(alloc: Global, number: u32) -> Result<Option<Boxed<Stacked>>, OutOfMemory> {
-    let Some(before) = number.checked_sub(1) else {
-        return Ok(None);
-    };
-    let mut bases = Rows::new(alloc);
-    bases.push(DevId(before))?;
-    let mut under = Rows::new(alloc);
-    for n in (0..number).rev() {
-        under.push(DevId(n))?;
-    }
-    let stacked = Stacked {
-        bases,
-        under,
-        base: DevId(0),
-        layers: number.saturating_add(1),
-        spreads: false,
-    };
-    Ok(Some(Boxed::new(alloc, stacked)?))
-}
 
 // Each device stands alone in its group.
 fn row(alloc: Global, name: &str, kind: Kind, number: u32) -> Result<DevRow, OutOfMemory> {
     Ok(DevRow {
         name: Name::from_slice(alloc, name.as_bytes())?,
         kind,
-        stacked: stacked(alloc, number)?,
+        base: number.checked_sub(1).map(DevId),
         blocks: 4,
         size: 512,
         boundary: 0,

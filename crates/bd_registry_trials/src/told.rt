@@ -41,13 +41,13 @@ fn got(text: &mut String, fresh: bool, frozen: &[DevId]) -> Result<(), OutOfMemo
     Ok(())
 }
 
-fn dropped(text: &mut String, what: Dropped, zero: &[DevId]) -> Result<(), OutOfMemory> {
+fn dropped(text: &mut String, what: Dropped, zero: &Option<DevId>) -> Result<(), OutOfMemory> {
     text.push_str(match what {
         Dropped::Kept => "kept",
         Dropped::Gone => "gone",
         Dropped::Last => "last",
     })?;
-    for DevId(n) in zero {
+    if let Some(DevId(n)) = zero {
         write!(text, ", base {n}")?;
     }
     Ok(())
@@ -75,10 +75,10 @@ fn finished(text: &mut String, next: &Option<(ReqId, ThreadSet)>) -> Result<(), 
     Ok(())
 }
 
-fn freed(text: &mut String, close: &[(HandleId, ThreadId)]) -> Result<(), OutOfMemory> {
+fn freed(text: &mut String, close: &Option<HandleId>) -> Result<(), OutOfMemory> {
     text.push_str("freed")?;
-    for (handle, thread) in close {
-        write!(text, ", closes {} of {}", handle.0, thread.0)?;
+    if let Some(handle) = close {
+        write!(text, ", closes {}", handle.0)?;
     }
     Ok(())
 }
@@ -104,7 +104,7 @@ pub(crate) fn told(alloc: Global, answer: &Answer) -> Result<String, OutOfMemory
             zero,
             destruct,
         } => {
-            dropped(&mut text, *what, zero.as_slice())?;
+            dropped(&mut text, *what, zero)?;
             destructs(&mut text, destruct)?;
         }
         Answer::Removing {
@@ -121,7 +121,7 @@ pub(crate) fn told(alloc: Global, answer: &Answer) -> Result<String, OutOfMemory
         Answer::ResetEnded { .. } => text.push_str("ended")?,
         Answer::ResetFinished { next } => finished(&mut text, next)?,
         Answer::Injected { decision } => write!(text, "{decision:?}")?,
-        Answer::Freed { close } => freed(&mut text, close.as_slice())?,
+        Answer::Freed { close } => freed(&mut text, close)?,
         Answer::Resizing { dev, home } => {
             write!(text, "resizing {}, home {}", dev.0, home.0)?;
         }

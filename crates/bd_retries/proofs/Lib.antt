@@ -1,3 +1,2 @@
-mod At
 mod Left
 mod Answered

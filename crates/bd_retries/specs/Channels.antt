@@ -45,10 +45,6 @@ pieces_named req n = map (λ k. (req, k)) (range_with_len 0 n)
 abbrev pub queued : ReqId → ℕ → Channel → Channel
 queued req n c = record c { pieces = c.pieces ++ pieces_named req n }
 
--- a piece waits
-abbrev pub queued_one : ReqId × ℕ → Channel → Channel
-queued_one p c = record c { pieces = c.pieces ++ p ∷ [] }
-
 abbrev pub first_waiting : DevId → List (ReqId × ℕ) → Option Waiting
 first_waiting base [] = None
 first_waiting base (p ∷ ps) = Some (record { base = base; req = p.0; k = p.1 })
@@ -105,11 +101,3 @@ next_in (Some c) = next c
 -- the piece that may be sent again of the channel at this place
 abbrev pub next_at : List Channel → ℕ → Option Waiting
 next_at channels place = next_in (slice_get channels place)
-
-abbrev pub base_in : Option Channel → Option DevId
-base_in None = None
-base_in (Some c) = Some c.base
-
--- the base of the channel at this place
-abbrev pub base_at : List Channel → ℕ → Option DevId
-base_at channels place = base_in (slice_get channels place)

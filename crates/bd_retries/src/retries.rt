@@ -1,8 +1,8 @@
 //! The channels of a thread: for each base device that it sent pieces to, what is in flight and what waits.
-ghost use Rattle.std.specs.Prelude.{◌≡◌, ◌<◌, [], find, length, option_copied, position, OnOk};
+ghost use Rattle.std.specs.Prelude.{◌≡◌, [], find, length, option_copied, position, OnOk};
 ghost use Rattle.std.specs.List.{list_all};
-ghost use Rattle.bd_machine.specs.Table.{change_at, change_first};
-ghost use Rattle.bd_retries.specs.Channels.{base_at, changed, changed_if_any, dropped, is_idle, is_of, landed, next_at, next_in, queued, queued_one, refused, retried, sent, waits, waits_in, with_channel};
+ghost use Rattle.bd_machine.specs.Table.{change_first};
+ghost use Rattle.bd_retries.specs.Channels.{changed, changed_if_any, dropped, is_idle, is_of, landed, next_at, next_in, queued, refused, retried, sent, waits, waits_in, with_channel};
 
 use crate::retry::Retry;
 use crate::waiting::Waiting;
@@ -74,15 +74,6 @@ fn add_queued(
     }
 }
 
-fn add_one(channels: &mut Rows<Retry>, base: DevId, piece: (ReqId, u32)) -> Result<(), OutOfMemory>
-    ensures { OnOk result (channels.new ≡ changed_if_any base (queued_one piece) channels.old) }
-{
-    match place_of(channels.as_slice(), base) {
-        Some(place) => channels.at_mut(place).queue_one(piece),
-        None => Ok(()),
-    }
-}
-
 fn add_refused(
     channels: &mut Rows<Retry>,
     base: DevId,
@@ -119,13 +110,6 @@ fn drop_at(channels: &mut Rows<Retry>, base: DevId, req: ReqId, n: usize)
     if let Some(place) = place_of(channels.as_slice(), base) {
         channels.at_mut(place).dropped(req, n);
     }
-}
-
-fn drop_in(channels: &mut Rows<Retry>, place: usize, req: ReqId, n: usize)
-    requires { place < length channels.old }
-    ensures { channels.new ≡ change_at place (dropped req n) channels.old }
-{
-    channels.at_mut(place).dropped(req, n);
 }
 
 impl Retries {
@@ -181,14 +165,6 @@ impl Retries {
         add_queued(&mut self.channels, base, req, n)
     }
 
-    /// A piece joins the end of a base device's retry queue. After out of memory the channels are unspecified.
-    pub fn queue_one(&mut self, base: DevId, piece: (ReqId, u32)) -> Result<(), OutOfMemory>
-        ensures { OnOk result (self.new ≡ changed base (queued_one piece) self.old) }
-    {
-        make(self.alloc, &mut self.channels, base)?;
-        add_one(&mut self.channels, base, piece)
-    }
-
     /// A piece came back with an end: one fewer of its base device is in flight. It takes no memory.
     pub fn landed(&mut self, base: DevId)
         ensures { self.new ≡ changed_if_any base landed self.old }
@@ -231,23 +207,5 @@ impl Retries {
         ensures { self.new ≡ changed_if_any base (dropped req n) self.old }
     {
         drop_at(&mut self.channels, base, req, n);
-    }
-
-    /// The base device of the channel at this place; none where there is no such channel.
-    pub fn base_at(&self, place: usize) -> Option<DevId>
-        ensures { result ≡ base_at self.now place }
-    {
-        match self.channels.as_slice().get(place) {
-            Some(channel) => Some(channel.base()),
-            None => None,
-        }
-    }
-
-    /// The same as `dropped`, for the channel at this place. It takes no memory.
-    pub fn dropped_at(&mut self, place: usize, req: ReqId, n: usize)
-        requires { place < length self.old }
-        ensures { self.new ≡ change_at place (dropped req n) self.old }
-    {
-        drop_in(&mut self.channels, place, req, n);
     }
 }

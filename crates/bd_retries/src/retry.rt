@@ -1,7 +1,7 @@
 //! The channel of one base device: its pieces in flight, and those that wait since the home was full.
 ghost use Rattle.std.specs.Prelude.{◌≡◌, ◌++◌, filter, map, not, OnOk};
 ghost use Rattle.bd_machine.specs.Same.{same_request};
-ghost use Rattle.bd_retries.specs.Channels.{blank, dropped, first_waiting, is_idle, is_of, is_some_waiting, landed, next, pieces_named, queued, queued_one, refused, retried, sent};
+ghost use Rattle.bd_retries.specs.Channels.{blank, dropped, first_waiting, is_idle, is_of, is_some_waiting, landed, next, pieces_named, queued, refused, retried, sent};
 
 use crate::waiting::Waiting;
 use bd_base::{DevId, OutOfMemory, ReqId};
@@ -79,13 +79,6 @@ impl Retry {
         self.base.0 == base.0
     }
 
-    /// Its base device.
-    pub fn base(&self) -> DevId
-        ensures { result ≡ self.now.base }
-    {
-        self.base
-    }
-
     /// Whether a piece waits.
     pub fn waits(&self) -> bool
         ensures { result ≡ is_some_waiting self.now.pieces }
@@ -135,14 +128,6 @@ impl Retry {
         ensures { OnOk result (self.new ≡ queued req n self.old) }
     {
         join(&mut self.pieces, req, n)
-    }
-
-    /// One piece joins the end. After out of memory the channel is unspecified.
-    pub fn queue_one(&mut self, piece: (ReqId, u32)) -> Result<(), OutOfMemory>
-        ensures { OnOk result (self.new ≡ queued_one piece self.old) }
-    {
-        self.pieces.push_back(piece)?;
-        Ok(())
     }
 
     /// The first piece that waits, where no more are in flight than the threshold of the last refusal.

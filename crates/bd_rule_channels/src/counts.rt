@@ -1,15 +1,39 @@
 //! The counts that an answer changes, of the thread that asked.
 ghost use Rattle.std.specs.Prelude.{◌≡◌, ◌++◌, ◌∷◌, [], None, Some, map, IfOk};
 ghost use Rattle.bd_rule_channels.specs.Counts.{count_for};
-ghost use Rattle.bd_machine.specs.BlockMap.{bases_of};
-ghost use Rattle.bd_machine.specs.Changes.{bases_put, counts_after, one_less};
+ghost use Rattle.bd_machine.specs.BlockMap.{below, stands_on};
+ghost use Rattle.bd_machine.specs.Changes.{base_put, counts_after, counts_got, one_less};
 ghost use Rattle.bd_machine.specs.Registry.{references};
 
-use crate::got::counts_got;
 use bd_base::{Answer, DevId, Dropped, OutOfMemory, RegEvent, Rows, Setup};
-use bd_blocks::bases_of;
+use bd_blocks::{below, stands_on};
 use bd_rule_view::Records;
 use std::alloc::Global;
+
+// A get: a channel that is there gains a reference, else one is made, and the one below it is got
+// likewise.
+fn counts_got<R: Records>(
+    alloc: Global,
+    setup: &Setup,
+    registry: &R,
+    thread: u32,
+    dev: DevId,
+) -> Result<Rows<(DevId, Option<u128>)>, OutOfMemory>
+    ensures { IfOk result (λ cs. map count_for cs ≡ counts_got (references (R.registry_of registry.now) thread) (below setup.now dev)) }
+{
+    let mut counts = Rows::new(alloc);
+    for lower in below(setup, dev) {
+        match registry.references(thread, lower) {
+            None => counts.push((lower, Some(1)))?,
+            Some(n) => {
+                let more = n.checked_add(1).ok_or(OutOfMemory)?;
+                counts.push((lower, Some(more)))?;
+                return Ok(counts);
+            }
+        }
+    }
+    Ok(counts)
+}
 
 // A put of this device's channel.
 fn counts_put(
@@ -33,7 +57,7 @@ fn one_less(count: Option<u128>) -> Option<u128>
     }
 }
 
-// A drop: the channel is gone, and each base of the device has one reference less.
+// A drop: the channel is gone, and the device below has one reference less.
 fn counts_dropped<R: Records>(
     alloc: Global,
     setup: &Setup,
@@ -41,11 +65,11 @@ fn counts_dropped<R: Records>(
     thread: u32,
     dev: DevId,
 ) -> Result<Rows<(DevId, Option<u128>)>, OutOfMemory>
-    ensures { IfOk result (λ cs. map count_for cs ≡ bases_put (references (R.registry_of registry.now) thread) (bases_of setup.now dev) ++ record { dev = dev; count = None } ∷ []) }
+    ensures { IfOk result (λ cs. map count_for cs ≡ base_put (references (R.registry_of registry.now) thread) (stands_on setup.now dev) ++ record { dev = dev; count = None } ∷ []) }
 {
     let mut counts = Rows::new(alloc);
-    for base in bases_of(setup, dev) {
-        counts.push((*base, one_less(registry.references(thread, *base))))?;
+    if let Some(base) = stands_on(setup, dev) {
+        counts.push((base, one_less(registry.references(thread, base))))?;
     }
     counts.push((dev, None))?;
     Ok(counts)

@@ -5,9 +5,7 @@
 mod by_device;
 mod channels;
 mod counts;
-mod got;
 
 pub use by_device::place_of;
 pub use channels::Channels;
 pub use counts::counts_after;
-pub use got::made;

@@ -3,7 +3,6 @@ pub mod Dues
 pub mod Each
 mod Handles
 pub mod Firsts
-pub mod Leaving
 pub mod Left
 pub mod Places
 pub mod Written

@@ -1,6 +1,6 @@
 //! What an answer of the registry makes of the part of the thread that asked.
-ghost use Rattle.std.specs.Prelude.{◌≡◌, ◌++◌, ◌∷◌, [], position, OnOk};
-ghost use Rattle.bd_machine.specs.Events.{closed_by, decided_by, device_due, destruct_of, due_to, paid, with_due};
+ghost use Rattle.std.specs.Prelude.{◌≡◌, position, OnOk};
+ghost use Rattle.bd_machine.specs.Events.{closed_by, decided_by, device_due, destruct_of, due_to, owing, paid, with_due};
 ghost use Rattle.bd_machine.specs.Table.{without_first};
 ghost use Rattle.bd_machine.specs.Same.{same_owed};
 ghost use Rattle.bd_rule_view.specs.Came.{came_shut};
@@ -46,7 +46,7 @@ pub fn pay(part: &mut Part, owed: Owed)
 
 /// The thread has this to do. Out of memory leaves the part as it was.
 pub fn owe(part: &mut Part, owed: Owed) -> Result<(), OutOfMemory>
-    ensures { OnOk result (part.new ≡ record part.old { owed = part.old.owed ++ owed ∷ [] }) }
+    ensures { OnOk result (part.new ≡ owing owed part.old) }
 {
     part.owed.push(owed)
 }

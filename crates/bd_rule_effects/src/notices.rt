@@ -1,54 +1,24 @@
 //! A notice is taken.
-ghost use Rattle.std.specs.Prelude.{◌≡◌, ◌++◌, filter, map, not, position, IfOk, OnOk};
-ghost use Rattle.std.specs.List.{list_any};
+ghost use Rattle.std.specs.Prelude.{◌≡◌, ◌++◌, position, IfOk, OnOk};
 ghost use Rattle.bd_machine.specs.Events.{alone};
-ghost use Rattle.bd_machine.specs.Messages.{is_leaving, removal_owed, told_part, told_walk, went};
+ghost use Rattle.bd_machine.specs.Messages.{removals_owed, told_part, told_walk, went};
 ghost use Rattle.bd_machine.specs.Same.{same_handle};
 ghost use Rattle.bd_machine.specs.Table.{write};
-ghost use Rattle.bd_machine.specs.Users.{users};
 ghost use Rattle.bd_machine.specs.Walks.{reset_of};
 ghost use Rattle.bd_machine.specs.declared.state.News.TheVariants as told;
 ghost use Rattle.bd_rule_effects.specs.Begun.{with_walk};
 
 use crate::resets::freeze;
 use crate::walks::{Plan, begin_walk};
-use bd_base::{
-    DevId, DevList, HandleId, OutOfMemory, ReqId, Rows, Setup, ThreadSet, WalkId, WalkKind,
-};
-use bd_blocks::{base_handles_of, users};
+use bd_base::{DevId, HandleId, OutOfMemory, ReqId, Rows, Setup, ThreadSet, WalkId, WalkKind};
+use bd_blocks::users;
 use bd_machine::{News, OpenWalk, Owed, Part};
 use bd_rule_requests::reset_of;
 use std::alloc::Global;
 
-fn is_among(handles: &[HandleId], handle: HandleId) -> bool
-    ensures { result ≡ list_any (same_handle handle) handles.now }
-{
-    handles.iter().any(|h| handle.0 == h.0)
-}
-
-// Whether one of these handles is among those.
-fn is_any_among(handles: &[HandleId], gone: &[HandleId]) -> bool
-    ensures { result ≡ list_any (λ handle. list_any (same_handle handle) handles.now) gone.now }
-{
-    gone.iter().any(|handle| is_among(handles, *handle))
-}
-
-// Whether the device has a base handle among these, so that it removes itself already.
-fn is_leaving(
-    alloc: Global,
-    setup: &Setup,
-    gone: &[HandleId],
-    dev: DevId,
-) -> Result<bool, OutOfMemory>
-    ensures { IfOk result (λ leaves. leaves ≡ is_leaving setup.now gone.now dev) }
-{
-    let handles = base_handles_of(alloc, setup, dev)?;
-    Ok(is_any_among(handles.as_slice(), gone))
-}
-
 // Each of the devices is to remove itself.
 fn owe_removals(owed: &mut Rows<Owed>, devs: &[DevId]) -> Result<(), OutOfMemory>
-    ensures { OnOk result (owed.new ≡ owed.old ++ map removal_owed devs.now) }
+    ensures { OnOk result (owed.new ≡ owed.old ++ removals_owed devs.now) }
 {
     for dev in devs {
         owed.push(Owed::Remove(*dev))?;
@@ -56,29 +26,7 @@ fn owe_removals(owed: &mut Rows<Owed>, devs: &[DevId]) -> Result<(), OutOfMemory
     Ok(())
 }
 
-// The devices on a base handle that are to remove themselves as it is lost: none that stands on another one that is
-// being removed. All devices on one base handle have all their base handles in common.
-#[tactic(auto, using(crate::proofs::Leaving::all_leave, crate::proofs::Leaving::none_leaves, crate::proofs::Leaving::no_users))]
-fn losing(
-    alloc: Global,
-    setup: &Setup,
-    gone: &[HandleId],
-    handle: HandleId,
-) -> Result<DevList, OutOfMemory>
-    ensures { IfOk result (λ devs. devs ≡ filter (λ dev. not (is_leaving setup.now gone.now dev)) (users setup.now handle)) }
-{
-    let devs = users(alloc, setup, handle)?;
-    if devs.len() == 0 {
-        return Ok(devs);
-    }
-    if is_leaving(alloc, setup, gone, devs.as_slice()[0])? {
-        Ok(Rows::new(alloc))
-    } else {
-        Ok(devs)
-    }
-}
-
-// A handle's device is being removed: each device that stands on the handle is to remove itself, but once only.
+// A handle's device is being removed: each device that stands on the handle is to remove itself.
 fn lose_handle(
     alloc: Global,
     part: &mut Part,
@@ -87,7 +35,7 @@ fn lose_handle(
 ) -> Result<(), OutOfMemory>
     ensures { OnOk result (part.new ≡ told_part setup.now (told.Gone handle) part.old) }
 {
-    let devs = losing(alloc, setup, part.gone.as_slice(), handle)?;
+    let devs = users(alloc, setup, handle)?;
     part.gone.push(handle)?;
     owe_removals(&mut part.owed, devs.as_slice())
 }

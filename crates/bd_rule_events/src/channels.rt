@@ -1,7 +1,7 @@
 //! GetChannel, PutChannel and DropChannel.
 ghost use Rattle.std.specs.Prelude.{◌≡◌, OnOk};
 ghost use Rattle.std.specs.List.{list_any};
-ghost use Rattle.bd_machine.specs.Events.{all_born, born, channels_due, device_due, destruct_of, dropped_by, paid, put_down_by, put_paid, with_due};
+ghost use Rattle.bd_machine.specs.Events.{all_born, born, channel_due, device_due, destruct_of, dropped_by, paid, put_down_by, put_paid, with_due};
 ghost use Rattle.bd_machine.specs.Marks.{born_as, remarked, with_frozen};
 ghost use Rattle.bd_machine.specs.Same.{same_dev};
 ghost use Rattle.bd_machine.specs.declared.state.Owed.TheVariants as owes;
@@ -48,7 +48,7 @@ fn born(part: &mut Part, frozen: &[DevId], dev: DevId) -> Result<(), OutOfMemory
     uncount(part, dev)
 }
 
-/// These channels of a thread are made, in this order. Out of memory leaves the part unspecified.
+/// These channels of a thread are made, from the top down. Out of memory leaves the part unspecified.
 pub fn got(part: &mut Part, frozen: &[DevId], made: &[DevId]) -> Result<(), OutOfMemory>
     ensures { OnOk result (part.new ≡ all_born frozen.now made.now part.old) }
 {
@@ -89,14 +89,14 @@ pub fn put_down(
 
 // ---- DropChannel
 
-// Channels that are to be dropped are told to their own thread.
-fn channels_due(part: &mut Part, thread: u32, devs: &[DevId]) -> Result<(), OutOfMemory>
-    ensures { OnOk result (part.new ≡ with_due (channels_due thread devs.now) part.old) }
+// A channel that is to be dropped is told to its own thread.
+fn channel_due(part: &mut Part, thread: u32, dev: Option<DevId>) -> Result<(), OutOfMemory>
+    ensures { OnOk result (part.new ≡ with_due (channel_due thread dev) part.old) }
 {
-    for dev in devs {
-        make_due(part, thread, News::Channel(*dev))?;
+    match dev {
+        Some(dev) => make_due(part, thread, News::Channel(dev)),
+        None => Ok(()),
     }
-    Ok(())
 }
 
 fn dropped_by(part: &mut Part, thread: u32, dev: DevId, answer: &Answer) -> Result<(), OutOfMemory>
@@ -109,7 +109,7 @@ fn dropped_by(part: &mut Part, thread: u32, dev: DevId, answer: &Answer) -> Resu
         // the freeze mark goes with the channel
         freeze_as(part, dev, FreezeMark::Not)?;
     }
-    channels_due(part, thread, zero.as_slice())
+    channel_due(part, thread, *zero)
 }
 
 /// What the answer to a DropChannel changes. Out of memory leaves the part unspecified.

@@ -1,7 +1,7 @@
 //! BeginRemove and Destructed.
 ghost use Rattle.std.specs.Prelude.{◌≡◌, ◌++◌, map, IfOk, OnOk};
 ghost use Rattle.bd_machine.specs.Asked.{owes_removal};
-ghost use Rattle.bd_machine.specs.Events.{close_owed, device_due, freed_by, gone_due, paid, removal_paid, removing, with_due};
+ghost use Rattle.bd_machine.specs.Events.{device_due, freed_by, gone_due, paid, removal_paid, removing, with_due};
 ghost use Rattle.bd_machine.specs.declared.state.Owed.TheVariants as owes;
 ghost use Rattle.bd_rule_view.specs.Came.{came_shut};
 ghost use Rattle.bd_rule_effects.specs.Begun.{with_walk};
@@ -84,24 +84,14 @@ pub fn removing(
 
 // ---- Destructed
 
-// The thread is to close these base handles.
-fn close_handles(part: &mut Part, handles: &[(HandleId, ThreadId)]) -> Result<(), OutOfMemory>
-    ensures { OnOk result (part.new ≡ record part.old { owed = part.old.owed ++ map close_owed handles.now }) }
-{
-    for holder in handles {
-        owe(part, Owed::Close(holder.0))?;
-    }
-    Ok(())
-}
-
-/// What the answer to a Destructed makes: the base handles that had their last user are to be closed. Out
+/// What the answer to a Destructed makes: the base handle that had its last user is to be closed. Out
 /// of memory leaves the part unspecified.
 pub fn freed(part: &mut Part, dev: DevId, answer: &Answer) -> Result<(), OutOfMemory>
     ensures { OnOk result (part.new ≡ freed_by answer.now (paid (owes.Report dev) part.old)) }
 {
     pay(part, Owed::Report(dev));
     match answer {
-        Answer::Freed { close } => close_handles(part, close.as_slice()),
+        Answer::Freed { close: Some(id) } => owe(part, Owed::Close(*id)),
         _ => Ok(()),
     }
 }

@@ -1,1 +1,2 @@
+pub mod Born
 pub mod Named

@@ -73,7 +73,7 @@ pub fn answer_by<R: Records>(
         }
         RegEvent::GetChannel { dev } => get_answer(alloc, setup, registry, thread, *dev),
         RegEvent::PutChannel { dev, .. } => Ok(put_answer(registry.references(thread, *dev))),
-        RegEvent::DropChannel { dev } => drop_answer(alloc, setup, registry, thread, *dev),
+        RegEvent::DropChannel { dev } => Ok(drop_answer(setup, registry, thread, *dev)),
         RegEvent::BeginRemove { .. } => remove_answer(alloc, setup, registry, named),
         RegEvent::BeginReset { dev, .. } => {
             let threads = threads_of(setup, registry, *dev)?;

@@ -1,13 +1,14 @@
 //! Answers about channels: a get, a put and a drop.
-ghost use Rattle.std.specs.Prelude.{◌≡◌, ◌==◌, filter, IfOk, slice_get};
-ghost use Rattle.bd_machine.specs.Registry.{drop_answer, get_answer, is_born_frozen, is_count, put_answer, zero_by_drop};
+ghost use Rattle.std.specs.Prelude.{◌≡◌, ◌==◌, IfOk, slice_get};
+ghost use Rattle.bd_machine.specs.BlockMap.{below};
+ghost use Rattle.bd_machine.specs.Registry.{drop_answer, get_answer, is_born_frozen, is_count, made, put_answer, references, zero_by_drop};
+ghost use Rattle.bd_rule_registry.specs.Born.{born_frozen};
 
-use crate::bare::{freed_by_drop, has_no_other_channel};
+use crate::bare::{freed_by_drop, has_no_other_channel, if_so};
 use crate::standing::are_live;
 use bd_base::{Answer, DevId, DevList, Dropped, Errno, OutOfMemory, Rows, Setup};
-use bd_blocks::bases_of;
+use bd_blocks::{below, stands_on};
 use bd_machine::ResetState;
-use bd_rule_channels::made;
 use bd_rule_view::Records;
 use std::alloc::Global;
 
@@ -21,18 +22,44 @@ fn is_born_frozen<R: Records>(registry: &R, dev: DevId) -> bool
     }
 }
 
-// Those of the devices whose new channels are born frozen.
+/// The devices, from the top down, whose channels a get of the device's channel by a thread makes:
+/// those down to the first that has one.
+pub fn made<R: Records>(
+    alloc: Global,
+    setup: &Setup,
+    registry: &R,
+    thread: u32,
+    dev: DevId,
+) -> Result<DevList, OutOfMemory>
+    ensures { IfOk result (λ devs. devs ≡ made (references (R.registry_of registry.now) thread) (below setup.now dev)) }
+{
+    let mut devs = Rows::new(alloc);
+    for d in below(setup, dev) {
+        if registry.references(thread, d).is_some() {
+            break;
+        }
+        devs.push(d)?;
+    }
+    Ok(devs)
+}
+
+// Those that are born frozen of the channels that a get of the device's channel by a thread makes.
 fn born_frozen<R: Records>(
     alloc: Global,
+    setup: &Setup,
     registry: &R,
-    devs: &[DevId],
+    thread: u32,
+    dev: DevId,
 ) -> Result<DevList, OutOfMemory>
-    ensures { IfOk result (λ frozen. frozen ≡ filter (λ d. is_born_frozen (slice_get (R.registry_of registry.now).devices d.0)) devs.now) }
+    ensures { IfOk result (λ frozen. frozen ≡ born_frozen (R.registry_of registry.now) thread (below setup.now dev)) }
 {
     let mut frozen = Rows::new(alloc);
-    for d in devs {
-        if is_born_frozen(registry, *d) {
-            frozen.push(*d)?;
+    for d in below(setup, dev) {
+        if registry.references(thread, d).is_some() {
+            break;
+        }
+        if is_born_frozen(registry, d) {
+            frozen.push(d)?;
         }
     }
     Ok(frozen)
@@ -52,8 +79,7 @@ pub(crate) fn get_answer<R: Records>(
         return Ok(Answer::Refused(Errno::NoDev));
     }
     let fresh = registry.references(thread, dev).is_none();
-    let new = made(alloc, setup, registry, thread, dev)?;
-    let frozen = born_frozen(alloc, registry, new.as_slice())?;
+    let frozen = born_frozen(alloc, setup, registry, thread, dev)?;
     Ok(Answer::Got { fresh, frozen })
 }
 
@@ -67,22 +93,12 @@ pub(crate) fn put_answer(references: Option<u128>) -> Answer
     }
 }
 
-// Those of these bases whose references by the thread come to zero where a channel above them goes.
-fn zero_by_drop<R: Records>(
-    alloc: Global,
-    registry: &R,
-    thread: u32,
-    bases: &[DevId],
-) -> Result<DevList, OutOfMemory>
-    ensures { IfOk result (λ zero. zero ≡ zero_by_drop (R.registry_of registry.now) thread bases.now) }
+// The base whose references by the thread come to zero where a channel above it goes.
+fn zero_by_drop<R: Records>(registry: &R, thread: u32, base: Option<DevId>) -> Option<DevId>
+    ensures { result ≡ zero_by_drop (R.registry_of registry.now) thread base }
 {
-    let mut zero = Rows::new(alloc);
-    for base in bases {
-        if is_count(1, registry.references(thread, *base)) {
-            zero.push(*base)?;
-        }
-    }
-    Ok(zero)
+    let base = base?;
+    if_so(is_count(1, registry.references(thread, base)), base)
 }
 
 fn is_count(n: u128, count: Option<u128>) -> bool
@@ -96,29 +112,28 @@ fn is_count(n: u128, count: Option<u128>) -> bool
 
 /// The answer to a drop of the device's channel by a thread: one without references is dropped.
 pub(crate) fn drop_answer<R: Records>(
-    alloc: Global,
     setup: &Setup,
     registry: &R,
     thread: u32,
     dev: DevId,
-) -> Result<Answer, OutOfMemory>
-    ensures { IfOk result (λ a. a ≡ drop_answer setup.now (R.registry_of registry.now) thread dev) }
+) -> Answer
+    ensures { result ≡ drop_answer setup.now (R.registry_of registry.now) thread dev }
 {
     if !is_count(0, registry.references(thread, dev)) {
-        return Ok(Answer::Dropped {
+        return Answer::Dropped {
             what: Dropped::Kept,
-            zero: Rows::new(alloc),
+            zero: None,
             destruct: None,
-        });
+        };
     }
     let what = if has_no_other_channel(setup, registry, thread, dev) {
         Dropped::Last
     } else {
         Dropped::Gone
     };
-    Ok(Answer::Dropped {
+    Answer::Dropped {
         what,
-        zero: zero_by_drop(alloc, registry, thread, bases_of(setup, dev))?,
+        zero: zero_by_drop(registry, thread, stands_on(setup, dev)),
         destruct: freed_by_drop(setup, registry, thread, dev),
-    })
+    }
 }

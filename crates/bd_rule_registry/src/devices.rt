@@ -1,16 +1,16 @@
 //! Answers about devices: a removal, resets, an injection and the end of a device.
 ghost use Rattle.std.specs.Prelude.{◌≡◌, map, option_copied, IfOk};
-ghost use Rattle.bd_machine.specs.Registry.{begin_reset_answer, destructed_answer, end_reset_answer, finish_reset_answer, handles_on, injection_answer, is_destructed_standing, is_last_user, left_among, left_open, next_reset, opener_of, remove_answer, remove_answer_at, standing_of};
+ghost use Rattle.bd_machine.specs.Registry.{begin_reset_answer, destructed_answer, end_reset_answer, finish_reset_answer, handles_on, injection_answer, is_destructed_standing, is_last_user, left_open, next_reset, opener_of, remove_answer, remove_answer_at, standing_of};
+ghost use Rattle.bd_machine.specs.Users.{base_handle};
 ghost use Rattle.bd_machine.specs.declared.state.Standing.TheVariants as standings;
 
 use crate::bare::{if_so, is_free, is_unused, threads_of};
 use crate::sizes::is_growing;
 use crate::standing::standing_of;
 use bd_base::{
-    Answer, DevId, Errno, HandleId, HandleList, Op, OutOfMemory, ReqId, Rows, Setup, ThreadId,
-    ThreadSet,
+    Answer, DevId, Errno, HandleId, HandleList, Op, OutOfMemory, ReqId, Rows, Setup, ThreadSet,
 };
-use bd_blocks::{base_handles_of, is_error, users};
+use bd_blocks::{base_handle, is_error, users};
 use bd_error::InjectionCalls;
 use bd_machine::{Device, ResetState, Standing};
 use bd_rule_view::Records;
@@ -168,43 +168,26 @@ fn is_last_user<R: Records>(
     Ok(true)
 }
 
-// A base handle with its thread, where it is open and the device is its last user.
+// The base handle of a device, where it is open and the device is its last user.
 fn left_open<R: Records>(
     alloc: Global,
     setup: &Setup,
     registry: &R,
     dev: DevId,
-    handle: HandleId,
-) -> Result<Option<(HandleId, ThreadId)>, OutOfMemory>
-    ensures { IfOk result (λ h. h ≡ left_open setup.now (R.registry_of registry.now) dev handle) }
+) -> Result<Option<HandleId>, OutOfMemory>
+    ensures { IfOk result (λ h. h ≡ left_open setup.now (R.registry_of registry.now) dev (base_handle setup.now dev)) }
 {
-    let Some(h) = registry.handle(handle) else {
+    let Some(handle) = base_handle(setup, dev) else {
         return Ok(None);
     };
+    if registry.handle(handle).is_none() {
+        return Ok(None);
+    }
     if is_last_user(alloc, setup, registry, dev, handle)? {
-        Ok(Some((h.id, h.thread)))
+        Ok(Some(handle))
     } else {
         Ok(None)
     }
-}
-
-// Those of these base handles that are open, with their threads, where the device is their last user.
-fn left_among<R: Records>(
-    alloc: Global,
-    setup: &Setup,
-    registry: &R,
-    dev: DevId,
-    handles: &[HandleId],
-) -> Result<HandleList, OutOfMemory>
-    ensures { IfOk result (λ hs. hs ≡ left_among setup.now (R.registry_of registry.now) dev handles.now) }
-{
-    let mut left = Rows::new(alloc);
-    for handle in handles {
-        if let Some(holder) = left_open(alloc, setup, registry, dev, *handle)? {
-            left.push(holder)?;
-        }
-    }
-    Ok(left)
 }
 
 /// The answer to the report that a device was destructed.
@@ -219,8 +202,7 @@ pub(crate) fn destructed_answer<R: Records>(
     if !is_free(setup, registry, dev) {
         return Ok(Answer::Refused(Errno::Inval));
     }
-    let handles = base_handles_of(alloc, setup, dev)?;
     Ok(Answer::Freed {
-        close: left_among(alloc, setup, registry, dev, handles.as_slice())?,
+        close: left_open(alloc, setup, registry, dev)?,
     })
 }

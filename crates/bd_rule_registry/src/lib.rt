@@ -12,6 +12,6 @@ mod standing;
 
 pub use answer::{answer_by, answer_to};
 pub use bare::{is_free, threads_of};
-pub use bd_rule_channels::made;
+pub use channels::made;
 pub use sizes::size_now;
 pub use standing::is_live;

@@ -3,7 +3,7 @@ ghost use Rattle.std.specs.Prelude.{◌≡◌};
 ghost use Rattle.bd_machine.specs.Registry.{blocks_in, blocks_to_come, growing_of, is_growing, size_now};
 
 use bd_base::{DevId, Setup};
-use bd_blocks::{base_of, blocks_of, is_over};
+use bd_blocks::{blocks_of, whole_base};
 use bd_rule_view::Records;
 
 /// How many blocks a device has in the registry, where a malloc or null device may have grown and no other
@@ -22,11 +22,9 @@ pub(crate) fn blocks_in<R: Records>(registry: &R, dev: DevId) -> u64
 pub fn size_now<R: Records>(setup: &Setup, registry: &R, dev: DevId) -> u64
     ensures { result ≡ size_now setup.now (R.registry_of registry.now) dev }
 {
-    let base = base_of(setup, dev);
-    if is_over(setup, base, dev) {
-        blocks_in(registry, base)
-    } else {
-        blocks_of(setup, dev)
+    match whole_base(setup, dev) {
+        Some(base) => blocks_in(registry, base),
+        None => blocks_of(setup, dev),
     }
 }
 

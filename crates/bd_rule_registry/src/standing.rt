@@ -3,7 +3,7 @@ ghost use Rattle.std.specs.Prelude.{◌≡◌};
 ghost use Rattle.bd_machine.specs.Registry.{are_live, is_live, standing_of};
 
 use bd_base::{DevId, Setup};
-use bd_blocks::below;
+use bd_blocks::stands_on;
 use bd_machine::Standing;
 use bd_rule_view::Records;
 
@@ -28,10 +28,15 @@ pub fn is_live<R: Records>(registry: &R, dev: DevId) -> bool
 pub(crate) fn are_live<R: Records>(setup: &Setup, registry: &R, dev: DevId) -> bool
     ensures { result ≡ are_live setup.now (R.registry_of registry.now) dev }
 {
-    for d in below(setup, dev) {
-        if !is_live(registry, d) {
+    let mut lowest = dev;
+    for _step in 0..setup.devices.len() {
+        if !is_live(registry, lowest) {
             return false;
         }
+        match stands_on(setup, lowest) {
+            Some(lower) => lowest = lower,
+            None => return true,
+        }
     }
-    true
+    is_live(registry, lowest)
 }

@@ -7,7 +7,7 @@ ghost use Rattle.bd_machine.specs.Requests.{is_device_of};
 
 use crate::marks::is_removed_below;
 use bd_base::{DevId, Errno, HandleId, Op, Setup};
-use bd_blocks::{is_aio_below, size_of};
+use bd_blocks::{is_aio, size_of};
 use bd_machine::{Handle, Part};
 use bd_rule_view::{Sees, Submission};
 
@@ -63,7 +63,7 @@ fn refusal_on(setup: &Setup, part: &Part, handle: Option<Handle>, what: Submissi
     };
     if writes(what.op) && !h.write {
         Some(Errno::BadDesc)
-    } else if is_unmap(what.op) && is_aio_below(setup, h.dev) {
+    } else if is_unmap(what.op) && is_aio(setup, h.dev) {
         Some(Errno::NotSup)
     } else if has_range(what.op)
         && is_outside(setup, h.dev, size_of_handle(part, &h), what.lba, what.count)

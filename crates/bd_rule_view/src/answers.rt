@@ -4,7 +4,7 @@ ghost use Rattle.std.specs.Cmp.Lexicographic.{pointwise};
 ghost use Rattle.bd_base.specs.declared.event.Answer.TheVariants as answers;
 ghost use Rattle.bd_machine.specs.Same.{same_answer, same_dev, same_dropped, same_holder, same_if_any, same_next_reset};
 
-use crate::same::{same_decision, same_errno, same_request, same_threads};
+use crate::same::{same_decision, same_errno, same_handle_if_any, same_request, same_threads};
 use bd_base::{
     Answer, Decision, DevId, DevList, Dropped, Errno, HandleId, HandleList, ReqId, ThreadId,
     ThreadSet,
@@ -102,19 +102,15 @@ fn is_put_down(b: &Answer, left: u128) -> bool
 }
 
 // Whether the answer to a drop says this.
-fn is_dropped(b: &Answer, what: Dropped, zero: &DevList, destruct: Option<DevId>) -> bool
-    ensures { result ≡ same_answer (answers.Dropped what zero.now destruct) b.now }
+fn is_dropped(b: &Answer, what: Dropped, zero: Option<DevId>, destruct: Option<DevId>) -> bool
+    ensures { result ≡ same_answer (answers.Dropped what zero destruct) b.now }
 {
     match b {
         Answer::Dropped {
             what: w,
             zero: z,
             destruct: d,
-        } => {
-            same_dropped(what, *w)
-                && same_devs(zero.as_slice(), z.as_slice())
-                && same_dev_if_any(destruct, *d)
-        }
+        } => same_dropped(what, *w) && same_dev_if_any(zero, *z) && same_dev_if_any(destruct, *d),
         _ => false,
     }
 }
@@ -184,12 +180,12 @@ fn is_injected(b: &Answer, decision: Decision) -> bool
     }
 }
 
-// Whether the answer to the end of a device left these base handles to be closed.
-fn is_freed(b: &Answer, close: &HandleList) -> bool
-    ensures { result ≡ same_answer (answers.Freed close.now) b.now }
+// Whether the answer to the end of a device left this base handle to be closed.
+fn is_freed(b: &Answer, close: Option<HandleId>) -> bool
+    ensures { result ≡ same_answer (answers.Freed close) b.now }
 {
     match b {
-        Answer::Freed { close: hs } => same_holders(close.as_slice(), hs.as_slice()),
+        Answer::Freed { close: h } => same_handle_if_any(close, *h),
         _ => false,
     }
 }
@@ -249,7 +245,7 @@ pub fn same_answer(a: &Answer, b: &Answer) -> bool
             what,
             zero,
             destruct,
-        } => is_dropped(b, *what, zero, *destruct),
+        } => is_dropped(b, *what, *zero, *destruct),
         Answer::Removing {
             dev,
             threads,
@@ -261,7 +257,7 @@ pub fn same_answer(a: &Answer, b: &Answer) -> bool
         Answer::ResetEnded { threads } => is_reset_ended(b, *threads),
         Answer::ResetFinished { next } => is_reset_finished(b, *next),
         Answer::Injected { decision } => is_injected(b, *decision),
-        Answer::Freed { close } => is_freed(b, close),
+        Answer::Freed { close } => is_freed(b, *close),
         Answer::Resizing { dev, home } => is_resizing(b, *dev, *home),
         Answer::Resized {
             handles,

@@ -1,4 +1,1 @@
-pub mod Lowers
-pub mod Once
-pub mod Openers
 pub mod Walks

@@ -1,27 +1,23 @@
 //! Devices: their rows and kinds.
 ghost use Rattle.std.specs.Prelude.{◌≡◌, option_copied, IfOk};
 ghost use Rattle.bd_machine.specs.BlockMap.{
-  bases_if_any,
-  bases_of,
   blocks_of,
   boundary_of,
   depth_of,
-  is_aio,
   is_delay,
   is_error,
   is_malloc,
   is_null,
-  is_set_kind,
   is_whole_kind,
   row_of,
   shift_of_kind,
+  shift_of_row,
   size_of,
-  spreads,
-  stacked_of,
+  stands_on,
 };
 ghost use Rattle.bd_machine.specs.Registry.{device_named};
 
-use bd_base::{DevId, DevRow, Kind, Name, OutOfMemory, Setup, Stacked};
+use bd_base::{DevId, DevRow, Kind, Name, OutOfMemory, Setup};
 
 /// The row of a device; none where the setup doesn't have the device.
 pub fn row_of(setup: &Setup, dev: DevId) -> Option<&DevRow>
@@ -94,54 +90,30 @@ pub fn depth_of(setup: &Setup, dev: DevId) -> u32
     }
 }
 
-/// What a device stands on; none for a base device, and where the setup doesn't have it.
-pub fn stacked_of(setup: &Setup, dev: DevId) -> Option<&Stacked>
-    ensures { option_copied result ≡ stacked_of setup.now dev }
+/// The device that a device stands on; none for a base device, and where the setup doesn't have it.
+pub fn stands_on(setup: &Setup, dev: DevId) -> Option<DevId>
+    ensures { result ≡ stands_on setup.now dev }
 {
-    match &row_of(setup, dev)?.stacked {
-        Some(stacked) => Some(stacked.get()),
-        None => None,
-    }
+    row_of(setup, dev)?.base
 }
 
-// The devices that the device of a row stands on.
-pub(crate) fn bases_of_row(row: &DevRow) -> &[DevId]
-    ensures { result.now ≡ bases_if_any row.now.stacked }
-{
-    match &row.stacked {
-        Some(stacked) => stacked.get().bases.as_slice(),
-        None => &[],
-    }
-}
-
-/// The devices that a device stands on: the members of a set in their order, and one for each other that is no base
-/// device.
-pub fn bases_of(setup: &Setup, dev: DevId) -> &[DevId]
-    ensures { result.now ≡ bases_of setup.now dev }
-{
-    match row_of(setup, dev) {
-        Some(row) => bases_of_row(row),
-        None => &[],
-    }
-}
-
-/// Whether a request on the device may have pieces on several base devices: it is a set, or one is below it.
-pub fn spreads(setup: &Setup, dev: DevId) -> bool
-    ensures { result ≡ spreads setup.now dev }
-{
-    match stacked_of(setup, dev) {
-        Some(stacked) => stacked.spreads,
-        None => false,
-    }
-}
-
-/// The block of its base at which a device of this kind begins.
-pub(crate) fn shift_of_kind(kind: Kind) -> u64
+// The block of its base at which a device of this kind begins.
+fn shift_of_kind(kind: Kind) -> u64
     ensures { result ≡ shift_of_kind kind }
 {
     match kind {
         Kind::Part { shift } => shift,
         _ => 0,
+    }
+}
+
+/// The block at which a device begins on the one that it stands on.
+pub(crate) fn shift_of(setup: &Setup, dev: DevId) -> u64
+    ensures { result ≡ shift_of_row (row_of setup.now dev) }
+{
+    match row_of(setup, dev) {
+        Some(row) => shift_of_kind(row.kind),
+        None => 0,
     }
 }
 
@@ -163,23 +135,6 @@ pub fn is_null(setup: &Setup, dev: DevId) -> bool
         Some(row) => matches!(row.kind, Kind::Null),
         None => false,
     }
-}
-
-/// Whether it is a file.
-pub fn is_aio(setup: &Setup, dev: DevId) -> bool
-    ensures { result ≡ is_aio setup.now dev }
-{
-    match row_of(setup, dev) {
-        Some(row) => matches!(row.kind, Kind::Aio),
-        None => false,
-    }
-}
-
-/// Whether a device of this kind is a concatenation or a striped set.
-pub(crate) fn is_set_kind(kind: Kind) -> bool
-    ensures { result ≡ is_set_kind kind }
-{
-    matches!(kind, Kind::Concat { .. } | Kind::Raid0 { .. })
 }
 
 /// Whether a device of this kind has just the blocks of the one that it stands on.

@@ -1,21 +1,18 @@
-//! Base handles: each group of devices that stand on others has one for each base of its first device, numbered from 0
-//! by that device, then by base.
-ghost use Rattle.std.specs.Prelude.{◌≡◌, ◌≤◌, ◌++◌, filter, map, true, IfOk, OnOk, Some, length, slice_get};
+//! Base handles: each group of devices that stand on another has one, numbered from 0 by the group's
+//! first device.
+ghost use Rattle.std.specs.Prelude.{◌≡◌, ◌≤◌, count_by, is_some, true, IfOk, Some, length, slice_get};
 ghost use Rattle.std.specs.List.{list_any};
 ghost use Rattle.std.specs.Option.{option_map};
-ghost use Rattle.bd_machine.specs.BlockMap.{bases_of};
-ghost use Rattle.bd_machine.specs.Users.{all_devices, base_handles, base_handles_of, dev_of, devices, handle_on, is_base_handle, is_first, is_of_group, shares_handle, users};
-ghost use Rattle.bd_stack.specs.Openers.{all_bases, base_handle, first_of_handle};
+ghost use Rattle.bd_machine.specs.Users.{base_handle, dev_of, devices, firsts, is_base_handle, is_first, is_of_group, shares_handle, sharing, users};
 
-use crate::devices::{bases_of, bases_of_row};
 use bd_base::{DevId, DevRow, HandleId, OutOfMemory, Rows, Setup};
 use std::alloc::Global;
 
-// Whether both stand on other devices and are of one group.
+// Whether both stand on another device and are of one group.
 fn is_of_group(one: &DevRow, other: &DevRow) -> bool
     ensures { result ≡ is_of_group (Some one.now) (Some other.now) }
 {
-    one.stacked.is_some() && other.stacked.is_some() && one.group == other.group
+    one.base.is_some() && other.base.is_some() && one.group == other.group
 }
 
 // Whether the devices of these numbers share a base handle.
@@ -26,16 +23,6 @@ fn are_of_group(setup: &Setup, one: usize, other: usize) -> bool
     match (rows.get(one), rows.get(other)) {
         (Some(a), Some(b)) => is_of_group(a, b),
         _ => false,
-    }
-}
-
-// The devices that the device of this number stands on.
-fn bases_of_number(setup: &Setup, number: usize) -> &[DevId]
-    ensures { result.now ≡ bases_of setup.now (dev_of number) }
-{
-    match setup.devices.as_slice().get(number) {
-        Some(row) => bases_of_row(row),
-        None => &[],
     }
 }
 
@@ -51,39 +38,56 @@ fn is_joined(setup: &Setup, number: usize) -> bool
     false
 }
 
-// Whether the device of this number stands on others, and is the first of its group.
+// Whether the device of this number stands on another one, and is the first of its group.
 fn is_first(setup: &Setup, number: usize) -> bool
     ensures { result ≡ is_first setup.now (dev_of number) }
 {
     are_of_group(setup, number, number) && !is_joined(setup, number)
 }
 
-// Whether a number isn't below the number of all bases of these devices.
-fn is_past(rows: &[DevRow], number: u128) -> bool
-    ensures { result ≡ true → all_bases rows.now ≤ number }
+/// How many base handles there are.
+fn count_firsts(setup: &Setup) -> usize
+    ensures { result ≡ length (firsts setup.now) }
 {
-    let mut before = number;
-    for row in rows {
-        let bases = bases_of_row(row).len() as u128;
-        if before < bases {
-            return false;
+    let mut count = 0;
+    for number in 0..setup.devices.len() {
+        if is_first(setup, number) {
+            count += 1;
         }
-        before -= bases;
     }
-    true
+    count
 }
 
-// Whether the number of the handle isn't below the number of all bases of all devices. So it is of nearly every handle
-// that is no base handle, and of none that is.
-fn is_later(setup: &Setup, handle: HandleId) -> bool
-    ensures { result ≡ true → length (base_handles setup.now) ≤ handle.0 }
+// How many devices stand on another.
+fn count_standing(setup: &Setup) -> usize
+    ensures { result ≡ count_by (λ row. is_some row.base) setup.now.devices }
 {
-    is_past(setup.devices.as_slice(), handle.0)
+    setup
+        .devices
+        .as_slice()
+        .iter()
+        .filter(|row| row.base.is_some())
+        .count()
 }
 
-// The number of the first device of the group that has this base handle.
+// Whether the number of the handle isn't below the number of devices that stand on another. So it is of nearly every
+// handle that is no base handle, and of none that is.
+fn is_later(setup: &Setup, handle: HandleId) -> bool
+    ensures { result ≡ true → length (firsts setup.now) ≤ handle.0 }
+{
+    handle.0 >= count_standing(setup) as u128
+}
+
+/// Whether it is the base handle of some device.
+pub fn is_base_handle(setup: &Setup, handle: HandleId) -> bool
+    ensures { result ≡ is_base_handle setup.now handle }
+{
+    !is_later(setup, handle) && handle.0 < count_firsts(setup) as u128
+}
+
+// The number of the first device that has this base handle.
 fn first_of(setup: &Setup, handle: HandleId) -> Option<usize>
-    ensures { option_map dev_of result ≡ option_map first_of_handle (slice_get (base_handles setup.now) handle.0) }
+    ensures { option_map dev_of result ≡ slice_get (firsts setup.now) handle.0 }
 {
     if is_later(setup, handle) {
         return None;
@@ -91,41 +95,35 @@ fn first_of(setup: &Setup, handle: HandleId) -> Option<usize>
     let mut before = handle.0;
     for number in 0..setup.devices.len() {
         if is_first(setup, number) {
-            let bases = bases_of_number(setup, number).len() as u128;
-            if before < bases {
+            if before == 0 {
                 return Some(number);
             }
-            before -= bases;
+            before -= 1;
         }
     }
     None
 }
 
-/// Whether it is the base handle of some device.
-pub fn is_base_handle(setup: &Setup, handle: HandleId) -> bool
-    ensures { result ≡ is_base_handle setup.now handle }
+/// The base handle of a device; none for a device that stands on no other.
+pub fn base_handle(setup: &Setup, dev: DevId) -> Option<HandleId>
+    ensures { result ≡ base_handle setup.now dev }
 {
-    first_of(setup, handle).is_some()
-}
-
-// A base handle for each of these bases of a first device.
-fn push_handles(
-    found: &mut Rows<(DevId, DevId)>,
-    first: DevId,
-    bases: &[DevId],
-) -> Result<(), OutOfMemory>
-    ensures { OnOk result (map base_handle found.new ≡ map base_handle found.old ++ map (handle_on first) bases.now) }
-{
-    for base in bases {
-        found.push((first, *base))?;
+    let mut handle = 0;
+    for number in 0..setup.devices.len() {
+        if is_first(setup, number) {
+            if are_of_group(setup, dev.0 as usize, number) {
+                return Some(HandleId(handle));
+            }
+            handle += 1;
+        }
     }
-    Ok(())
+    None
 }
 
-/// The base handles by number: the first device of each group with each of its bases. More devices than 32 bits count are
-/// out of memory.
-pub fn base_handles(alloc: Global, setup: &Setup) -> Result<Rows<(DevId, DevId)>, OutOfMemory>
-    ensures { IfOk result (λ hs. map base_handle hs ≡ base_handles setup.now) }
+/// The first devices of the groups, by the number of their base handle. More devices than 32 bits
+/// count are out of memory.
+pub fn firsts(alloc: Global, setup: &Setup) -> Result<Rows<DevId>, OutOfMemory>
+    ensures { IfOk result (λ devs. devs ≡ firsts setup.now) }
 {
     let Ok(count) = u32::try_from(setup.devices.len()) else {
         return Err(OutOfMemory);
@@ -133,28 +131,7 @@ pub fn base_handles(alloc: Global, setup: &Setup) -> Result<Rows<(DevId, DevId)>
     let mut found = Rows::new(alloc);
     for number in 0..count {
         if is_first(setup, number as usize) {
-            let first = DevId(number);
-            push_handles(&mut found, first, bases_of(setup, first))?;
-        }
-    }
-    Ok(found)
-}
-
-/// The base handles of a device's group; none of a device that stands on no other. More devices than 32 bits count are
-/// out of memory.
-pub fn base_handles_of(
-    alloc: Global,
-    setup: &Setup,
-    dev: DevId,
-) -> Result<Rows<HandleId>, OutOfMemory>
-    ensures { IfOk result (λ hs. hs ≡ base_handles_of setup.now dev) }
-{
-    let handles = base_handles(alloc, setup)?;
-    let mut found = Rows::new(alloc);
-    for number in 0..handles.len() {
-        let (first, _) = handles.as_slice()[number];
-        if are_of_group(setup, dev.0 as usize, first.0 as usize) {
-            found.push(HandleId(number as u128))?;
+            found.push(DevId(number))?;
         }
     }
     Ok(found)
@@ -162,7 +139,7 @@ pub fn base_handles_of(
 
 // The devices that share the base handle of the device of this number.
 fn sharing(alloc: Global, setup: &Setup, first: usize) -> Result<Rows<DevId>, OutOfMemory>
-    ensures { IfOk result (λ devs. devs ≡ filter (shares_handle setup.now (dev_of first)) (all_devices setup.now)) }
+    ensures { IfOk result (λ devs. devs ≡ sharing setup.now (Some (dev_of first))) }
 {
     let Ok(count) = u32::try_from(setup.devices.len()) else {
         return Err(OutOfMemory);

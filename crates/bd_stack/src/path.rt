@@ -1,19 +1,22 @@
-//! The devices below a device, and its base device.
-ghost use Rattle.std.specs.Prelude.{◌≡◌, option_copied};
+//! The way from a device down to its base device.
+ghost use Rattle.std.specs.Prelude.{◌≡◌, ◌+◌, ◌&&◌, ◌==◌, cond, IfOk, IfSome, None, Some, suc};
+ghost use Rattle.std.specs.Option.{option_map};
 ghost use Rattle.std.specs.Iterator.{YieldsFirst, item_count};
 ghost use Rattle.bd_machine.specs.Aborts.{is_below};
-ghost use Rattle.bd_machine.specs.BlockMap.{base_of, below, home, is_aio_below, is_over, is_whole_or, under_if_any};
+ghost use Rattle.bd_machine.specs.BlockMap.{at, base_of, below, home, is_aio, is_over, is_whole_or, last_of, path_within, row_of, shift_of_row, stands_on};
 ghost use Rattle.bd_machine.specs.Homes.{is_home};
 
-use crate::devices::{is_aio, is_whole_kind, row_of, stacked_of};
-use bd_base::{DevId, Setup, Stacked};
+use crate::devices::{is_whole_kind, row_of, shift_of, stands_on};
+use bd_base::{DevId, Kind, OutOfMemory, Setup};
 use std::marker::Model;
 
-/// The devices from one down that are left, seen as their list.
+/// The devices from one down to its base device that are left, seen as their list.
 #[derive(Drop)]
 pub struct Descent<'a> {
-    first: Option<DevId>,
-    others: &'a [DevId],
+    setup: &'a Setup,
+    next: Option<DevId>,
+    // How many devices follow the next one at most.
+    left: usize,
 }
 
 impl<'a> Model for Descent<'a> {
@@ -23,7 +26,7 @@ impl<'a> Model for Descent<'a> {
 
     ghost Value = { List DevId };
 
-    ghost view = { λ d. devices_left d.first d.others.now };
+    ghost view = { λ b. devices_left b.setup.now b.left b.next };
 }
 
 impl<'a> Iterator for Descent<'a> {
@@ -34,33 +37,25 @@ impl<'a> Iterator for Descent<'a> {
     ghost remaining = { item_count (λ left. left) };
 
     fn next(&mut self) -> Option<DevId> {
-        if let Some(dev) = self.first {
-            self.first = None;
-            return Some(dev);
+        let dev = self.next?;
+        if self.left == 0 {
+            self.next = None;
+        } else {
+            self.left -= 1;
+            self.next = stands_on(self.setup, dev);
         }
-        let (dev, others) = self.others.split_first()?;
-        self.others = others;
-        Some(*dev)
+        Some(dev)
     }
 }
 
-// The devices below the device that stands on this.
-fn under_if_any(stacked: Option<&Stacked>) -> &[DevId]
-    ensures { result.now ≡ under_if_any (option_copied stacked.entry) }
-{
-    match stacked {
-        Some(stacked) => stacked.under.as_slice(),
-        None => &[],
-    }
-}
-
-/// A device and all devices below it, each once, those of the first base first. It takes no memory.
+/// A device, the one that it stands on, and so on down to its base device. It takes no memory.
 pub fn below(setup: &Setup, dev: DevId) -> Descent<'_>
     ensures { result ≡ below setup.now dev }
 {
     Descent {
-        first: Some(dev),
-        others: under_if_any(stacked_of(setup, dev)),
+        setup,
+        next: Some(dev),
+        left: setup.devices.len(),
     }
 }
 
@@ -76,17 +71,21 @@ pub fn is_below(setup: &Setup, dev: DevId, lower: DevId) -> bool
     false
 }
 
-/// The base device under the first base of a device, and so on down.
+/// The base device under a device.
 pub fn base_of(setup: &Setup, dev: DevId) -> DevId
     ensures { result ≡ base_of setup.now dev }
 {
-    match stacked_of(setup, dev) {
-        Some(stacked) => stacked.base,
-        None => dev,
+    let mut base = dev;
+    for _step in 0..setup.devices.len() {
+        match stands_on(setup, base) {
+            Some(lower) => base = lower,
+            None => break,
+        }
     }
+    base
 }
 
-/// The number of the thread that alone touches the content of a base device; for any other that of its first base device.
+/// The number of the thread that alone touches the content under a device.
 pub fn home(setup: &Setup, dev: DevId) -> u32
     ensures { result ≡ home setup.now dev }
 {
@@ -105,16 +104,14 @@ pub fn is_home(setup: &Setup, thread: u32, dev: DevId) -> bool
     row_of(setup, dev).is_some() && home(setup, dev) == thread
 }
 
-/// Whether a device is a file, or one is below it.
-pub fn is_aio_below(setup: &Setup, dev: DevId) -> bool
-    ensures { result ≡ is_aio_below setup.now dev }
+/// Whether the base of a device is a file.
+pub fn is_aio(setup: &Setup, dev: DevId) -> bool
+    ensures { result ≡ is_aio setup.now dev }
 {
-    for d in below(setup, dev) {
-        if is_aio(setup, d) {
-            return true;
-        }
+    match row_of(setup, base_of(setup, dev)) {
+        Some(row) => matches!(row.kind, Kind::Aio),
+        None => false,
     }
-    false
 }
 
 // Whether it is this base device, or has just the blocks of the one that it stands on.
@@ -141,4 +138,82 @@ pub fn is_over(setup: &Setup, base: DevId, dev: DevId) -> bool
         }
     }
     true
+}
+
+// The base device under a device that has just its blocks, where this part lies between them.
+fn base_if_over(setup: &Setup, dev: DevId, part: DevId) -> Option<DevId>
+    ensures { result ≡ cond ((part.0 == (base_of setup.now dev).0) && is_over setup.now (base_of setup.now dev) dev)
+        (Some (base_of setup.now dev)) None }
+{
+    let base = base_of(setup, dev);
+    // In a circle of devices the part may be the base itself.
+    if part.0 == base.0 && is_over(setup, base, dev) {
+        Some(base)
+    } else {
+        None
+    }
+}
+
+/// The base device under a device that has just its blocks; none under one that is a part, or stands on a part.
+pub fn whole_base(setup: &Setup, dev: DevId) -> Option<DevId>
+    ensures { result ≡ cond (is_over setup.now (base_of setup.now dev) dev) (Some (base_of setup.now dev)) None }
+{
+    let mut base = dev;
+    for _step in 0..setup.devices.len() {
+        let Some(row) = row_of(setup, base) else {
+            break;
+        };
+        let Some(lower) = row.base else {
+            break;
+        };
+        if !is_whole_kind(row.kind) {
+            return base_if_over(setup, dev, base);
+        }
+        base = lower;
+    }
+    Some(base)
+}
+
+/// The block under a block of a device that stands on another; none for a base device. A number that
+/// passes 64 bits counts as out of memory.
+pub fn under(setup: &Setup, dev: DevId, block: u64) -> Result<Option<(DevId, u64)>, OutOfMemory>
+    ensures base { IfOk result (λ o. option_map (λ p. p.0) o ≡ stands_on setup.now dev) }
+    ensures number { IfOk result (λ o. IfSome o (λ p. p.1 ≡ shift_of_row (row_of setup.now dev) + block)) }
+{
+    let Some(base) = stands_on(setup, dev) else {
+        return Ok(None);
+    };
+    match shift_of(setup, dev).checked_add(block) {
+        Some(number) => Ok(Some((base, number))),
+        None => Err(OutOfMemory),
+    }
+}
+
+// The lowest block under a block of a device, `left` devices further down at most.
+fn at_within(
+    setup: &Setup,
+    left: usize,
+    dev: DevId,
+    block: u64,
+) -> Result<(DevId, u64), OutOfMemory>
+    ensures { IfOk result (λ p. record { dev = p.0; number = p.1 } ≡ last_of (record { dev = dev; number = block }) (path_within (suc left) setup.now dev block)) }
+{
+    if left == 0 {
+        return Ok((dev, block));
+    }
+    match under(setup, dev, block)? {
+        None => Ok((dev, block)),
+        Some((base, lower)) => {
+            let lowest = at_within(setup, left - 1, base, lower)?;
+            Ok(lowest)
+        }
+    }
+}
+
+/// The base device and its block that lie under a block of a device. A number that passes 64 bits
+/// counts as out of memory: no request that was admitted has one.
+pub fn at(setup: &Setup, dev: DevId, block: u64) -> Result<(DevId, u64), OutOfMemory>
+    ensures { IfOk result (λ p. record { dev = p.0; number = p.1 } ≡ at setup.now dev block) }
+{
+    at_within(setup, setup.devices.len(), dev, block)
 }

@@ -1,6 +1,4 @@
 mod Left
-mod Spreading
-mod Freeing
 pub mod Completing
 pub mod Overs
 mod Holding

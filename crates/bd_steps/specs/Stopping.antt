@@ -1,5 +1,5 @@
 -- Which request may be aborted, what an abort stops, and what a completion leaves of it: pieces of the request that are still to be put.
-use Rattle.std.specs.Prelude.{ℕ, ◌-◌, Bool, false, cond, not, ◌&&◌, List, [], ◌∷◌, ◌++◌, filter, count_by, length, map, Option, Some, None, is_none}
+use Rattle.std.specs.Prelude.{ℕ, ◌-◌, Bool, false, cond, not, ◌&&◌, List, [], ◌∷◌, ◌++◌, filter, length, map, Option, Some, None, is_none}
 use Rattle.bd_base.specs.declared.act.Token.{Token}
 use Rattle.bd_base.specs.declared.act.Token.TheVariants as tokens
 use Rattle.bd_base.specs.declared.id.DevId.{DevId}
@@ -10,7 +10,6 @@ use Rattle.bd_base.specs.declared.setup.Setup.{Setup}
 use Rattle.bd_machine.specs.declared.state.Id.{Id}
 use Rattle.bd_machine.specs.declared.state.Id.TheVariants as ids
 use Rattle.bd_machine.specs.declared.state.Kept.{Kept}
-use Rattle.bd_machine.specs.declared.state.OpenPiece.{OpenPiece}
 use Rattle.bd_machine.specs.declared.state.OpenRequest.{OpenRequest}
 use Rattle.bd_machine.specs.declared.state.Limited.{Limited}
 use Rattle.bd_machine.specs.declared.state.Open.{Open}
@@ -18,10 +17,10 @@ use Rattle.bd_machine.specs.declared.state.Part.{Part}
 use Rattle.bd_machine.specs.declared.state.Trip.{Trip}
 use Rattle.bd_machine.specs.declared.state.Trip.TheVariants as trips
 use Rattle.bd_machine.specs.Aborts.{guards_abort}
-use Rattle.bd_machine.specs.BlockMap.{base_of, spreads}
+use Rattle.bd_machine.specs.BlockMap.{base_of}
 use Rattle.bd_machine.specs.Completion.{is_success, waits_unsent}
 use Rattle.bd_machine.specs.Kept.{as_piece, as_request, request_here}
-use Rattle.bd_machine.specs.Same.{same_dev, same_request}
+use Rattle.bd_machine.specs.Same.{same_request}
 use Rattle.bd_machine.specs.Step.{first_failing}
 use Rattle.bd_machine.specs.View.{View}
 use Rattle.bd_machine.specs.Walks.{is_kept_waiting}
@@ -59,43 +58,21 @@ turned_back req trips.Passed outbox = outbox
 abbrev pub left_by : ReqId → Status → (Id → Option Kept) → List (ℕ × Token) → List (ℕ × Token)
 left_by req status here outbox = cond (is_success status) outbox (without_unsent req here outbox)
 
--- ---- the channels of the request's base devices
+-- ---- the channel of the request's base device
 
--- it is a piece that waits unsent, for this base device
-abbrev pub waits_unsent_to : DevId → Option OpenPiece → Bool
-waits_unsent_to base None = false
-waits_unsent_to base (Some p) = waits_unsent (Some p) && same_dev p.base base
+-- the base device under a request's device
+abbrev pub base_under : Setup → Option OpenRequest → Option DevId
+base_under setup None = None
+base_under setup (Some r) = Some (base_of setup r.dev)
 
--- it is a piece of this request that is here, for this base device, without an end and not out
-abbrev pub is_unsent_to : DevId → ReqId → (Id → Option Kept) → Token → Bool
-is_unsent_to base req here (tokens.Piece of k) = same_request of req && waits_unsent_to base (as_piece (here (ids.Piece of k)))
-is_unsent_to base req here _ = false
-
--- how many pieces of the request are to be put to this base device
-abbrev pub unsent_to : DevId → ReqId → (Id → Option Kept) → List (ℕ × Token) → ℕ
-unsent_to base req here outbox = count_by (λ x. is_unsent_to base req here x.1) outbox
-
--- where all its pieces go to this base device: those that wait unsent are no longer in flight to it, and none waits to be sent again
-abbrev pub channels_freed : DevId → ReqId → (Id → Option Kept) → List (ℕ × Token) → List Channel → List Channel
-channels_freed base req here outbox channels = changed_if_any base (dropped req (length outbox - length (without_unsent req here outbox))) channels
-
--- the same of one channel, where they go each to its own base device
-abbrev pub channel_freed : ReqId → (Id → Option Kept) → List (ℕ × Token) → Channel → Channel
-channel_freed req here outbox c = dropped req (unsent_to c.base req here outbox) c
-
-abbrev pub device_of : Option OpenRequest → Option DevId
-device_of None = None
-device_of (Some r) = Some r.dev
-
--- the same of all channels, for a request on this device
-abbrev pub channels_by : Setup → ReqId → (Id → Option Kept) → List (ℕ × Token) → Option DevId → List Channel → List Channel
-channels_by setup req here outbox None channels = channels
-channels_by setup req here outbox (Some dev) channels =
-    cond (spreads setup dev) (map (channel_freed req here outbox) channels) (channels_freed (base_of setup dev) req here outbox channels)
+-- n pieces that were never sent are no longer in flight to this base device, and no piece of the request waits to be sent again
+abbrev pub channels_at : Option DevId → ReqId → ℕ → List Channel → List Channel
+channels_at None req n channels = channels
+channels_at (Some base) req n channels = changed_if_any base (dropped req n) channels
 
 -- the request's pieces that wait unsent are neither in flight nor to be sent again
 abbrev pub channels_without : Setup → ReqId → (Id → Option Kept) → List (ℕ × Token) → List Channel → List Channel
-channels_without setup req here outbox channels = channels_by setup req here outbox (device_of (as_request (here (ids.Request req)))) channels
+channels_without setup req here outbox channels = channels_at (base_under setup (as_request (here (ids.Request req)))) req (length outbox - length (without_unsent req here outbox)) channels
 
 -- the same once the request completed with this status, but for success
 abbrev pub channels_left : Setup → ReqId → Status → (Id → Option Kept) → List (ℕ × Token) → List Channel → List Channel

@@ -1,16 +1,15 @@
 //! Which request may be aborted, and what an abort stops: the request waits at no limited device, and its pieces
 //! that wait unsent are no longer to be put; nor are they where a request completes without success.
-ghost use Rattle.std.specs.Prelude.{◌≡◌, ◌++◌, ◌∷◌, [], option_copied, filter, map, not, IfOk, OnOk, Some};
+ghost use Rattle.std.specs.Prelude.{◌≡◌, ◌++◌, ◌∷◌, [], option_copied, filter, not, IfOk, OnOk, Some};
 ghost use Rattle.bd_machine.specs.Aborts.{stopped};
 ghost use Rattle.bd_machine.specs.Completion.{waits_unsent};
 ghost use Rattle.bd_machine.specs.declared.state.Id.TheVariants as ids;
 ghost use Rattle.bd_machine.specs.Kept.{as_piece, as_request};
-ghost use Rattle.bd_machine.specs.Table.{change_at};
 ghost use Rattle.bd_tokens.specs.Tokens.{here_in};
-ghost use Rattle.bd_steps.specs.Stopping.{abortable, channel_freed, channels_by, channels_freed, channels_left, channels_without, device_of, in_lines, is_request, is_unsent, is_unsent_to, left_by, open_over, stoppable, turned_back, unsent_to, waits_unsent_to, without_unsent};
+ghost use Rattle.bd_steps.specs.Stopping.{abortable, base_under, channels_left, channels_without, in_lines, is_request, is_unsent, left_by, open_over, stoppable, turned_back, without_unsent};
 
 use bd_base::{AbortCause, DevId, OutOfMemory, ReqId, Rows, Setup, Status, Token};
-use bd_blocks::{base_of, spreads};
+use bd_blocks::base_of;
 use bd_machine::{Id, Kept, Limited, Open, OpenList, OpenRequest, Part, Progress, Trip};
 use bd_retries::Retries;
 use bd_rule_faults::{depart, refused_abort, waits_at};
@@ -67,110 +66,12 @@ fn keep_others(outbox: &mut VecDeque<(u32, Token)>, held: &Tokens, req: ReqId)
     outbox.retain(|x| !is_unsent(held, req, &x.1));
 }
 
-// Whether it is a piece for this base device, without an end, and not out.
-fn waits_unsent_to(base: DevId, kept: Option<&Kept>) -> bool
-    ensures { result ≡ waits_unsent_to base (as_piece (option_copied kept.entry)) }
-{
-    match kept {
-        Some(Kept::Piece(p)) => p.end.is_none()
-            && matches!(p.progress, Progress::Held)
-            && p.base.0 == base.0,
-        _ => false,
-    }
-}
-
-// Whether it is a piece of this request, for this base device, that waits here unsent.
-fn is_unsent_to(held: &Tokens, base: DevId, req: ReqId, what: &Token) -> bool
-    ensures { result ≡ is_unsent_to base req (here_in held.now.items) what.now }
-{
-    match what {
-        Token::Piece(of, k) => {
-            same_request(*of, req) && waits_unsent_to(base, held.get(Id::Piece(*of, *k)))
-        }
-        _ => false,
-    }
-}
-
-// How many pieces of a request are to be put to this base device.
-fn count_unsent(outbox: &VecDeque<(u32, Token)>, held: &Tokens, base: DevId, req: ReqId) -> usize
-    ensures { result ≡ unsent_to base req (here_in held.now.items) outbox.now.items }
-{
-    outbox
-        .iter()
-        .filter(|x| is_unsent_to(held, base, req, &x.1))
-        .count()
-}
-
-// The pieces of a request that wait here unsent are no longer in flight by the channel at this place, and none waits there
-// to be sent again.
-fn free_at(
-    retries: &mut Retries,
-    outbox: &VecDeque<(u32, Token)>,
-    held: &Tokens,
-    req: ReqId,
-    place: usize,
-)
-    ensures { retries.new ≡ change_at place (channel_freed req (here_in held.now.items) outbox.now.items) retries.old }
-{
-    let Some(base) = retries.base_at(place) else {
-        return;
-    };
-    let n = count_unsent(outbox, held, base, req);
-    retries.dropped_at(place, req, n);
-}
-
-// The same by each channel.
-fn free_each(retries: &mut Retries, outbox: &VecDeque<(u32, Token)>, held: &Tokens, req: ReqId)
-    ensures { retries.new ≡ map (channel_freed req (here_in held.now.items) outbox.now.items) retries.old }
-{
-    for place in 0..retries.len() {
-        free_at(retries, outbox, held, req, place);
-    }
-}
-
-// The pieces of a request that wait here unsent are no longer to be put, and no longer in flight to this base device.
-fn drop_to(
-    outbox: &mut VecDeque<(u32, Token)>,
-    retries: &mut Retries,
-    held: &Tokens,
-    base: DevId,
-    req: ReqId,
-)
-    ensures outbox { outbox.new.items ≡ without_unsent req (here_in held.now.items) outbox.old.items }
-    ensures retries { retries.new ≡ channels_freed base req (here_in held.now.items) outbox.old.items retries.old }
-{
-    let before = outbox.len();
-    keep_others(outbox, held, req);
-    let after = outbox.len();
-    retries.dropped(base, req, before.saturating_sub(after));
-}
-
-// The pieces of a request on this device that wait here unsent are no longer to be put, nor in flight, nor to be sent again.
-fn drop_on(
-    outbox: &mut VecDeque<(u32, Token)>,
-    retries: &mut Retries,
-    held: &Tokens,
-    setup: &Setup,
-    dev: DevId,
-    req: ReqId,
-)
-    ensures outbox { outbox.new.items ≡ without_unsent req (here_in held.now.items) outbox.old.items }
-    ensures retries { retries.new ≡ channels_by setup.now req (here_in held.now.items) outbox.old.items (Some dev) retries.old }
-{
-    if spreads(setup, dev) {
-        free_each(retries, outbox, held, req);
-        keep_others(outbox, held, req);
-    } else {
-        drop_to(outbox, retries, held, base_of(setup, dev), req);
-    }
-}
-
-// The device of the request, where that is here.
-fn device_of(held: &Tokens, req: ReqId) -> Option<DevId>
-    ensures { result ≡ device_of (as_request (here_in held.now.items (ids.Request req))) }
+// The base device under the request's device, where the request is here.
+fn base_under(held: &Tokens, setup: &Setup, req: ReqId) -> Option<DevId>
+    ensures { result ≡ base_under setup.now (as_request (here_in held.now.items (ids.Request req))) }
 {
     match held.get(Id::Request(req)) {
-        Some(Kept::Request(r)) => Some(r.dev),
+        Some(Kept::Request(r)) => Some(base_of(setup, r.dev)),
         _ => None,
     }
 }
@@ -187,9 +88,11 @@ pub fn drop_unsent(
     ensures outbox { outbox.new.items ≡ without_unsent req (here_in held.now.items) outbox.old.items }
     ensures retries { retries.new ≡ channels_without setup.now req (here_in held.now.items) outbox.old.items retries.old }
 {
-    match device_of(held, req) {
-        None => keep_others(outbox, held, req),
-        Some(dev) => drop_on(outbox, retries, held, setup, dev, req),
+    let before = outbox.len();
+    keep_others(outbox, held, req);
+    let after = outbox.len();
+    if let Some(base) = base_under(held, setup, req) {
+        retries.dropped(base, req, before.saturating_sub(after));
     }
 }
 

@@ -107,8 +107,8 @@ answer_self answers.Claimed = refl
 answer_self (answers.Got f ds) = and_from (beq f f) (pointwise same_dev ds ds) (flag_self f) (all_self same_dev dev_self ds)
 answer_self (answers.PutDown n) = eq-eqb n n refl
 answer_self (answers.Dropped w z d) =
-    and_from (same_dropped w w && pointwise same_dev z z) (same_if_any same_dev d d)
-    (and_from (same_dropped w w) (pointwise same_dev z z) (dropped_self w) (all_self same_dev dev_self z)) (if_any_self same_dev dev_self d)
+    and_from (same_dropped w w && same_if_any same_dev z z) (same_if_any same_dev d d)
+    (and_from (same_dropped w w) (same_if_any same_dev z z) (dropped_self w) (if_any_self same_dev dev_self z)) (if_any_self same_dev dev_self d)
 answer_self (answers.Removing v ts hs d) =
     and_from (same_dev v v && (ts.0 == ts.0) && pointwise same_holder hs hs) (same_if_any same_dev d d)
     (and_from (same_dev v v && (ts.0 == ts.0)) (pointwise same_holder hs hs)
@@ -119,7 +119,7 @@ answer_self answers.ResetQueued = refl
 answer_self (answers.ResetEnded ts) = eq-eqb ts.0 ts.0 refl
 answer_self (answers.ResetFinished n) = if_any_self same_next_reset next_self n
 answer_self (answers.Injected d) = decision_self d
-answer_self (answers.Freed hs) = all_self same_holder holder_self hs
+answer_self (answers.Freed h) = if_any_self (λ a b. a.0 == b.0) (λ (x : HandleId). eq-eqb x.0 x.0 refl) h
 answer_self (answers.Resizing d t) = and_from (same_dev d d) (t.0 == t.0) (dev_self d) (eq-eqb t.0 t.0 refl)
 answer_self (answers.Resized hs n d) =
     and_from (pointwise same_holder hs hs && (n == n)) (same_if_any same_dev d d)

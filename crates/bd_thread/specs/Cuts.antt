@@ -17,8 +17,8 @@ use Rattle.bd_thread.specs.Seen.{untaken, view_of}
 pub record IsCut (req : ReqId) (r : OpenRequest) (n : ℕ) (old : Thread) (before : Links) (new : Thread) (after : Links) : Type 0 where
   pub pieces : n ≡ length (extents_of old.setup.now r)
   pub held : here_in new.held.items ≡ held_after (cut_into old.setup.now req n (Some r)) (here_in old.held.items)
-  pub outbox : new.outbox.items ≡ outbox_cut old.setup.now r.dev req n (extents_of old.setup.now r) old.retries old.outbox.items
-  pub retries : new.retries ≡ channels_cut old.setup.now r.dev req n (extents_of old.setup.now r) old.retries
+  pub outbox : new.outbox.items ≡ outbox_cut old.setup.now r.dev req n old.retries old.outbox.items
+  pub retries : new.retries ≡ channels_cut old.setup.now r.dev req n old.retries
   pub thread : new ≡ record old { part = untaken old.part; held = new.held; outbox = new.outbox; retries = new.retries }
   pub links : after ≡ record before { entries = longer old.me before.entries (acts.Cut req n) }
 

@@ -174,8 +174,8 @@ impl<'a> Thread<'a> {
 
     /// Cuts a request that may be cut (it is here on its own thread, has a range, every Let and every
     /// decision, and is neither cut nor aborted nor marked), and answers into how many pieces: they are
-    /// here, to be put to their home in order (to that of each, where the device spreads), or, where pieces wait to
-    /// be sent again to their base device, to wait after those. 0 where there is no such request, and then nothing changed.
+    /// here, to be put to their home in order, or, where pieces wait to be sent again to their base device,
+    /// to wait after those. 0 where there is no such request, and then nothing changed.
     pub fn cut(&mut self, links: &mut Links, req: ReqId) -> Result<u32, OutOfMemory>
         requires me { number_of self.old < vec_len links.old.queues }
         ensures acted { OnOk result (Acted self.old links.old self.new links.new) }
@@ -209,17 +209,8 @@ impl<'a> Thread<'a> {
             ..r
         });
         self.held.hold(Id::Request(req), kept)?;
-        let blocks = found.as_slice();
-        hold_pieces(&mut self.held, setup, req, r, blocks)?;
-        send_cut(
-            &mut self.outbox,
-            &mut self.retries,
-            setup,
-            r.dev,
-            req,
-            n,
-            blocks,
-        )?;
+        hold_pieces(&mut self.held, setup, req, r, found.as_slice())?;
+        send_cut(&mut self.outbox, &mut self.retries, setup, r.dev, req, n)?;
         self.note(links, Act::Cut { req, pieces: n })?;
         Ok(n)
     }

@@ -1,21 +1,32 @@
--- What the disks of a run told at its start.
-use Rattle.std.proofs.Common.{◌≡◌, ℕ, ◌<◌, ◌%◌, List, [], length, map, Option, Some, None, refl, sym, ◌∙◌, ap, subst, zero-add}
+-- What the disks of a run told at its start, and the base devices that stand on nothing.
+use Rattle.std.proofs.Common.{◌≡◌, ℕ, ◌<◌, ◌%◌, true, List, [], length, map, Option, Some, None, refl, sym, ◌∙◌, ap, subst, zero-add}
 use Rattle.std.specs.List.{range_with_len, slice_get}
 use Rattle.std.specs.Option.{option_map}
 use Rattle.std.specs.Prelude.{slice_index_or}
 use Rattle.std.proofs.lemmas.List.FromFn.{get_or-range_with_len, length-range_with_len}
 use Rattle.std.proofs.lemmas.Option.{get_or_from_slice_get, slice_get-get_or, slice_get-map}
+use Rattle.bd_base.specs.declared.device.DevRow.{DevRow}
 use Rattle.bd_base.specs.declared.id.DevId.{DevId}
 use Rattle.bd_base.specs.declared.setup.Setup.{Setup}
+use Rattle.bd_building.specs.AioDevices.{AreBasesAlone}
 use Rattle.bd_disks.specs.Holding.{content_in, content_of}
 use Rattle.bd_disks.specs.Rows.{disk_of}
-use Rattle.bd_machine.specs.BlockMap.{home}
+use Rattle.bd_machine.specs.BlockMap.{base_of_row, has_kind, home, is_base_kind, row_of}
 use Rattle.bd_machine.specs.Content.{content_told}
 use Rattle.bd_node.specs.Disks.{blocks_in, told_at, told_of}
 use Rattle.bd_disk_pool.specs.Covering.{AreApart, Begun, IsAtHome}
 use Rattle.bd_disk_pool.proofs.Lists.{found}
 use Rattle.bd_outside.specs.Disk.{DiskState}
 use Rattle.bd_disks.specs.Contents.{contents_of, content_if}
+use Rattle.bd_law_disks.specs.Told.{AreBasesLowest}
+
+-- base devices that stand on nothing by the rows of their setup do so by their numbers
+pub bases_lowest : (setup : Setup) → AreBasesAlone setup → AreBasesLowest setup
+bases_lowest setup alone dev = go (row_of setup dev) refl
+  where
+    go : (o : Option DevRow) → row_of setup dev ≡ o → has_kind is_base_kind o ≡ true → base_of_row o ≡ None
+    go None at is = refl
+    go (Some row) at is = alone dev.0 row at is
 
 -- what a disk holds is blocks or untold
 told_again : (disk : DiskState) → content_told (blocks_in (content_of disk)) ≡ content_of disk

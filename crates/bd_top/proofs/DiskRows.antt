@@ -14,7 +14,7 @@ use Rattle.bd_base.specs.declared.act.ApplyEnd.TheVariants as apply_ends
 use Rattle.bd_base.specs.declared.act.Entry.{Entry}
 use Rattle.bd_base.specs.declared.id.DevId.{DevId}
 use Rattle.bd_base.specs.declared.setup.Setup.{Setup}
-use Rattle.bd_building.specs.AioDevices.{aio_devices, aio_of, AioDevice}
+use Rattle.bd_building.specs.AioDevices.{aio_devices, aio_of, AioDevice, AreBasesAlone}
 use Rattle.bd_building.specs.Progress.{nothing_yet, stepped, Progress}
 use Rattle.bd_building.proofs.AioSteps.{aio_is, plain_first, stepped_grows}
 use Rattle.bd_config.specs.declared.command.Command.{Command}
@@ -24,7 +24,6 @@ use Rattle.bd_disks.specs.Rows.{disk_of, Does}
 use Rattle.bd_disks.specs.Serving.{is_flush, IsServed}
 use Rattle.bd_disks.specs.Shelf.{places_of, AreAllThere}
 use Rattle.bd_machine.specs.declared.state.Base.{Base}
-use Rattle.bd_machine.specs.Stacking.{IsStacked}
 use Rattle.bd_machine.specs.BlockMap.{base_of, has_kind, home, is_aio, is_aio_kind, row_of, size_of}
 use Rattle.bd_machine.specs.Completion.{is_done_end, is_fault_end}
 use Rattle.bd_machine.specs.Content.{content_told, Told as Contents}
@@ -309,7 +308,7 @@ faulted size (p ∷ ps) a b did =
 
 -- ---- after a run
 
-module _ {D : Type 0} (state : D → DiskState) (told : List ℕ → Told) (setup : Setup) (trace : List Entry) (held : Held D) (after : List (List (DevId × D))) (stacked : IsStacked setup)
+module _ {D : Type 0} (state : D → DiskState) (told : List ℕ → Told) (setup : Setup) (trace : List Entry) (held : Held D) (after : List (List (DevId × D))) (alone : AreBasesAlone setup)
     (some : 0 < setup.threads) (threads : length held.threads ≡ setup.threads) (says : SaysOfDisks state setup trace held.threads after) where
   -- what the disks told as the run began
   abbrev disks_told : Contents
@@ -344,7 +343,7 @@ module _ {D : Type 0} (state : D → DiskState) (told : List ℕ → Told) (setu
         → Did is.dev (state x) (state y)
     did_so k is a b x y at at-a at-b at-x at-y =
         let device = device_of k is at in
-        let facts = aio_is setup k device.0 stacked device.1 in
+        let facts = aio_is setup k device.0 alone device.1 in
         let aio : is_aio setup is.dev ≡ true = subst (λ (d : DevId). is_aio setup d ≡ true) (sym device.2.device_is) facts.0 in
         let own : base_of setup is.dev ≡ is.dev = subst (λ (d : DevId). base_of setup d ≡ d) (sym device.2.device_is) facts.1 in
         let t : is.dev.0 % length held.threads ≡ home setup is.dev = ap (λ (n : ℕ). is.dev.0 % n) threads ∙ ap (λ (d : DevId). d.0 % setup.threads) (sym own) in
@@ -372,7 +371,7 @@ module _ {D : Type 0} (state : D → DiskState) (told : List ℕ → Told) (setu
     held_first : (k : ℕ) (device : AioDevice) (b : Begun) → slice_get (aio_devices setup) k ≡ Some device → slice_get are.begun k ≡ Some b → device.dev ≡ b.dev
         → content_at_home setup (start setup disks_told) device.dev ≡ Some (content_of b.disk)
     held_first k device b at at-b same =
-        let facts = aio_is setup k device stacked at in
+        let facts = aio_is setup k device alone at in
         let at-home = are.stand.all k b at-b in
         let t : ℕ = b.dev.0 % length held.threads in
         let own : base_of setup b.dev ≡ b.dev = subst (λ (d : DevId). base_of setup d ≡ d) same facts.1 in
@@ -404,7 +403,7 @@ module _ {D : Type 0} (state : D → DiskState) (told : List ℕ → Told) (setu
         of_row is =
             let name : row.name ≡ b.name = ap (λ (r : Opening). r.name) is.is in
             let moved : Did device.dev b.disk is.last = subst (λ (d : DevId). Did d b.disk is.last) fresh.device_is is.did in
-            let did : DidPieces device.size pieces b.disk is.last = subst (λ (n : ℕ). DidPieces n pieces b.disk is.last) (aio_is setup k device stacked at).2 moved.0 in
+            let did : DidPieces device.size pieces b.disk is.last = subst (λ (n : ℕ). DidPieces n pieces b.disk is.last) (aio_is setup k device alone at).2 moved.0 in
             record {
               opened = b.disk;
               closed = is.last;

@@ -30,8 +30,6 @@ module _ (setup : Setup) (told : Told) (none : AreNoneAio setup.devices) where
   content_same dev (kinds.Part shift) size blocks base other = cc
   content_same dev (kinds.Delay average_read p99_read average_write p99_write) size blocks base other = cc
   content_same dev kinds.Error size blocks base other = cc
-  content_same dev (kinds.Concat strip) size blocks base other = cc
-  content_same dev (kinds.Raid0 strip) size blocks base other = cc
 
   base_same : (t : ℕ) (dev : DevId) (o : Option DevRow) → row_of setup dev ≡ o → base_if_here setup told t dev o ≡ base_if_here setup [] t dev o
   base_same t dev None at = refl

@@ -1,10 +1,11 @@
 //! The built-in configuration, and the setup of an exercise.
 ghost use Rattle.std.specs.Prelude.{◌≡◌, ◌<◌, ◌≤◌, [], length, Some, IfOk, All};
+ghost use Rattle.bd_building.specs.AioDevices.{AreBasesAlone};
 ghost use Rattle.bd_config.specs.Commands.{IsOpenable};
 ghost use Rattle.bd_config.specs.Config.{IsConfig};
 ghost use Rattle.bd_jobs.specs.Generated.{generated};
 ghost use Rattle.bd_jobs.specs.ScriptGrammar.{scripts_of};
-ghost use Rattle.bd_machine.specs.Stacking.{IsStacked};
+ghost use Rattle.bd_machine.specs.BlockMap.{StandsOnEarlier};
 ghost use Rattle.bd_top.specs.Configure.{Configures};
 ghost use Rattle.bd_top.specs.Exercise.{built_in, IsExercise};
 
@@ -48,6 +49,7 @@ fn devices<H: Host>(
     requires { 0 < threads }
     ensures devices { IfOk result (λ o. Configures threads built_in [] o.devices) }
     ensures threads { IfOk result (λ o. length o.disks.threads ≡ threads) }
+    ensures alone { IfOk result (λ o. AreBasesAlone o.devices.setup) }
 {
     let commands = commands(alloc)?;
     match open_devices(alloc, host, threads, commands) {
@@ -79,7 +81,8 @@ pub(crate) fn exercise_setup<H: Host>(
     ensures setup { IfOk result (λ r. IsExercise numbers threads r.setup) }
     ensures threads { IfOk result (λ r. r.setup.threads ≡ threads) }
     ensures disks { IfOk result (λ r. length r.disks.threads ≡ threads) }
-    ensures stacked { IfOk result (λ r. IsStacked r.setup) }
+    ensures alone { IfOk result (λ r. AreBasesAlone r.setup) }
+    ensures earlier { IfOk result (λ r. StandsOnEarlier r.setup) }
 {
     let scripts = scripts(alloc, numbers, threads)?;
     let Opened { devices, disks } = devices(alloc, host, threads)?;

@@ -2,8 +2,8 @@
 ghost use Rattle.std.specs.Prelude.{◌≡◌, ◌<◌, ℕ, List, length, IfOk, IfErr, OnErr, All};
 ghost use Rattle.bd_config.specs.Commands.{IsOpenable};
 ghost use Rattle.bd_outside.specs.Host.{IsLater};
-ghost use Rattle.bd_building.specs.AioDevices.{aio_devices};
-ghost use Rattle.bd_machine.specs.Stacking.{IsStacked};
+ghost use Rattle.bd_building.specs.AioDevices.{aio_devices, AreBasesAlone};
+ghost use Rattle.bd_machine.specs.BlockMap.{StandsOnEarlier};
 ghost use Rattle.bd_disk_pool.specs.Covering.{AreClosed};
 ghost use Rattle.bd_top.specs.DiskRows.{AreSetOut, StandOpen};
 ghost use Rattle.bd_top.specs.Fault.{IsScriptFault, config_fault};
@@ -134,7 +134,8 @@ pub(crate) fn read_setup<H: Host>(
     ensures cause { IfErr result (FileCause (H.state host.old) (H.state host.new) config.now jobs.now threads) }
     ensures opened { IfOk result (λ r. AreSetOut H.Disk.state (H.state host.old).told (length r.setup.devices) (aio_devices r.setup) r.disks
         (H.state host.old).openings (H.state host.new).openings) }
-    ensures stacked { IfOk result (λ r. IsStacked r.setup) }
+    ensures alone { IfOk result (λ r. AreBasesAlone r.setup) }
+    ensures earlier { IfOk result (λ r. StandsOnEarlier r.setup) }
     ensures closed { OnErr result (AreClosed (H.state host.old).openings (H.state host.new).openings) }
 {
     let Opened { devices, disks } = read_devices(alloc, host, config, threads)?;

@@ -1,6 +1,6 @@
 //! What a run begins from.
 ghost use Rattle.std.specs.Prelude.{◌≡◌, IfOk};
-ghost use Rattle.bd_machine.specs.Stacking.{IsStacked};
+ghost use Rattle.bd_machine.specs.BlockMap.{StandsOnEarlier};
 ghost use Rattle.bd_top.specs.Setup.{setup_of};
 
 use bd_base::{OutOfMemory, Rows, Script, Setup};
@@ -22,7 +22,7 @@ pub(crate) fn setup_of(
     scripts: Rows<Script>,
 ) -> Result<Setup, OutOfMemory>
     ensures setup { IfOk result (λ setup. setup ≡ setup_of threads devices scripts) }
-    ensures stacked { IfOk result IsStacked }
+    ensures earlier { IfOk result StandsOnEarlier }
 {
     let mut setup = devices.finish(alloc, scripts)?;
     setup.threads = threads;

@@ -1,7 +1,7 @@
 //! The top call.
 ghost use Rattle.std.specs.Prelude.{◌≡◌, ◌<◌, ◌≤◌, ◌⊎◌, ℕ, List, length, map, string_bytes, IfOk, IfErr, MatchResult, Option, None, Some, Err};
-ghost use Rattle.bd_building.specs.AioDevices.{aio_devices};
-ghost use Rattle.bd_machine.specs.Stacking.{IsStacked};
+ghost use Rattle.bd_building.specs.AioDevices.{aio_devices, AreBasesAlone};
+ghost use Rattle.bd_machine.specs.BlockMap.{StandsOnEarlier};
 ghost use Rattle.bd_node.specs.Disks.{told_of};
 ghost use Rattle.bd_node.specs.Times.{AreMomentsWithin, AreStartsWithin};
 ghost use Rattle.bd_disk_pool.specs.Covering.{AreClosed};
@@ -64,11 +64,11 @@ where
     H::Disk: Send,
     requires some { 0 < ready.setup.threads }
     requires disks { length ready.disks.threads ≡ ready.setup.threads }
-    ensures played { IsStacked ready.setup
+    ensures played { AreBasesAlone ready.setup → StandsOnEarlier ready.setup
         → IfOk result (λ done. IsPlayed (C.range outside.now.clock.now) ready.setup (told_of H.Disk.state ready.setup ready.disks.threads) full done.trace done.text.items) }
     ensures moments { IfOk result (λ done. AreMomentsWithin (C.range outside.now.clock.now) done.trace) }
-    ensures starts { IfOk result (λ done. AreStartsWithin (C.range outside.now.clock.now) done.trace) }
-    ensures disks { (told : List ℕ → Told) (base : Option (List Opening)) → IsStacked ready.setup
+    ensures starts { AreBasesAlone ready.setup → IfOk result (λ done. AreStartsWithin (C.range outside.now.clock.now) done.trace) }
+    ensures disks { (told : List ℕ → Told) (base : Option (List Opening)) → AreBasesAlone ready.setup
         → AreSetOut H.Disk.state told (length ready.setup.devices) (aio_devices ready.setup) ready.disks base (H.state host.old).openings
         → IfOk result (λ done. TellDisks told (told_of H.Disk.state ready.setup ready.disks.threads) ready.setup done.trace base
         (H.state host.new).openings) }

@@ -1,5 +1,5 @@
 -- What each act leaves of the marks of devices on its thread.
-use Rattle.std.proofs.Common.{◌≡◌, ℕ, ◌+◌, ◌==◌, Bool, true, false, cond, ◌&&◌, List, [], ◌∷◌, ◌++◌, filter, Option, Some, None, unwrap_or, is_none, is_some, refl, ◌∙◌, ap, eq-eqb, eqb-true}
+use Rattle.std.proofs.Common.{◌≡◌, ℕ, ◌+◌, ◌==◌, Bool, true, false, cond, ◌&&◌, List, [], ◌∷◌, Option, Some, None, unwrap_or, is_some, refl, ◌∙◌, ap, eq-eqb, eqb-true}
 use Rattle.std.specs.List.{AllByRecursion, list_any}
 use Rattle.bd_base.specs.declared.act.Act.{Act}
 use Rattle.bd_base.specs.declared.act.Act.TheVariants as acts
@@ -40,7 +40,7 @@ use Rattle.bd_machine.specs.Admission.{is_gone}
 use Rattle.bd_machine.specs.Asked.{owes_removal}
 use Rattle.bd_machine.specs.BlockMap.{below, home, size_of}
 use Rattle.bd_machine.specs.Changes.{is_dropped}
-use Rattle.bd_machine.specs.Events.{decided_by, paid, with_due, alone, closed_by, born, all_born, got_by, put_down_by, put_paid, dropped_by, removal_paid, with_reset, advanced, reset_finishes, freed_by, channels_due, removing, reset_begun, reset_thaws, injection_taken, drain_time, resizing, resized, change_reg, first_req}
+use Rattle.bd_machine.specs.Events.{decided_by, paid, owing, with_due, alone, closed_by, born, all_born, got_by, put_down_by, put_paid, dropped_by, removal_paid, with_reset, advanced, reset_finishes, freed_by, channel_due, removing, reset_begun, reset_thaws, injection_taken, drain_time, resizing, resized, change_reg, first_req}
 use Rattle.bd_machine.specs.Guards.{change}
 use Rattle.bd_machine.specs.Homes.{base_here, change_applied}
 use Rattle.bd_machine.specs.Kept.{request_here, piece_here, walk_here}
@@ -96,26 +96,17 @@ module _ (Out : DevId → Type 0) where
   born_holds frozen [] p none = λ d out. refl
   born_holds frozen (x ∷ xs) p none = holds_then p (born frozen x p) (all_born frozen xs (born frozen x p)) (remarked_holds p x (with_frozen (born_as (list_any (same_dev x) frozen))) none.0) (born_holds frozen xs (born frozen x p) none.1)
 
-  -- those of these that pass a test are some of these
-  some_none : (p : DevId → Bool) (ds : List DevId) → AllByRecursion IsNone ds → AllByRecursion IsNone (filter p ds)
-  some_none p [] none = tt
-  some_none p (x ∷ xs) none = go (p x) (some_none p xs none.1)
+  -- those of these whose channels are made are some of these
+  made_none : (channels : DevId → Option ℕ) (ds : List DevId) → AllByRecursion IsNone ds → AllByRecursion IsNone (made channels ds)
+  made_none channels [] none = tt
+  made_none channels (x ∷ xs) none = go (is_some (channels x)) (made_none channels xs none.1)
     where
-      go : (b : Bool) → AllByRecursion IsNone (filter p xs) → AllByRecursion IsNone (cond b (x ∷ filter p xs) (filter p xs))
-      go true rest = (none.0, rest)
-      go false rest = rest
-
-  -- and so are those whose channels a get makes
-  made_none : (setup : Setup) (channels : DevId → Option ℕ) (dev : DevId) → AllByRecursion IsNone (below setup dev) → AllByRecursion IsNone (made setup channels dev)
-  made_none setup channels dev none = go (is_some (channels dev)) (some_none (λ d. is_none (channels d)) (below setup dev) none)
-    where
-      go : (b : Bool) → AllByRecursion IsNone (filter (λ d. is_none (channels d)) (below setup dev))
-          → AllByRecursion IsNone (cond b [] (filter (λ d. is_none (channels d)) (below setup dev)))
+      go : (b : Bool) → AllByRecursion IsNone (made channels xs) → AllByRecursion IsNone (cond b [] (x ∷ made channels xs))
       go true rest = tt
-      go false rest = rest
+      go false rest = (none.0, rest)
 
   got_holds : (setup : Setup) (v : View) (dev : DevId) (a : Answer) → AllByRecursion IsNone (below setup dev) → Holds v.part (got_by setup v dev a)
-  got_holds setup v dev (answers.Got fresh frozen) none = born_holds frozen (made setup v.channels dev) v.part (made_none setup v.channels dev none)
+  got_holds setup v dev (answers.Got fresh frozen) none = born_holds frozen (made v.channels (below setup dev)) v.part (made_none v.channels (below setup dev) none)
   got_holds setup v dev _ none = λ d out. refl
 
   put_holds : (t : ℕ) (dev : DevId) (closing : Bool) (a : Answer) (p : Part) → Holds p (put_down_by t dev a (put_paid dev closing p))
@@ -127,7 +118,7 @@ module _ (Out : DevId → Type 0) where
   dropped_holds : (t : ℕ) (dev : DevId) (a : Answer) (p : Part) → IsNone dev → Holds p (dropped_by t dev a p)
   dropped_holds t dev (answers.Dropped what zero destruct) p none =
       let q : Part = cond (is_dropped what) (remarked dev (with_frozen Not) p) p in
-      holds_then p q (with_due (channels_due t zero) q) (holds_cond (is_dropped what) p (remarked dev (with_frozen Not) p) p (remarked_holds p dev (with_frozen Not) none) (λ d out. refl)) (λ d out. refl)
+      holds_then p q (with_due (channel_due t zero) q) (holds_cond (is_dropped what) p (remarked dev (with_frozen Not) p) p (remarked_holds p dev (with_frozen Not) none) (λ d out. refl)) (λ d out. refl)
   dropped_holds t dev _ p none = λ d out. refl
 
   removal_holds : (came : Came) (a : Answer) (o : Option ℕ) (p : Part) → Holds p (removal_paid came a o p)
@@ -140,7 +131,8 @@ module _ (Out : DevId → Type 0) where
   finishes_holds dev _ p = λ d out. refl
 
   freed_holds : (a : Answer) (p : Part) → Holds p (freed_by a p)
-  freed_holds (answers.Freed handles) p = λ d out. refl
+  freed_holds (answers.Freed (Some id)) p = λ d out. refl
+  freed_holds (answers.Freed None) p = λ d out. refl
   freed_holds _ p = λ d out. refl
 
   staged_holds : (req : Option ReqId) (stage : Stage) (p : Part) → Holds p (staged req stage p)
@@ -159,7 +151,7 @@ module _ (Out : DevId → Type 0) where
   marked_holds setup t v walk dev Thaw none = remarked_holds v.part dev (with_frozen Not) none
   marked_holds setup t v walk dev Removal none =
       let p : Part = remarked dev removal_set v.part in
-      holds_then v.part p (put_owed setup t dev p) (remarked_holds v.part dev removal_set none) (holds_cond (is_limited setup dev && (home setup dev == t)) p (record p { owed = p.owed ++ owes.Put dev ∷ [] }) p (λ d out. refl) (λ d out. refl))
+      holds_then v.part p (put_owed setup t dev p) (remarked_holds v.part dev removal_set none) (holds_cond (is_limited setup dev && (home setup dev == t)) p (owing (owes.Put dev) p) p (λ d out. refl) (λ d out. refl))
 
   told_holds : (setup : Setup) (told : News) (p : Part) → Holds p (told_part setup told p)
   told_holds setup (news.Mark mark) p = λ d out. refl

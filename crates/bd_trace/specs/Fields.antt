@@ -54,9 +54,9 @@ thread_field_if bits thread = if bit_at bits thread == 1 then number_field (code
 unfoldable pub thread_fields : ℕ → List ℕ
 thread_fields bits = flat_map (thread_field_if bits) (range_with_len 0 16)
 
--- a handle under this key, with its thread
-unfoldable pub owned_fields : List ℕ → HandleId × ThreadId → List ℕ
-owned_fields key owned = handle_field key owned.0 ++ number_field (codes "owner") owned.1.0
+-- a handle with its thread
+unfoldable pub owned_fields : HandleId × ThreadId → List ℕ
+owned_fields owned = handle_field (codes "handle") owned.0 ++ number_field (codes "owner") owned.1.0
 
 -- bytes in lower-case hexadecimal
 unfoldable pub hex_field : List ℕ → List ℕ → List ℕ

@@ -15,7 +15,7 @@ use Rattle.bd_base.specs.declared.request.Errno.{Errno}
 use Rattle.bd_base.specs.declared.request.Op.{Op}
 use Rattle.bd_base.specs.declared.request.Op.TheVariants.{Write, Reset, Abort}
 use Rattle.bd_base.specs.declared.thread_set.ThreadSet.{ThreadSet}
-use Rattle.bd_trace.specs.Fields.{word_field, number_field, blocks_field, request_field, device_field, device_field_if, handle_field, thread_fields, owned_fields}
+use Rattle.bd_trace.specs.Fields.{word_field, number_field, blocks_field, request_field, device_field, device_field_if, handle_field, handle_field_if, thread_fields, owned_fields}
 use Rattle.bd_trace.specs.Words.{flag_word, mode_word, drop_word, decision_word}
 
 unfoldable pub errno_field : Errno → List ℕ
@@ -93,19 +93,19 @@ answer_fields (answers.Got fresh frozen) =
     answer_field (codes "got") ++ word_field (codes "fresh") (flag_word fresh) ++ flat_map (device_field (codes "frozen")) frozen
 answer_fields (answers.PutDown left) = answer_field (codes "put-down") ++ number_field (codes "left") left
 answer_fields (answers.Dropped what zero destruct) =
-    answer_field (codes "dropped") ++ word_field (codes "channel") (drop_word what) ++ flat_map (device_field (codes "zero")) zero ++
+    answer_field (codes "dropped") ++ word_field (codes "channel") (drop_word what) ++ device_field_if (codes "zero") zero ++
     device_field_if (codes "destruct") destruct
 answer_fields (answers.Removing dev threads handles destruct) =
-    answer_field (codes "removing") ++ device_field (codes "device") dev ++ thread_fields threads.0 ++ flat_map (owned_fields (codes "handle")) handles ++
+    answer_field (codes "removing") ++ device_field (codes "device") dev ++ thread_fields threads.0 ++ flat_map owned_fields handles ++
     device_field_if (codes "destruct") destruct
 answer_fields (answers.ResetStarted threads) = answer_field (codes "reset-started") ++ thread_fields threads.0
 answer_fields answers.ResetQueued = answer_field (codes "reset-queued")
 answer_fields (answers.ResetEnded threads) = answer_field (codes "reset-ended") ++ thread_fields threads.0
 answer_fields (answers.ResetFinished next) = answer_field (codes "reset-finished") ++ next_fields next
 answer_fields (answers.Injected decision) = answer_field (codes "injected") ++ word_field (codes "decision") (decision_word decision)
-answer_fields (answers.Freed close) = answer_field (codes "freed") ++ flat_map (owned_fields (codes "close")) close
+answer_fields (answers.Freed close) = answer_field (codes "freed") ++ handle_field_if (codes "close") close
 answer_fields (answers.Resizing dev home) =
     answer_field (codes "resizing") ++ device_field (codes "device") dev ++ number_field (codes "home") home.0
 answer_fields (answers.Resized handles blocks destruct) =
-    answer_field (codes "resized") ++ blocks_field blocks ++ flat_map (owned_fields (codes "handle")) handles ++ device_field_if (codes "destruct") destruct
+    answer_field (codes "resized") ++ blocks_field blocks ++ flat_map owned_fields handles ++ device_field_if (codes "destruct") destruct
 answer_fields (answers.Refused errno) = answer_field (codes "refused") ++ errno_field errno

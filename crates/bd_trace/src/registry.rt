@@ -1,5 +1,5 @@
 //! Events of the registry, and its answers.
-ghost use Rattle.std.specs.Prelude.{◌≡◌, ◌++◌, OnOk, flat_map};
+ghost use Rattle.std.specs.Prelude.{◌≡◌, ◌++◌, OnOk, flat_map, codes};
 ghost use Rattle.bd_trace.specs.Fields.{device_field, owned_fields};
 ghost use Rattle.bd_trace.specs.Registry.{errno_field, drain_field, carried_fields, type_fields, claim_fields, event_field, device_event, handle_event, named_event, resize_event, event_fields, answer_field, next_fields, answer_fields};
 
@@ -161,35 +161,31 @@ fn add_answer_kind(text: &mut Text, word: &str) -> Result<(), OutOfMemory>
     text.word("answer", word.as_bytes())
 }
 
-// Adds devices, each under this key.
-fn add_devices(text: &mut Text, key: &str, devices: &[DevId]) -> Result<(), OutOfMemory>
-    ensures { OnOk result (text.new ≡ text.old ++ flat_map (device_field key.now) devices.now) }
+// Adds the devices that are being reset.
+fn add_frozen(text: &mut Text, devices: &[DevId]) -> Result<(), OutOfMemory>
+    ensures { OnOk result (text.new ≡ text.old ++ flat_map (device_field (codes "frozen")) devices.now) }
 {
     for dev in devices {
-        text.device(key, *dev)?;
+        text.device("frozen", *dev)?;
     }
     Ok(())
 }
 
-// Adds a handle, under this key, with its thread.
+// Adds a handle with its thread.
 #[tactic(auto, unfolding(crate::specs::Fields::owned_fields))]
-fn add_owned(text: &mut Text, key: &str, owned: (HandleId, ThreadId)) -> Result<(), OutOfMemory>
-    ensures { OnOk result (text.new ≡ text.old ++ owned_fields key.now owned) }
+fn add_owned(text: &mut Text, owned: (HandleId, ThreadId)) -> Result<(), OutOfMemory>
+    ensures { OnOk result (text.new ≡ text.old ++ owned_fields owned) }
 {
-    text.handle(key, owned.0)?;
+    text.handle("handle", owned.0)?;
     text.number("owner", u128::from((owned.1).0))
 }
 
-// Adds handles, each under this key, with their threads.
-fn add_handles(
-    text: &mut Text,
-    key: &str,
-    handles: &[(HandleId, ThreadId)],
-) -> Result<(), OutOfMemory>
-    ensures { OnOk result (text.new ≡ text.old ++ flat_map (owned_fields key.now) handles.now) }
+// Adds handles with their threads.
+fn add_handles(text: &mut Text, handles: &[(HandleId, ThreadId)]) -> Result<(), OutOfMemory>
+    ensures { OnOk result (text.new ≡ text.old ++ flat_map owned_fields handles.now) }
 {
     for owned in handles {
-        add_owned(text, key, *owned)?;
+        add_owned(text, *owned)?;
     }
     Ok(())
 }
@@ -232,7 +228,7 @@ pub(crate) fn add_answer(text: &mut Text, answer: &Answer) -> Result<(), OutOfMe
         Answer::Got { fresh, frozen } => {
             add_answer_kind(text, "got")?;
             text.word("fresh", flag_word(*fresh).as_bytes())?;
-            add_devices(text, "frozen", frozen.as_slice())
+            add_frozen(text, frozen.as_slice())
         }
         Answer::PutDown { left } => {
             add_answer_kind(text, "put-down")?;
@@ -245,7 +241,7 @@ pub(crate) fn add_answer(text: &mut Text, answer: &Answer) -> Result<(), OutOfMe
         } => {
             add_answer_kind(text, "dropped")?;
             text.word("channel", drop_word(*what).as_bytes())?;
-            add_devices(text, "zero", zero.as_slice())?;
+            text.device_if("zero", *zero)?;
             text.device_if("destruct", *destruct)
         }
         Answer::Removing {
@@ -257,7 +253,7 @@ pub(crate) fn add_answer(text: &mut Text, answer: &Answer) -> Result<(), OutOfMe
             add_answer_kind(text, "removing")?;
             text.device("device", *dev)?;
             text.threads(*threads)?;
-            add_handles(text, "handle", handles.as_slice())?;
+            add_handles(text, handles.as_slice())?;
             text.device_if("destruct", *destruct)
         }
         Answer::ResetStarted { threads } => {
@@ -279,7 +275,7 @@ pub(crate) fn add_answer(text: &mut Text, answer: &Answer) -> Result<(), OutOfMe
         }
         Answer::Freed { close } => {
             add_answer_kind(text, "freed")?;
-            add_handles(text, "close", close.as_slice())
+            text.handle_if("close", *close)
         }
         Answer::Resizing { dev, home } => {
             add_answer_kind(text, "resizing")?;
@@ -293,7 +289,7 @@ pub(crate) fn add_answer(text: &mut Text, answer: &Answer) -> Result<(), OutOfMe
         } => {
             add_answer_kind(text, "resized")?;
             text.blocks(*blocks)?;
-            add_handles(text, "handle", handles.as_slice())?;
+            add_handles(text, handles.as_slice())?;
             text.device_if("destruct", *destruct)
         }
         Answer::Refused(errno) => {

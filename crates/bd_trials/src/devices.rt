@@ -1,8 +1,8 @@
 //! Devices before a run: the number of the errno that each call is refused with, or 0.
 use crate::steps::{Subject, said};
 use crate::words::small;
-use bd_base::{DevId, DevList, ErrKind, Errno, IoSet, Kind, Name, OutOfMemory, RateSet, Rows};
-use bd_devices::{Devices, NewDevice, RegisterError};
+use bd_base::{DevId, DevRow, ErrKind, Errno, IoSet, Kind, Name, OutOfMemory, RateSet};
+use bd_devices::{Devices, RegisterError};
 use std::alloc::Global;
 
 fn kind(word: &str) -> Kind {
@@ -12,31 +12,17 @@ fn kind(word: &str) -> Kind {
         "passthru" => Kind::Passthru,
         "part" => Kind::Part { shift: 0 },
         "part4" => Kind::Part { shift: 4 },
-        "concat" => Kind::Concat { strip: 8 },
-        "raid0" => Kind::Raid0 { strip: 8 },
-        "raid0-without-strip" => Kind::Raid0 { strip: 0 },
         _ => Kind::Error,
     }
 }
 
-// The devices of these numbers, which commas part; `-` for none.
-fn bases(alloc: Global, word: &str) -> Result<DevList, OutOfMemory> {
-    let mut bases = Rows::new(alloc);
-    for number in word.split(',') {
-        if number != "-" {
-            bases.push(DevId(small(number)))?;
-        }
-    }
-    Ok(bases)
-}
-
-// A device by its name, its kind, the numbers of its bases, and its group.
-fn device(alloc: Global, words: [&str; 4]) -> Result<NewDevice, OutOfMemory> {
-    let [name, word, numbers, group] = words;
-    Ok(NewDevice {
+// A device by its name, its kind, the number of its base (`-` for none), and its group.
+fn row(alloc: Global, words: [&str; 4]) -> Result<DevRow, OutOfMemory> {
+    let [name, word, base, group] = words;
+    Ok(DevRow {
         name: Name::from_slice(alloc, name.as_bytes())?,
         kind: kind(word),
-        bases: bases(alloc, numbers)?,
+        base: base.parse().ok().map(DevId),
         blocks: 8,
         size: 512,
         boundary: 0,
@@ -46,8 +32,8 @@ fn device(alloc: Global, words: [&str; 4]) -> Result<NewDevice, OutOfMemory> {
     })
 }
 
-fn register(alloc: Global, devices: &mut Devices, device: NewDevice) -> Result<u32, OutOfMemory> {
-    match devices.register(alloc, device) {
+fn register(alloc: Global, devices: &mut Devices, row: DevRow) -> Result<u32, OutOfMemory> {
+    match devices.register(alloc, row) {
         Ok(_) => Ok(0),
         Err(RegisterError::Refused(errno)) => Ok(errno.number()),
         Err(RegisterError::OutOfMemory) => Err(OutOfMemory),
@@ -92,8 +78,8 @@ impl Subject for Devices {
                 return Ok(format!(in alloc; "{count}")?);
             }
             [name, kind, base, group] => {
-                let device = device(alloc, [*name, *kind, *base, *group])?;
-                register(alloc, self, device)?
+                let row = row(alloc, [*name, *kind, *base, *group])?;
+                register(alloc, self, row)?
             }
             _ => return said(alloc, "no such step"),
         };

@@ -85,7 +85,7 @@ fn setup(alloc: Global, threads: u32, words: &str) -> Result<Setup, OutOfMemory>
     devices.push(DevRow {
         name: Name::from_slice(alloc, b"Malloc0")?,
         kind: Kind::Malloc,
-        stacked: None,
+        base: None,
         blocks: 64,
         size: 512,
         boundary: 0,

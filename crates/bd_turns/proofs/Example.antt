@@ -37,7 +37,7 @@ refused_by setup views shared (e ∷ es) =
 abbrev two_threads : Setup
 two_threads = record {
   threads = 2;
-  devices = record { name = codes "Null0"; kind = Null; stacked = None; blocks = 4; size = 512; boundary = 0; depth = 128; file = None; group = 0 } ∷ [];
+  devices = record { name = codes "Null0"; kind = Null; base = None; blocks = 4; size = 512; boundary = 0; depth = 128; file = None; group = 0 } ∷ [];
   rates = [];
   injections = [];
   waiting = [];

@@ -1,6 +1,6 @@
 -- Where the devices come from that a thread has to tell of, to destruct or to report: from an answer that names them, from a message, and from a Destruct.
-use Rattle.std.proofs.Common.{◌≡◌, ℕ, ◌+◌, ◌==◌, Bool, true, false, cond, not, ◌&&◌, ◌||◌, ◌⊎◌, inl, inr, List, [], ◌∷◌, ◌++◌, map, Option, Some, None, option_map, refl, sym, ◌∙◌, ap, subst}
-use Rattle.std.specs.List.{filter, list_any, range_with_len}
+use Rattle.std.proofs.Common.{◌≡◌, ℕ, ◌+◌, ◌==◌, Bool, true, false, cond, ◌&&◌, ◌||◌, ◌⊎◌, inl, inr, List, [], ◌∷◌, ◌++◌, map, Option, Some, None, option_map, refl, sym, ◌∙◌, ap, subst}
+use Rattle.std.specs.List.{list_any, range_with_len}
 use Rattle.bd_base.specs.declared.act.Act.{Act}
 use Rattle.bd_base.specs.declared.act.Act.TheVariants as acts
 use Rattle.bd_base.specs.declared.act.ApplyEnd.{ApplyEnd}
@@ -45,10 +45,10 @@ use Rattle.bd_machine.specs.declared.state.Trip.TheVariants as trips
 use Rattle.bd_machine.specs.Aborts.{stopped}
 use Rattle.bd_machine.specs.Admission.{is_gone}
 use Rattle.bd_machine.specs.Asked.{owes_removal, job_of, next_line}
-use Rattle.bd_machine.specs.BlockMap.{home, size_of}
+use Rattle.bd_machine.specs.BlockMap.{below, home, size_of}
 use Rattle.bd_machine.specs.Changes.{is_dropped}
 use Rattle.bd_machine.specs.Destruction.{named}
-use Rattle.bd_machine.specs.Events.{decided_by, paid, close_owed, with_due, alone, device_due, channels_due, gone_due, go_due, closed_by, destruct_of, born, all_born, got_by, put_down_by, put_paid, dropped_by, removal_paid, with_reset, advanced, reset_finishes, freed_by, removing, reset_begun, reset_thaws, injection_taken, drain_time, due_to, resizing, resized, sized_due, change_reg, first_req}
+use Rattle.bd_machine.specs.Events.{decided_by, paid, owing, with_due, alone, device_due, channel_due, gone_due, go_due, closed_by, destruct_of, born, all_born, got_by, put_down_by, put_paid, dropped_by, removal_paid, with_reset, advanced, reset_finishes, freed_by, removing, reset_begun, reset_thaws, injection_taken, drain_time, due_to, resizing, resized, sized_due, change_reg, first_req}
 use Rattle.bd_machine.specs.Homes.{base_here, change_applied, change_grow, is_told}
 use Rattle.bd_machine.specs.Kept.{request_here, piece_here, walk_here}
 use Rattle.bd_machine.specs.Limits.{arrived, departed, next_limited, waits_at, is_limited}
@@ -56,7 +56,7 @@ use Rattle.bd_machine.specs.declared.state.Marking.{Marking}
 use Rattle.bd_machine.specs.declared.state.FreezeMark.TheVariants.{Not}
 use Rattle.bd_machine.specs.Grace.{dev_if_any, ended, ending_mark, remarked_if_any, softened}
 use Rattle.bd_machine.specs.Marks.{remarked, with_frozen, with_until, hardened, freeze_set, removal_set}
-use Rattle.bd_machine.specs.Messages.{is_due_to, due_after, news_of, request_took, is_leaving, removal_owed, removals_owed, told_part, freezes, went, told_walk, taken_by, arrived_walk, closed_notice}
+use Rattle.bd_machine.specs.Messages.{is_due_to, due_after, news_of, request_took, removals_owed, told_part, freezes, went, told_walk, taken_by, arrived_walk, closed_notice}
 use Rattle.bd_machine.specs.Registry.{made, device_named, close_answer, drop_answer, end_resize_answer, growing_of, handle_of, references, is_count}
 use Rattle.bd_machine.specs.Same.{same_answer, same_dev, same_owed, is_the}
 use Rattle.bd_machine.specs.Scripts.{posted, mark_to}
@@ -160,7 +160,7 @@ less_self p = record { due = λ dev h. h; owed = λ dev h. h; reports = λ dev h
 paid_less : (o : Owed) (p : Part) → Less p (paid o p)
 paid_less o p = record { due = λ dev h. h; owed = λ dev h. any_without (same_owed (owes.Destruct dev)) (same_owed o) p.owed h; reports = λ dev h. any_without (same_owed (owes.Report dev)) (same_owed o) p.owed h }
 
-owing_less : (o : Owed) (p : Part) → ((dev : DevId) → (same_owed (owes.Destruct dev) o ≡ false) × (same_owed (owes.Report dev) o ≡ false)) → Less p (record p { owed = p.owed ++ o ∷ [] })
+owing_less : (o : Owed) (p : Part) → ((dev : DevId) → (same_owed (owes.Destruct dev) o ≡ false) × (same_owed (owes.Report dev) o ≡ false)) → Less p (owing o p)
 owing_less o p h = record {
   due = λ dev k. k;
   owed = λ dev k. any_first (same_owed (owes.Destruct dev)) p.owed (o ∷ []) (ap (λ b. b || false) (h dev).0) k;
@@ -170,9 +170,9 @@ owing_less o p h = record {
 due_less : (due : List Due) (p : Part) → ((dev : DevId) → list_any (is_device_due dev) due ≡ false) → Less p (with_due due p)
 due_less due p h = record { due = λ dev k. any_first (is_device_due dev) p.due due (h dev) k; owed = λ dev k. k; reports = λ dev k. k }
 
-channels_none : (t : ℕ) (ds : List DevId) (dev : DevId) → list_any (is_device_due dev) (channels_due t ds) ≡ false
-channels_none t [] dev = refl
-channels_none t (d ∷ ds) dev = channels_none t ds dev
+channel_none : (t : ℕ) (x : Option DevId) (dev : DevId) → list_any (is_device_due dev) (channel_due t x) ≡ false
+channel_none t None dev = refl
+channel_none t (Some d) dev = refl
 
 go_none : (x : Option (ReqId × ThreadSet)) (dev : DevId) → list_any (is_device_due dev) (go_due x) ≡ false
 go_none None dev = refl
@@ -190,7 +190,7 @@ posted_none : (mark : List ℕ) (ts : List ℕ) (dev : DevId) → list_any (is_d
 posted_none mark [] dev = refl
 posted_none mark (u ∷ ts) dev = posted_none mark ts dev
 
-removals_none : (ds : List DevId) (dev : DevId) → (list_any (same_owed (owes.Destruct dev)) (map removal_owed ds) ≡ false) × (list_any (same_owed (owes.Report dev)) (map removal_owed ds) ≡ false)
+removals_none : (ds : List DevId) (dev : DevId) → (list_any (same_owed (owes.Destruct dev)) (removals_owed ds) ≡ false) × (list_any (same_owed (owes.Report dev)) (removals_owed ds) ≡ false)
 removals_none [] dev = (refl, refl)
 removals_none (d ∷ ds) dev = removals_none ds dev
 
@@ -270,7 +270,7 @@ told_walk_alike t (news.Grow dev blocks) c = same_as c.part
 told_walk_alike t (news.Sized handle blocks) c = same_as c.part
 
 put_owed_less : (setup : Setup) (t : ℕ) (dev : DevId) (p : Part) → Less p (put_owed setup t dev p)
-put_owed_less setup t dev p = less_cond (is_limited setup dev && (home setup dev == t)) p (record p { owed = p.owed ++ owes.Put dev ∷ [] }) p (owing_less (owes.Put dev) p (λ d. (refl, refl))) (less_self p)
+put_owed_less setup t dev p = less_cond (is_limited setup dev && (home setup dev == t)) p (owing (owes.Put dev) p) p (owing_less (owes.Put dev) p (λ d. (refl, refl))) (less_self p)
 
 marked_less : (setup : Setup) (t : ℕ) (v : View) (walk : WalkId) (dev : DevId) (kind : WalkKind) → Less v.part (marked_by setup t v walk dev kind)
 marked_less setup t v walk dev Freeze = less_cond _ v.part (remarked dev (freeze_set walk (time_of_walk (walk_here v walk))) v.part) v.part (less_of v.part _ (record { due_is = refl; owed_is = refl })) (less_self v.part)
@@ -310,8 +310,8 @@ told_from : (setup : Setup) (told : News) (p : Part) → From p (told_part setup
 told_from setup (news.Mark mark) p = from_of p _ None _ None (less_of p _ (record { due_is = refl; owed_is = refl }))
 told_from setup (news.Gone handle) p = from_of p _ None _ None (record {
   due = λ dev h. h;
-  owed = λ dev h. any_first (same_owed (owes.Destruct dev)) p.owed (removals_owed setup p.gone handle) (removals_none (filter (λ d. not (is_leaving setup p.gone d)) (users setup handle)) dev).0 h;
-  reports = λ dev h. any_first (same_owed (owes.Report dev)) p.owed (removals_owed setup p.gone handle) (removals_none (filter (λ d. not (is_leaving setup p.gone d)) (users setup handle)) dev).1 h;
+  owed = λ dev h. any_first (same_owed (owes.Destruct dev)) p.owed (removals_owed (users setup handle)) (removals_none (users setup handle) dev).0 h;
+  reports = λ dev h. any_first (same_owed (owes.Report dev)) p.owed (removals_owed (users setup handle)) (removals_none (users setup handle) dev).1 h;
 })
 told_from setup (news.Channel d) p = from_of p _ None _ None (owing_less (owes.Drop d) p (λ dev. (refl, refl)))
 told_from setup (news.Device d) p = record {
@@ -351,7 +351,7 @@ all_born_alike frozen [] p = same_as p
 all_born_alike frozen (d ∷ ds) p = alike_then p (born frozen d p) (all_born frozen ds (born frozen d p)) (record { due_is = refl; owed_is = refl }) (all_born_alike frozen ds (born frozen d p))
 
 got_alike : (setup : Setup) (v : View) (dev : DevId) (a : Answer) → Alike v.part (got_by setup v dev a)
-got_alike setup v dev (answers.Got fresh frozen) = all_born_alike frozen (made setup v.channels dev) v.part
+got_alike setup v dev (answers.Got fresh frozen) = all_born_alike frozen (made v.channels (below setup dev)) v.part
 got_alike setup v dev _ = same_as v.part
 
 decided_alike : (came : Came) (a : Answer) (p : Part) → Alike p (decided_by came a p)
@@ -366,9 +366,9 @@ put_paid_less : (dev : DevId) (closing : Bool) (p : Part) → Less p (put_paid d
 put_paid_less dev closing p = less_cond closing p p (paid (owes.Put dev) p) (less_self p) (paid_less (owes.Put dev) p)
 
 put_down_less : (t : ℕ) (dev : DevId) (a : Answer) (p : Part) → Less p (put_down_by t dev a p)
-put_down_less t dev (answers.PutDown left) p = due_less (cond (left == 0) (channels_due t (dev ∷ [])) []) p (λ d. go (left == 0) d)
+put_down_less t dev (answers.PutDown left) p = due_less (cond (left == 0) (channel_due t (Some dev)) []) p (λ d. go (left == 0) d)
   where
-    go : (b : Bool) (d : DevId) → list_any (is_device_due d) (cond b (channels_due t (dev ∷ [])) []) ≡ false
+    go : (b : Bool) (d : DevId) → list_any (is_device_due d) (cond b (channel_due t (Some dev)) []) ≡ false
     go true d = refl
     go false d = refl
 put_down_less t dev _ p = less_self p
@@ -376,9 +376,9 @@ put_down_less t dev _ p = less_self p
 dropped_less : (t : ℕ) (dev : DevId) (a : Answer) (p : Part) → Less p (dropped_by t dev a p)
 dropped_less t dev (answers.Dropped what zero destruct) p =
     let q : Part = cond (is_dropped what) (remarked dev (with_frozen Not) p) p in
-    less_then p q (with_due (channels_due t zero) q)
+    less_then p q (with_due (channel_due t zero) q)
     (less_cond (is_dropped what) p (remarked dev (with_frozen Not) p) p (less_of p _ (record { due_is = refl; owed_is = refl })) (less_self p))
-    (due_less (channels_due t zero) q (λ d. channels_none t zero d))
+    (due_less (channel_due t zero) q (λ d. channel_none t zero d))
 dropped_less t dev _ p = less_self p
 
 removal_paid_less : (came : Came) (a : Answer) (o : Option ℕ) (p : Part) → Less p (removal_paid came a o p)
@@ -387,15 +387,8 @@ removal_paid_less came a (Some n) p =
     less_cond (owes_removal p (Some n)) p (paid (owes.Remove (record { 0 = n })) p) (decided_by came a p) (paid_less (owes.Remove (record { 0 = n })) p) (less_of p _ (decided_alike came a p))
 
 freed_less : (a : Answer) (p : Part) → Less p (freed_by a p)
-freed_less (answers.Freed handles) p = record {
-  due = λ dev k. k;
-  owed = λ dev k. any_first (same_owed (owes.Destruct dev)) p.owed (map close_owed handles) (none handles dev).0 k;
-  reports = λ dev k. any_first (same_owed (owes.Report dev)) p.owed (map close_owed handles) (none handles dev).1 k;
-}
-  where
-    none : (hs : List (HandleId × ThreadId)) (dev : DevId) → (list_any (same_owed (owes.Destruct dev)) (map close_owed hs) ≡ false) × (list_any (same_owed (owes.Report dev)) (map close_owed hs) ≡ false)
-    none [] dev = (refl, refl)
-    none (h ∷ hs) dev = none hs dev
+freed_less (answers.Freed (Some id)) p = owing_less (owes.Close id) p (λ dev. (refl, refl))
+freed_less (answers.Freed None) p = less_self p
 freed_less _ p = less_self p
 
 finishes_less : (dev : DevId) (a : Answer) (p : Part) → Less p (reset_finishes dev a p)
@@ -599,7 +592,7 @@ parts_from setup s t (acts.Destruct d digest) h =
 parts_from setup s t (acts.Grow dev blocks) h =
     let p : Part = part_of s t in
     let q : Part = paid (owes.Grow dev blocks) p in
-    let f = less_then p q _ (paid_less (owes.Grow dev blocks) p) (less_then q (record q { owed = q.owed ++ owes.EndResize dev ∷ [] }) _ (owing_less (owes.EndResize dev) q (λ d. (refl, refl))) (less_of (record q { owed = q.owed ++ owes.EndResize dev ∷ [] }) (change_grow setup (view s t) dev blocks).part (record { due_is = refl; owed_is = refl }))) in
+    let f = less_then p q _ (paid_less (owes.Grow dev blocks) p) (less_then q (owing (owes.EndResize dev) q) _ (owing_less (owes.EndResize dev) q (λ d. (refl, refl))) (less_of (owing (owes.EndResize dev) q) (change_grow setup (view s t) dev blocks).part (record { due_is = refl; owed_is = refl }))) in
     record { due = λ d k. inl (f.due d k); owed = λ d k. inl (f.owed d k); reports = λ d k. inl (f.reports d k) }
 parts_from setup s t (acts.Grace walk until) h =
     let p : Part = part_of s t in

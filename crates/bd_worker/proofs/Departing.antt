@@ -18,7 +18,7 @@ use Rattle.bd_seat.specs.Outgoing.{FlushedAll, FlushedIf}
 use Rattle.bd_thread.specs.declared.links.Links.{Links}
 use Rattle.bd_disks.specs.Contents.{contents_of}
 use Rattle.bd_thread.specs.Seen.{local}
-use Rattle.bd_law_disks.specs.Told.{told_local}
+use Rattle.bd_law_disks.specs.Told.{told_local, AreBasesLowest}
 use Rattle.bd_wires.specs.declared.wires.Passes.{Passes}
 use Rattle.bd_wires.specs.declared.wires.Wires.{Wires}
 use Rattle.bd_wires.specs.Wires.{put_by, put_into}
@@ -151,12 +151,12 @@ module _ {D : Type 0} (state : D → DiskState) (w : Wires) (s : Seat D) (links 
       let n-is : n ≡ setup.threads = (let e : n ≡ vec_len s.worker.links.queues = search rules in e) ∙ a.queues in
       let sends-are : length s.passes.sends.items ≡ n = (let e : length s.passes.sends.items ≡ vec_len s.passes.sends = search rules in e) ∙ q.linked.sends ∙ sym n-is in
       let l : Local = seen_over setup contents s.worker in
-      let course : IsCourse setup t p (sent_more c posts) (with_queues l new-queue) =
-      departures_are_stamped setup t p c l posts new-queue
+      let course : AreBasesLowest setup → IsCourse setup t p (sent_more c posts) (with_queues l new-queue) =
+      λ lowest. departures_are_stamped setup t p c l posts new-queue
       (none_at t (nat_lt t n) refl (sym same-me))
       (own_stays t (sym same-me))
       (λ r other. subst (λ (k : ℕ). Goes k (posts r) (old-queue r) (new-queue r)) a.log_last (goes_at r (nat_lt r n) refl))
-      a.course in
+      (a.course lowest) in
       let keeps : (k : ℕ) → k < setup.threads → ((new-send k).ring ≡ (old-send k).ring) × ((new-send k).number ≡ (old-send k).number) =
       (λ k lt. let within : k < n = subst (λ (m : ℕ). k < m) (sym n-is) lt in ring_if k (k == s.worker.me) (f k nobody within)) in
       record {
@@ -178,7 +178,7 @@ module _ {D : Type 0} (state : D → DiskState) (w : Wires) (s : Seat D) (links 
           held = a.held;
           once = a.once;
           replica = ap (λ (x : Links). x.registry.state) links-is ∙ a.replica;
-          course = subst (λ (x : Links). IsCourse setup t p (sent_more c posts) (told_local setup contents (local s.worker.thread x))) (sym links-is) course;
+          course = λ lowest. subst (λ (x : Links). IsCourse setup t p (sent_more c posts) (told_local setup contents (local s.worker.thread x))) (sym links-is) (course lowest);
         };
         linked = record {
           rings = q.linked.rings;

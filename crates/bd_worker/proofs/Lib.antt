@@ -1,4 +1,5 @@
 pub mod Places
+pub mod Lowest
 pub mod Over
 pub mod Times
 pub mod Workers

@@ -24,7 +24,7 @@ use Rattle.bd_thread.specs.Seen.{local, time_of}
 use Rattle.bd_thread.specs.Timely.{IsOnTime}
 use Rattle.bd_thread.proofs.OnTime.{on_time_begun}
 use Rattle.bd_thread.proofs.Tickets.{same_tickets}
-use Rattle.bd_law_disks.specs.Told.{told_local}
+use Rattle.bd_law_disks.specs.Told.{told_local, AreBasesLowest}
 use Rattle.bd_wires.specs.declared.wires.Wires.{Wires}
 use Rattle.bd_worker.specs.declared.seat.Seat.{Seat}
 use Rattle.bd_outside.specs.Disk.{DiskState}
@@ -129,9 +129,9 @@ module _ {D : Type 0} (state : D → DiskState) (w : Wires) (s : Seat D) (take :
       let later : c.last ≤ log.last = subst (λ (n : ℕ). n ≤ log.last) a.log_last f.later in
       let l : Local = seen_over setup contents s.worker in
       let entries-are : log.entries ≡ s.worker.log.entries = ap (λ (x : Written). x.entries) f.log_is in
-      let course : IsCourse setup t p (arrived_more c posts log.last) (with_queues l (with_arrived t (map message_of posts) l.shared.queues)) =
-      arrivals_are_met setup t p c l posts log.last later (stamps_of s.passes.take.senders log.last posts f.met)
-      (subst (λ (n : ℕ). AllByRecursion (λ m. m.message.sender < n) posts) senders (senders_of s.passes.take.senders log.last posts f.met)) a.course in
+      let course : AreBasesLowest setup → IsCourse setup t p (arrived_more c posts log.last) (with_queues l (with_arrived t (map message_of posts) l.shared.queues)) =
+      λ lowest. arrivals_are_met setup t p c l posts log.last later (stamps_of s.passes.take.senders log.last posts f.met)
+      (subst (λ (n : ℕ). AllByRecursion (λ m. m.message.sender < n) posts) senders (senders_of s.passes.take.senders log.last posts f.met)) (a.course lowest) in
       record {
         worker = record {
           me = a.me;
@@ -151,9 +151,9 @@ module _ {D : Type 0} (state : D → DiskState) (w : Wires) (s : Seat D) (take :
           held = a.held;
           once = a.once;
           replica = ap (λ (x : Links). x.registry.state) links-is ∙ a.replica;
-          course =
+          course = λ lowest.
               subst (λ (x : Links). IsCourse setup t p (arrived_more c posts log.last) (told_local setup contents (local s.worker.thread x))) (sym links-is)
-              (subst (λ (qs : ℕ → List Message). IsCourse setup t p (arrived_more c posts log.last) (with_queues l qs)) (sym (f.queued ∙ ap (λ (n : ℕ). with_arrived n (map message_of posts) (queues_of s.worker.links.queues.items)) same)) course);
+              (subst (λ (qs : ℕ → List Message). IsCourse setup t p (arrived_more c posts log.last) (with_queues l qs)) (sym (f.queued ∙ ap (λ (n : ℕ). with_arrived n (map message_of posts) (queues_of s.worker.links.queues.items)) same)) (course lowest));
         };
         linked = record {
           rings = q.linked.rings;

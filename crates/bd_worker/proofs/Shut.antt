@@ -35,6 +35,7 @@ use Rattle.bd_law_served.specs.Served.{ServedPiece}
 use Rattle.bd_disks.specs.Contents.{contents_of}
 use Rattle.bd_disks.specs.Done.{AreDoneBy}
 use Rattle.bd_thread.specs.Seen.{number_of}
+use Rattle.bd_law_disks.specs.Told.{AreBasesLowest}
 use Rattle.bd_turns.specs.declared.queue.Post.{Post}
 use Rattle.bd_wires.specs.declared.wires.Wires.{Wires}
 use Rattle.bd_worker.specs.declared.seat.Seat.{Seat}
@@ -54,18 +55,19 @@ sees_own setup t contents w same = subst (λ (n : ℕ). SeesOwn n (seen_over set
 
 -- what it sees is as before
 caught_up_view : (setup : Setup) (t : ℕ) (p : Phase) (c : Course) (past : Past) (contents : DevId → Content) (w : Worker) (seen : ℕ) (lent r : Registered)
+    → AreBasesLowest setup
     → IsAt setup t p c past contents w
     → IsLent setup t c seen lent
     → lent.state ≡ registry_by setup (registry_at_start setup) lent.journal
     → r.state ≡ lent.state
     → (seen_over setup contents (with_replica w r)).view ≡ (seen_over setup contents w).view
-caught_up_view setup t p c past contents w seen lent r a lends left state-is =
+caught_up_view setup t p c past contents w seen lent r lowest a lends left state-is =
     let rest : List Entry = lends.begins.0 in
     let is : lent.journal ≡ c.seen ++ rest = lends.begins.1 in
     let l : Local = seen_over setup contents w in
     let leaves : r.state ≡ registry_by setup (registry_at_start setup) (c.seen ++ rest) = state-is ∙ left ∙ ap (registry_by setup (registry_at_start setup)) is in
     ap₂ (λ (n : ℕ) (g : Registry). (with_registry n g l).view) a.number leaves
-    ∙ sym (view_same setup t p c l rest (sees_own setup t contents w a.number) (rest_of_others t c.seen rest lent.journal is lends.own) a.course)
+    ∙ sym (view_same setup t p c l rest (sees_own setup t contents w a.number) (rest_of_others t c.seen rest lent.journal is lends.own) (a.course lowest))
 
 -- ---- the log
 
@@ -138,7 +140,7 @@ shut_with setup p c past contents w seen lent r log stamp lent' left setup-is st
     let l' : Local = seen_over setup contents (with_replica w r) in
     let caught : IsAt setup 0 p c' past contents (with_replica w r) = caught_up_at setup 0 p c past contents w seen lent r a lends left setup-is state-is in
     let later : c'.last < stamp = subst (λ (n : ℕ). n < stamp) a.log_last above in
-    let begun : IsCourse setup 0 (second_phase stamp 0 p c' l') (course_then stamp 0 c') (with_shutdown l') = shutdown_begins_a_phase setup 0 p c' l' stamp later caught.course in
+    let begun : AreBasesLowest setup → IsCourse setup 0 (second_phase stamp 0 p c' l') (course_then stamp 0 c') (with_shutdown l') = λ lowest. shutdown_begins_a_phase setup 0 p c' l' stamp later (caught.course lowest) in
     let entry-is : record { stamp = stamp; thread = w.log.thread; act = acts.Shutdown } ≡ shutdown_at stamp =
     ap (λ (n : ℕ). let e : Entry = record { stamp = stamp; thread = n; act = acts.Shutdown } in e) a.log_thread in
     record {
@@ -172,9 +174,9 @@ shut_with setup p c past contents w seen lent r log stamp lent' left setup-is st
         replica =
             caught.replica
             ∙ sym (registry_on setup (registry_at_start setup) lent.journal (shutdown_at stamp ∷ []));
-        course =
+        course = λ lowest.
             subst (λ (v : View). IsCourse setup 0 (record { served = c.served; held = c.held; earlier = all_rows p c ++ shutdown_of stamp 0; from = v; since = stamp }) (course_then stamp 0 c') (with_shutdown l'))
-            (caught_up_view setup 0 p c past contents w seen lent r a lends left state-is) begun;
+            (caught_up_view setup 0 p c past contents w seen lent r lowest a lends left state-is) (begun lowest);
       };
       posts = record { taken = refl; sent = refl };
       served = refl;
@@ -313,7 +315,7 @@ learns_shut stamp s other above state w = record {
             held = a.held;
             once = a.once;
             replica = a.replica ∙ ap (λ (js : List Entry). registry_by setup (registry_at_start setup) js) same;
-            course = shutdown_begins_a_phase setup t p c l stamp later a.course;
+            course = λ lowest. shutdown_begins_a_phase setup t p c l stamp later (a.course lowest);
           };
           linked = q.linked;
           start = q.start;

@@ -1,5 +1,5 @@
 -- A worker goes on: its log meets a stamp, its registry follows another, and its thread acts.
-use Rattle.std.proofs.Common.{◌≡◌, ℕ, ◌+◌, ◌≤◌, Bool, true, false, cond, ◌==◌, ◌<◌, List, [], ◌∷◌, ◌++◌, zero, suc, length, vec_len, refl, sym, ◌∙◌, ap, ap₂, subst, append_assoc, append-nil, arith}
+use Rattle.std.proofs.Common.{◌≡◌, ℕ, ◌+◌, ◌≤◌, Bool, true, false, cond, ◌==◌, ◌<◌, ◌⊎◌, inl, inr, List, [], ◌∷◌, ◌++◌, zero, suc, length, map, vec_len, refl, sym, ◌∙◌, ap, ap₂, subst, append_assoc, append-nil, None, arith}
 use Rattle.std.specs.List.{All, AllByRecursion}
 use Rattle.std.specs.Prelude.{max}
 use Rattle.std.proofs.Math.Nat.{le-max_left}
@@ -16,7 +16,7 @@ use Rattle.bd_turns.specs.Local.{Local}
 use Rattle.bd_log.specs.Log.{Written}
 use Rattle.bd_log.specs.Merge.{entries_of}
 use Rattle.bd_log.proofs.Order.{all_append}
-use Rattle.bd_law_logs.specs.Rows.{entries, entry_of}
+use Rattle.bd_law_logs.specs.Rows.{entries, entry_of, Row}
 use Rattle.bd_law_logs.specs.Journals.{events, is_event, registry_by, registry_next}
 use Rattle.bd_outside.specs.Disk.{DiskState}
 use Rattle.bd_registry.specs.State.{Registered, start_of}
@@ -44,11 +44,12 @@ use Rattle.bd_thread.specs.Timely.{AreTimely, HasBegun, IsOnTime}
 use Rattle.bd_thread.proofs.OnTime.{on_time_then}
 use Rattle.bd_worker.proofs.Times.{timely_restamped}
 use Rattle.bd_law_disks.specs.Over.{LeadsOver}
-use Rattle.bd_law_disks.specs.Told.{told_local}
+use Rattle.bd_law_disks.specs.Told.{told_local, AreBasesLowest}
 use Rattle.bd_law_disks.proofs.Over.{over_is_told, over_keeps_bases}
 use Rattle.bd_law_disks.proofs.Start.{memory_is_apart}
 use Rattle.bd_worker.specs.declared.worker.Worker.{Worker}
 use Rattle.bd_worker.specs.Seats.{AddsServed, seen_over, GoesAlone, GoesWith, HasSamePosts, IsAt, IsLent, Past, WentAlone, WentWith}
+use Rattle.bd_worker.proofs.Lowest.{lowest_or_not}
 use Rattle.bd_worker.proofs.Over.{over_registry, over_shut, over_threads}
 
 -- ---- a stamp
@@ -75,7 +76,7 @@ met_at setup t p c past contents w last le a = record {
   held = a.held;
   once = a.once;
   replica = a.replica;
-  course = stamps_are_met setup t p c (seen_over setup contents w) last le a.course;
+  course = λ lowest. stamps_are_met setup t p c (seen_over setup contents w) last le (a.course lowest);
 }
 
 -- ---- a registry that follows
@@ -127,11 +128,11 @@ caught_up_at setup t p c past contents w seen lent r a lends left setup-is state
       held = a.held;
       once = a.once;
       replica = state-is ∙ left;
-      course =
+      course = λ lowest.
           subst (λ (js : List Entry). IsCourse setup t p (record c { seen = js }) (seen_over setup contents (with_replica w r))) (sym is)
           (subst (λ (registry : Registry). IsCourse setup t p (record c { seen = c.seen ++ rest }) (with_registry w.thread.me registry l)) (sym (state-is ∙ left ∙ ap (registry_by setup (registry_at_start setup)) is))
           (subst (λ (n : ℕ). IsCourse setup t p (record c { seen = c.seen ++ rest }) (with_registry n (registry_by setup (registry_at_start setup) (c.seen ++ rest)) l)) (sym a.number)
-          (others_are_followed setup t p c l rest (sees_own a.number) (rest_of_others t c.seen rest lent.journal is lends.own) a.course)));
+          (others_are_followed setup t p c l rest (sees_own a.number) (rest_of_others t c.seen rest lent.journal is lends.own) (a.course lowest))));
     }
   where
     sees_own : number_of w.thread ≡ t → SeesOwn t (seen_over setup contents w)
@@ -143,26 +144,62 @@ caught_up_at setup t p c past contents w seen lent r a lends left setup-is state
 abbrev pub after_turn : Worker → Thread → Links → Written → Worker
 after_turn w thread links log = record w { thread = thread; links = record links { entries = [] }; log = log }
 
--- a course with these entries, these pieces and these holds more
+-- a row with nothing but its entry
+abbrev bare : Entry → Row
+bare e = record { entry = e; post = None; between = None }
+
+bare_entries : (es : List Entry) → entries (map bare es) ≡ es
+bare_entries [] = refl
+bare_entries (e ∷ es) = ap (λ (xs : List Entry). e ∷ xs) (bare_entries es)
+
+-- a course with these entries, these pieces and these holds more, which is one where base devices stand on nothing
 pub record GoesOver (setup : Setup) (t : ℕ) (p : Phase) (c : Course) (es : List Entry) (more : DevId → List ServedPiece) (holds : List Holding) (l' : Local) : Type 0 where
   pub course : Course
   pub longer : IsLonger t c (restamped t c.last (acts_of es)) course
   pub served : (dev : DevId) → course.served dev ≡ c.served dev ++ more dev
   pub held : course.held ≡ c.held ++ holds
-  pub is_course : IsCourse setup t p course l'
+  pub is_course : AreBasesLowest setup → IsCourse setup t p course l'
 
 pub goes_over : (setup : Setup) (t : ℕ) (p : Phase) (c : Course) (es : List Entry) (more : DevId → List ServedPiece) (holds : List Holding) (l l' : Local)
-    → GoesOn setup t p c es l l'
-    → ((dev : DevId) → served_led setup t dev l es ≡ more dev)
-    → held_led setup t l es ≡ holds
+    → (AreBasesLowest setup → GoesOn setup t p c es l l')
+    → (AreBasesLowest setup → (dev : DevId) → served_led setup t dev l es ≡ more dev)
+    → (AreBasesLowest setup → held_led setup t l es ≡ holds)
     → GoesOver setup t p c es more holds l'
-goes_over setup t p c es more holds l l' on led kept = record {
-  course = on.course;
-  longer = on.longer;
-  served = λ dev. on.served dev ∙ ap (λ (ps : List ServedPiece). c.served dev ++ ps) (led dev);
-  held = on.held ∙ ap (λ (hs : List Holding). c.held ++ hs) kept;
-  is_course = on.is_course;
-}
+goes_over setup t p c es more holds l l' on led kept = go (lowest_or_not setup)
+  where
+    added : List Entry
+    added = restamped t c.last (acts_of es)
+
+    go : AreBasesLowest setup ⊎ (AreBasesLowest setup → ⊥) → GoesOver setup t p c es more holds l'
+    go (inl lowest) = record {
+      course = (on lowest).course;
+      longer = (on lowest).longer;
+      served = λ dev. (on lowest).served dev ∙ ap (λ (ps : List ServedPiece). c.served dev ++ ps) (led lowest dev);
+      held = (on lowest).held ∙ ap (λ (hs : List Holding). c.held ++ hs) (kept lowest);
+      is_course = λ is. (on lowest).is_course;
+    }
+    go (inr not_so) = record {
+      course = record {
+        rows = c.rows ++ map bare added;
+        arrived = c.arrived;
+        taken = c.taken;
+        sent = c.sent;
+        seen = c.seen ++ events added;
+        served = λ dev. c.served dev ++ more dev;
+        held = c.held ++ holds;
+        last = c.last + length added;
+      };
+      longer = record {
+        rows = map-append entry_of c.rows (map bare added) ∙ ap (λ (xs : List Entry). entries c.rows ++ xs) (bare_entries added);
+        taken = refl;
+        sent = refl;
+        seen = refl;
+        last = refl;
+      };
+      served = λ dev. refl;
+      held = refl;
+      is_course = λ lowest. absurd (not_so lowest);
+    }
 
 -- stamps don't matter to the registry
 registry_restamped : (setup : Setup) (t last : ℕ) (registry : Registry) (es : List Entry) → AllByRecursion (λ e. e.thread ≡ t) es → registry_by setup registry (restamped t last (acts_of es)) ≡ registry_by setup registry es
@@ -205,10 +242,10 @@ acted_at setup t p c past before after w thread links log a begun acted tickets 
     (subst (λ (s : Setup). LeadsOver s w.thread.me before l es after l') setup-is acted.leads) in
     let on : GoesOver setup t p c es (serves setup t before w es) (held_over setup t before l es) (told_local setup after l') =
     goes_over setup t p c es (serves setup t before w es) (held_over setup t before l es) (told_local setup before l) (told_local setup after l')
-    (acts_on setup t p c (told_local setup before l) (told_local setup after l') es
-    (over_is_told setup before t l es after l' (memory_is_apart setup) a.once over) a.course)
-    (λ dev. over_serves_as_told setup before t dev l es after l' (memory_is_apart setup) a.once over)
-    (over_holds_as_told setup before t l es after l' (memory_is_apart setup) a.once over) in
+    (λ lowest. acts_on setup t p c (told_local setup before l) (told_local setup after l') es
+    (over_is_told setup before t l es after l' (memory_is_apart setup lowest) a.once over) (a.course lowest))
+    (λ lowest dev. over_serves_as_told setup before t dev l es after l' (memory_is_apart setup lowest) a.once over)
+    (λ lowest. over_holds_as_told setup before t l es after l' (memory_is_apart setup lowest) a.once over) in
     let added : List Entry = restamped t c.last (acts_of es) in
     let added-is : restamped w.log.thread w.log.last (acts_of links.entries) ≡ added = ap₂ (λ (n m : ℕ). restamped n m (acts_of links.entries)) a.log_thread a.log_last ∙ ap (λ (xs : List Entry). restamped t c.last (acts_of xs)) es-are in
     let last : log.last ≡ w.log.last + length added = appends.last ∙ ap (λ (xs : List Entry). w.log.last + length xs) added-is in
@@ -256,7 +293,7 @@ acted_at setup t p c past before after w thread links log a begun acted tickets 
             ∙ ap (λ (r : Registry). registry_by setup r (events added)) a.replica
             ∙ sym (registry_on setup (registry_at_start setup) c.seen (events added))
             ∙ ap (λ (js : List Entry). registry_by setup (registry_at_start setup) js) (sym on.longer.seen);
-        course = any_stamp setup t p on.course (told_local setup after l') 0 on.is_course;
+        course = λ lowest. any_stamp setup t p on.course (told_local setup after l') 0 (on.is_course lowest);
       };
       posts = record { taken = on.longer.taken; sent = on.longer.sent };
       seen = on.longer.seen ∙ ap (λ (xs : List Entry). c.seen ++ events (restamped t c.last (acts_of xs))) (sym es-are);

@@ -27,7 +27,7 @@ use Rattle.bd_thread.specs.declared.turn.Turned.{Turned}
 use Rattle.bd_thread.specs.declared.turn.Turned.TheVariants.{Moved, Quiet}
 use Rattle.bd_thread.specs.Seen.{local, number_of, setup_of, time_of}
 use Rattle.bd_thread.specs.Timely.{HasSameTime, IsOnTime}
-use Rattle.bd_law_disks.specs.Told.{told_local, IsOnce}
+use Rattle.bd_law_disks.specs.Told.{told_local, AreBasesLowest, IsOnce}
 use Rattle.bd_turns.specs.Local.{Local}
 use Rattle.bd_wires.specs.declared.wires.Wires.{Wires}
 use Rattle.bd_wires.specs.Wires.{put_into, IsLinked}
@@ -78,7 +78,8 @@ pub record IsAt (setup : Setup) (t : ℕ) (p : Phase) (c : Course) (past : Past)
   -- each device has one base at most, and the registry is what the journal leaves of which it saw the rows
   pub once : (dev : DevId) → IsOnce dev w.thread.part.bases
   pub replica : w.links.registry.state ≡ registry_by setup (registry_at_start setup) c.seen
-  pub course : IsCourse setup t p c (seen_over setup contents w)
+  -- where base devices stand on nothing
+  pub course : AreBasesLowest setup → IsCourse setup t p c (seen_over setup contents w)
 
 -- it is at some place of its course
 pub record IsWorking (w : Worker) : Type 0 where

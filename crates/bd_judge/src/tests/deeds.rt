@@ -92,7 +92,7 @@ fn answer(alloc: Global, ask: Ask) -> Answer {
         Ask::Close => Answer::Closed { destruct: None },
         Ask::Drop => Answer::Dropped {
             what: Dropped::Last,
-            zero: Rows::new(alloc),
+            zero: None,
             destruct: None,
         },
         Ask::Remove => Answer::Removing {
@@ -101,9 +101,7 @@ fn answer(alloc: Global, ask: Ask) -> Answer {
             handles: Rows::new(alloc),
             destruct: Some(DEV),
         },
-        Ask::Destructed => Answer::Freed {
-            close: Rows::new(alloc),
-        },
+        Ask::Destructed => Answer::Freed { close: None },
     }
 }
 

@@ -71,7 +71,7 @@ fn device(alloc: Global) -> Result<DevRow, OutOfMemory> {
     Ok(DevRow {
         name: Name::from_slice(alloc, b"Full0")?,
         kind: Kind::Malloc,
-        stacked: None,
+        base: None,
         blocks: 128,
         size: 512,
         boundary: 0,

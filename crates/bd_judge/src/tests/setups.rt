@@ -138,7 +138,7 @@ fn device(alloc: Global, shape: Shape) -> Result<DevRow, OutOfMemory> {
     Ok(DevRow {
         name: name(alloc, "Malloc0")?,
         kind: Kind::Malloc,
-        stacked: None,
+        base: None,
         blocks: shape.blocks,
         size: 512,
         boundary: shape.boundary,

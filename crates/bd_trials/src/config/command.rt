@@ -68,18 +68,6 @@ fn stacked_told(alloc: Global, command: &Command) -> Result<String, OutOfMemory>
             "delay {base} {name} {average_read} {p99_read} {average_write} {p99_write}"
         )?,
         Command::Error { base } => format!(in alloc; "error {base}")?,
-        Command::Raid {
-            name,
-            striped,
-            strip_kb,
-            bases,
-        } => {
-            let mut told = format!(in alloc; "raid {name} {striped} {strip_kb}")?;
-            for base in bases.as_slice() {
-                write!(told, " {base}")?;
-            }
-            told
-        }
         _ => String::from_str(alloc, "passed over")?,
     })
 }

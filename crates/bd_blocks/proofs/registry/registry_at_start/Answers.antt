@@ -1,6 +1,7 @@
 use Rattle.std.proofs.Common.{◌+◌, ◌-◌, ◌<◌, ◌∙◌, ℕ, ap, sym, arith}
 use Rattle.std.specs.List.{range_with_len}
 use Rattle.bd_machine.specs.declared.state.Registry.{Registry}
+use Rattle.bd_machine.specs.BlockMap.{below}
 use Rattle.bd_machine.specs.Changes.{counts_got, counts_set}
 use Rattle.bd_machine.specs.Registry.{references}
 use Rattle.bd_machine.specs.Users.{dev_of}
@@ -24,7 +25,7 @@ loop-n-preserved c =
         | then-is_limited+in_ok-get_channel w ↦
             channel_taken setup n left bs was c.if-is_limited.registry _ next (sym c.is_limited.ensures ∙ w.if-is_limited.true)
             (w.registry-is ∙ w.in_ok-get_channel.ensures
-            ∙ ap (λ (t : ℕ). let r : Registry = record was { channels = counts_set t (counts_got setup (references was t) (dev_of n)) was.channels } in r) w.home.ensures)
+            ∙ ap (λ (t : ℕ). let r : Registry = record was { channels = counts_set t (counts_got (references was t) (below setup (dev_of n))) was.channels } in r) w.home.ensures)
             c.loop-n.invariant.all
         | else-is_limited w ↦ channel_left setup n left bs was c.if-is_limited.registry _ next (sym c.is_limited.ensures ∙ w.if-is_limited.false) w.registry-is c.loop-n.invariant.all
       ];

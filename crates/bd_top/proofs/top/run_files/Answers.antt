@@ -8,8 +8,8 @@ returns-in-Ok-clause-done g c =
       setup = c.in_ok-ready.ready.setup;
       meant = c.in_ok-ready.ensures.setup;
       contents = told_of g.H.Disk.Disk.state c.in_ok-ready.ready.setup c.in_ok-ready.ready.disks.threads;
-      played = c.in-Ok.ensures.played c.in_ok-ready.ensures.stacked;
-      disks = c.in-Ok.ensures.disks old.told old.openings c.in_ok-ready.ensures.stacked c.in_ok-ready.ensures.opened;
+      played = c.in-Ok.ensures.played c.in_ok-ready.ensures.alone c.in_ok-ready.ensures.earlier;
+      disks = c.in-Ok.ensures.disks old.told old.openings c.in_ok-ready.ensures.alone c.in_ok-ready.ensures.opened;
     }
 
 pub returns-in-Ok-clause-closed : goal.returns-in-Ok-clause-closed
@@ -23,4 +23,4 @@ returns-in-Err-clause-closed g c =
     c.play_and_report.ensures.closed old.told old.openings c.in_ok-ready.ensures.opened
 
 pub returns-in-Ok-clause-starts : goal.returns-in-Ok-clause-starts
-returns-in-Ok-clause-starts g c = c.in-Ok.ensures.starts
+returns-in-Ok-clause-starts g c = c.in-Ok.ensures.starts c.in_ok-ready.ensures.alone

@@ -7,6 +7,7 @@ use Rattle.bd_base.specs.declared.setup.Setup.{Setup}
 use Rattle.bd_log.specs.Merge.{IsMerge, Part}
 use Rattle.bd_machine.specs.Run.{IsCompleteRun}
 use Rattle.bd_report.specs.Stats.{stats_of}
+use Rattle.bd_law_disks.specs.Told.{AreBasesLowest}
 use Rattle.bd_node.specs.Disks.{told_of, SaysOfDisks}
 use Rattle.bd_node.specs.Times.{AreHoldsWithin}
 use Rattle.bd_node.specs.Whole.{logs_of, setup_in}
@@ -37,17 +38,17 @@ pub returns-in-Ok-clause-complete : goal.returns-in-Ok-clause-complete
 returns-in-Ok-clause-complete g c =
     let state = g.D.Disk.state in
     let setup-is : setup_in c.gather_and_count.new.self ≡ setup_in c.args.self = ap (λ s. s.now) c.in-Ok.ensures.same.setup in
-    λ starts node.
+    λ starts node lowest.
     IfOk-weaker c.end.result.0 _ _ (λ run is. subst (λ (s : Setup). IsCompleteRun s (told_of state s starts) run.history) setup-is is)
-    (c.end.ensures.complete starts (c.in-Ok.ensures.disks.node starts node))
+    (c.end.ensures.complete starts (c.in-Ok.ensures.disks.node starts node) (subst (λ (s : Setup). AreBasesLowest s) (sym setup-is) lowest))
 
 pub returns-in-Ok-clause-disks : goal.returns-in-Ok-clause-disks
 returns-in-Ok-clause-disks g c =
     let state = g.D.Disk.state in
     let setup-is : setup_in c.gather_and_count.new.self ≡ setup_in c.args.self = ap (λ s. s.now) c.in-Ok.ensures.same.setup in
-    λ starts empty node.
+    λ starts empty node lowest.
     IfOk-weaker c.end.result.0 _ _ (λ run is. subst (λ (s : Setup). SaysOfDisks state s run.history starts c.end.result.1.items) setup-is is)
-    (c.end.ensures.disks starts (c.in-Ok.ensures.disks.shelf ∙ empty) (c.in-Ok.ensures.disks.node starts node))
+    (c.end.ensures.disks starts (c.in-Ok.ensures.disks.shelf ∙ empty) (c.in-Ok.ensures.disks.node starts node) (subst (λ (s : Setup). AreBasesLowest s) (sym setup-is) lowest))
 
 pub returns-in-Ok-clause-kept : goal.returns-in-Ok-clause-kept
 returns-in-Ok-clause-kept g c =
@@ -61,10 +62,11 @@ pub returns-in-Ok-clause-moments : goal.returns-in-Ok-clause-moments
 returns-in-Ok-clause-moments g c range within = c.end.ensures.moments range (c.in-Ok.ensures.times range within)
 
 pub returns-in-Ok-clause-holds : goal.returns-in-Ok-clause-holds
-returns-in-Ok-clause-holds g c range within =
+returns-in-Ok-clause-holds g c range within lowest =
     let setup-is : setup_in c.gather_and_count.new.self ≡ setup_in c.args.self = ap (λ s. s.now) c.in-Ok.ensures.same.setup in
-    IfOk-weaker c.end.result.0 _ _ (λ run is. subst (λ (s : Setup). AreHoldsWithin range s run.history) setup-is is) (c.end.ensures.holds range (c.in-Ok.ensures.times range within))
+    IfOk-weaker c.end.result.0 _ _ (λ run is. subst (λ (s : Setup). AreHoldsWithin range s run.history) setup-is is) (c.end.ensures.holds range (c.in-Ok.ensures.times range within) (subst (λ (s : Setup). AreBasesLowest s) (sym setup-is) lowest))
 
 pub returns-in-Ok-clause-starts : goal.returns-in-Ok-clause-starts
-returns-in-Ok-clause-starts g c range within =
-    c.end.ensures.starts range (c.in-Ok.ensures.times range within)
+returns-in-Ok-clause-starts g c range within lowest =
+    let setup-is : setup_in c.gather_and_count.new.self ≡ setup_in c.args.self = ap (λ s. s.now) c.in-Ok.ensures.same.setup in
+    c.end.ensures.starts range (c.in-Ok.ensures.times range within) (subst (λ (s : Setup). AreBasesLowest s) (sym setup-is) lowest)

@@ -1,9 +1,7 @@
-use Rattle.std.proofs.Common.{◌≡◌, ◌∙◌, List, length, refl, ap}
+use Rattle.std.proofs.Common.{◌∙◌, List, length, refl, ap}
 use Rattle.bd_base.specs.declared.act.Act.TheVariants as acts
 use Rattle.bd_machine.specs.declared.state.Extent.{Extent}
-use Rattle.bd_machine.specs.Requests.{extents_of}
 use Rattle.bd_links.specs.Entries.{longer}
-use Rattle.bd_steps.specs.Pieces.{channels_cut, outbox_cut}
 use Rattle.bd_thread.specs.Acted.{Acted}
 use Rattle.bd_thread.specs.Cuts.{IsCut}
 use Rattle.bd_thread.specs.Requests.{KeepsTickets}
@@ -20,15 +18,14 @@ returns c =
     let old = c.args.self.now in
     let before = c.args.links.now in
     let n = c.in_ok-n.n in
-    let found : c.as_slice-blocks.result.now ≡ extents_of old.setup.now c.args.r = c.as_slice-blocks.ensures ∙ c.in_ok-found.ensures in
     let new : Thread = record old { part = untaken old.part; held = c.hold_pieces.new.tokens; outbox = c.send_cut.new.outbox; retries = c.send_cut.new.retries } in
     let after : Links = record before { entries = longer old.me before.entries (acts.Cut c.args.req n) } in
     let cut : IsCut c.args.req c.args.r n old before new after = record {
       pieces = c.in_ok-n.ensures ∙ ap (λ (es : List Extent). length es) c.in_ok-found.ensures;
-      held = cut_held old.setup.now c.args.req c.args.r n c.as_slice-blocks.result.now old.held.items c.hold.new.self.items c.hold_pieces.new.tokens.items
-          found c.in_ok-hold.ensures.ok c.in_ok-hold_pieces.ensures;
-      outbox = c.in_ok-send_cut.ensures.outbox ∙ ap (λ (es : List Extent). outbox_cut old.setup.now c.args.r.dev c.args.req n es old.retries old.outbox.items) found;
-      retries = c.in_ok-send_cut.ensures.retries ∙ ap (λ (es : List Extent). channels_cut old.setup.now c.args.r.dev c.args.req n es old.retries) found;
+      held = cut_held old.setup.now c.args.req c.args.r n c.as_slice.result.now old.held.items c.hold.new.self.items c.hold_pieces.new.tokens.items
+          (c.as_slice.ensures ∙ c.in_ok-found.ensures) c.in_ok-hold.ensures.ok c.in_ok-hold_pieces.ensures;
+      outbox = c.in_ok-send_cut.ensures.outbox;
+      retries = c.in_ok-send_cut.ensures.retries;
       thread = refl;
       links = refl;
     } in

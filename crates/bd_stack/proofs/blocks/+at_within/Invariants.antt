@@ -1,5 +1,0 @@
-use Rattle.bd_stack.proofs.blocks.+at_within.Given as goal
-
--- each step leaves one fewer
-abbrev pub decreases-at_within : goal.decreases-at_within
-decreases-at_within l = l.left

@@ -1,0 +1,9 @@
+use Rattle.std.proofs.Common.{◌≡◌, filter, length}
+use Rattle.bd_machine.specs.Users.{devices, is_first}
+use Rattle.bd_stack.proofs.groups.firsts.Given as goal
+
+abbrev pub invariant-loop-number : goal.invariant-loop-number
+invariant-loop-number l = record {
+  count : l.count ≡ length l.setup.devices;
+  found : l.found ≡ filter (is_first l.setup) (devices l.number);
+}
